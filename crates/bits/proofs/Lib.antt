@@ -1,0 +1,5 @@
+pub mod Finite
+pub mod Weight
+pub mod Distrib
+pub mod Bitwise
+pub mod Mask

@@ -1,0 +1,37 @@
+// Bytes, their bits, and a write under a mask.
+ghost use mathlib.Core.Path.{_≡_};
+ghost use Prim.Native.Nat.{_%_};
+ghost use Rattle.bits.specs.Byte.{bit as bitOf, merge as mergeOf, withBit, num as numOf};
+
+// The bits of `mask` from `new`, the others from `old`.
+// Wrong answers: old and new exchanged; a written 0 that leaves the old 1.
+pub fn merge(mask: u8, old: u8, new: u8) -> u8
+    ensures { λ r. ⌜ r ≡ mergeOf mask old new ⌝ }
+{
+    (old & !mask) | (new & mask)
+}
+
+// Bit k of x, for k counted modulo 8.
+// Wrong answers: bit k + 1; true where any bit from k up is 1.
+pub fn bit(k: u8, x: u8) -> bool
+    ensures { λ r. ⌜ r ≡ bitOf (k % 8) x ⌝ }
+{
+    (x >> (k % 8)) % 2 == 1
+}
+
+// The byte x with bit k, counted modulo 8, put to v.
+// Wrong answers: the bit inverted; the other bits cleared.
+pub fn with_bit(x: u8, k: u8, v: bool) -> u8
+    ensures { λ r. ⌜ r ≡ withBit x k v ⌝ }
+{
+    let weight = 1 << (k % 8);
+    if v { x | weight } else { x & !weight }
+}
+
+// A level as a number.
+// Wrong answers: 1 for false; 255 for true.
+pub fn num(v: bool) -> u8
+    ensures { λ r. ⌜ r ≡ numOf v ⌝ }
+{
+    if v { 1 } else { 0 }
+}

@@ -1,0 +1,21 @@
+-- `bus::sda_pulled` meets its contract.
+-- Assumes nothing.
+use Rattle.bus.specs.Lines.{sdaPulled}
+use Rattle.bus.specs.Lines.{mode}
+use borrow.Author.Needs.{needs}
+use Rattle.bus.proofs.sda_pulled.Statement.{statement}
+use Rattle.bus.proofs.sda_pulled.Tie as tie
+
+pub sda-pulled-spec : {M : Type 1} → statement M
+unfolding mode sdaPulled
+sda-pulled-spec =
+    tie.close
+    (tie.spec
+    (λ c. search needs)
+    (λ c. search needs)
+    (λ c κs. search needs)
+    (λ c. search needs)
+    (λ c κs. search needs)
+    (λ c. simp (c .enum-told .given .1))
+    (λ c. simp (c .bit .ensures, c .before .enum-told2 .given .1))
+    (λ c. simp (c .pulls-sda .ensures, c .before .enum-told3 .given .1)))

@@ -1,0 +1,3 @@
+pub mod Lines
+pub mod Ddc1
+pub mod Ddc2b

@@ -1,0 +1,462 @@
+// The bus: modes, edges, the phases of a DDC2B transfer and the shift register of DDC1.
+ghost use mathlib.Core.Path.{_≡_};
+ghost use Rattle.bus.specs.Lines.{edge, mode, modeNumber, changesMode, line, pullsAtBit, pullsSda, pullsScl, sdaPulled, sclPulled};
+ghost use Rattle.bus.specs.Ddc1.{loadsAtRise, shifterAtRise};
+ghost use Rattle.bus.specs.Ddc2b.{matches as matchesOf, gathered as gatheredBits, addressed as addressedOf, phaseAtRise, dataAtRise, matchesAtRise, statusAtRise, holdsAtFall, acknowledges as acknowledgesOf, phaseAtFall, phaseLetGo};
+
+// DDC off, or on in one of its two modes.
+pub enum Mode {
+    Off,
+    Ddc1,
+    Ddc2b,
+}
+
+// What a change of level is.
+pub enum Edge {
+    Flat,
+    Rise,
+    Fall,
+}
+
+// The phase of the bus (document 01, "The forms we expect"). `acknowledged`: the eighth fall has pulled SDA. A transmit
+// counts the bits put out, 1 to 8; at 9 the acknowledge is awaited and at 10 it has been taken.
+pub enum Phase {
+    Idle,
+    Address {
+        count: u8,
+        bits: u8,
+        acknowledged: bool,
+    },
+    Ignoring,
+    Receive {
+        count: u8,
+        bits: u8,
+        acknowledged: bool,
+    },
+    Transmit {
+        count: u8,
+        byte: u8,
+    },
+    Held,
+}
+
+// The shift register of DDC1, and the rises of VSYNCI left before the next load.
+pub struct Shifter {
+    pub register: u8,
+    pub edges: u8,
+}
+
+pub fn edge_between(old: bool, new: bool) -> Edge
+    ensures { λ r. ⌜ r ≡ edge old new ⌝ }
+{
+    if old {
+        if new { Edge::Flat } else { Edge::Fall }
+    } else {
+        if new { Edge::Rise } else { Edge::Flat }
+    }
+}
+
+pub fn mode_of(status: u8, mdcon: u8) -> Mode
+    ensures { λ r. ⌜ r ≡ mode status mdcon ⌝ }
+{
+    if bits::bit(3, status) {
+        return Mode::Off;
+    }
+    if bits::bit(0, mdcon) {
+        Mode::Ddc1
+    } else {
+        Mode::Ddc2b
+    }
+}
+
+fn mode_number(mode: Mode) -> u8
+    ensures { λ r. ⌜ r ≡ modeNumber mode ⌝ }
+{
+    match mode {
+        Mode::Off => 0,
+        Mode::Ddc1 => 1,
+        Mode::Ddc2b => 2,
+    }
+}
+
+pub fn changes_mode(old: Mode, new: Mode) -> bool
+    ensures { λ r. ⌜ r ≡ changesMode old new ⌝ }
+{
+    mode_number(old) != mode_number(new)
+}
+
+pub fn line_level(pulled: bool, level: bool) -> bool
+    ensures { λ r. ⌜ r ≡ line pulled level ⌝ }
+{
+    if pulled { false } else { level }
+}
+
+pub fn pulls_at_bit(count: u8, byte: u8) -> bool
+    ensures { λ r. ⌜ r ≡ pullsAtBit count byte ⌝ }
+{
+    if count < 9 {
+        !bits::bit(8 - count, byte)
+    } else {
+        false
+    }
+}
+
+pub fn pulls_sda(phase: Phase) -> bool
+    ensures { λ r. ⌜ r ≡ pullsSda phase ⌝ }
+{
+    match phase {
+        Phase::Idle => false,
+        Phase::Address {
+            count: _,
+            bits: _,
+            acknowledged,
+        } => acknowledged,
+        Phase::Ignoring => false,
+        Phase::Receive {
+            count: _,
+            bits: _,
+            acknowledged,
+        } => acknowledged,
+        Phase::Transmit { count, byte } => pulls_at_bit(count, byte),
+        Phase::Held => false,
+    }
+}
+
+pub fn pulls_scl(phase: Phase) -> bool
+    ensures { λ r. ⌜ r ≡ pullsScl phase ⌝ }
+{
+    match phase {
+        Phase::Idle => false,
+        Phase::Address {
+            count: _,
+            bits: _,
+            acknowledged: _,
+        } => false,
+        Phase::Ignoring => false,
+        Phase::Receive {
+            count: _,
+            bits: _,
+            acknowledged: _,
+        } => false,
+        Phase::Transmit { count: _, byte: _ } => false,
+        Phase::Held => true,
+    }
+}
+
+// SDA is pulled, in a mode with its phase and shift register.
+pub fn sda_pulled(mode: Mode, phase: Phase, s: Shifter) -> bool
+    ensures { λ r. ⌜ r ≡ sdaPulled mode phase s ⌝ }
+{
+    match mode {
+        Mode::Off => false,
+        Mode::Ddc1 => !bits::bit(7, s.register),
+        Mode::Ddc2b => pulls_sda(phase),
+    }
+}
+
+// SCL is pulled, in a mode with its phase.
+pub fn scl_pulled(mode: Mode, phase: Phase) -> bool
+    ensures { λ r. ⌜ r ≡ sclPulled mode phase ⌝ }
+{
+    match mode {
+        Mode::Off => false,
+        Mode::Ddc1 => false,
+        Mode::Ddc2b => pulls_scl(phase),
+    }
+}
+
+pub fn loads_at_rise(s: Shifter) -> bool
+    ensures { λ r. ⌜ r ≡ loadsAtRise s ⌝ }
+{
+    s.edges == 0
+}
+
+pub fn shifter_at_rise(byte: u8, s: Shifter) -> Shifter
+    ensures { λ r. ⌜ r ≡ shifterAtRise byte s ⌝ }
+{
+    let edges = s.edges;
+    if edges == 0 {
+        Shifter {
+            register: byte,
+            edges: 8,
+        }
+    } else {
+        Shifter {
+            register: s.register % 128 * 2 + 1,
+            edges: edges - 1,
+        }
+    }
+}
+
+// An address is the chip's own by A0H or by II ADR, the direction bit left aside.
+pub fn matches(own: u8, byte: u8) -> bool
+    ensures { λ r. ⌜ r ≡ matchesOf own byte ⌝ }
+{
+    (byte / 2 % 128 == 80) | (byte / 2 % 128 == own / 2 % 128)
+}
+
+pub fn gathered(bits: u8, sda: bool) -> u8
+    ensures { λ r. ⌜ r ≡ gatheredBits bits sda ⌝ }
+{
+    let shifted = bits % 128 * 2;
+    if sda { shifted + 1 } else { shifted }
+}
+
+fn addressed(own: u8, byte: u8) -> Phase
+    ensures { λ r. ⌜ r ≡ addressedOf own byte ⌝ }
+{
+    if matches(own, byte) {
+        Phase::Address {
+            count: 8,
+            bits: byte,
+            acknowledged: false,
+        }
+    } else {
+        Phase::Ignoring
+    }
+}
+
+pub fn phase_at_rise(own: u8, sda: bool, phase: Phase) -> Phase
+    ensures { λ r. ⌜ r ≡ phaseAtRise own sda phase ⌝ }
+{
+    match phase {
+        Phase::Idle => phase,
+        Phase::Address {
+            count,
+            bits,
+            acknowledged,
+        } => {
+            if count < 7 {
+                return Phase::Address {
+                    count: count + 1,
+                    bits: gathered(bits, sda),
+                    acknowledged: acknowledged,
+                };
+            }
+            if count < 8 {
+                addressed(own, gathered(bits, sda))
+            } else {
+                phase
+            }
+        }
+        Phase::Ignoring => phase,
+        Phase::Receive {
+            count,
+            bits,
+            acknowledged,
+        } => {
+            if count < 8 {
+                Phase::Receive {
+                    count: count + 1,
+                    bits: gathered(bits, sda),
+                    acknowledged: acknowledged,
+                }
+            } else {
+                phase
+            }
+        }
+        Phase::Transmit { count, byte } => {
+            if count == 9 {
+                Phase::Transmit {
+                    count: 10,
+                    byte: byte,
+                }
+            } else {
+                phase
+            }
+        }
+        Phase::Held => phase,
+    }
+}
+
+pub fn data_at_rise(sda: bool, phase: Phase, byte: u8) -> u8
+    ensures { λ r. ⌜ r ≡ dataAtRise sda phase byte ⌝ }
+{
+    match phase {
+        Phase::Idle => byte,
+        Phase::Address {
+            count,
+            bits,
+            acknowledged: _,
+        } => {
+            if count == 7 {
+                gathered(bits, sda)
+            } else {
+                byte
+            }
+        }
+        Phase::Ignoring => byte,
+        Phase::Receive {
+            count,
+            bits,
+            acknowledged: _,
+        } => {
+            if count == 7 {
+                gathered(bits, sda)
+            } else {
+                byte
+            }
+        }
+        Phase::Transmit { count: _, byte: _ } => byte,
+        Phase::Held => byte,
+    }
+}
+
+pub fn matches_at_rise(own: u8, sda: bool, phase: Phase) -> bool
+    ensures { λ r. ⌜ r ≡ matchesAtRise own sda phase ⌝ }
+{
+    match phase {
+        Phase::Idle => false,
+        Phase::Address {
+            count,
+            bits,
+            acknowledged: _,
+        } => {
+            if count == 7 {
+                matches(own, gathered(bits, sda))
+            } else {
+                false
+            }
+        }
+        Phase::Ignoring => false,
+        Phase::Receive {
+            count: _,
+            bits: _,
+            acknowledged: _,
+        } => false,
+        Phase::Transmit { count: _, byte: _ } => false,
+        Phase::Held => false,
+    }
+}
+
+pub fn status_at_rise(sda: bool, phase: Phase, status: u8) -> u8
+    ensures { λ r. ⌜ r ≡ statusAtRise sda phase status ⌝ }
+{
+    match phase {
+        Phase::Idle => status,
+        Phase::Address {
+            count: _,
+            bits: _,
+            acknowledged: _,
+        } => status,
+        Phase::Ignoring => status,
+        Phase::Receive {
+            count: _,
+            bits: _,
+            acknowledged: _,
+        } => status,
+        Phase::Transmit { count, byte: _ } => {
+            if count == 9 {
+                bits::with_bit(status, 1, sda)
+            } else {
+                status
+            }
+        }
+        Phase::Held => status,
+    }
+}
+
+pub fn holds_at_fall(phase: Phase) -> bool
+    ensures { λ r. ⌜ r ≡ holdsAtFall phase ⌝ }
+{
+    match phase {
+        Phase::Idle => false,
+        Phase::Address {
+            count: _,
+            bits: _,
+            acknowledged,
+        } => acknowledged,
+        Phase::Ignoring => false,
+        Phase::Receive {
+            count: _,
+            bits: _,
+            acknowledged,
+        } => acknowledged,
+        Phase::Transmit { count, byte: _ } => count == 10,
+        Phase::Held => false,
+    }
+}
+
+// The acknowledge at the eighth fall.
+pub fn acknowledges(count: u8) -> bool
+    ensures { λ r. ⌜ r ≡ acknowledgesOf count ⌝ }
+{
+    count == 8
+}
+
+pub fn phase_at_fall(phase: Phase) -> Phase
+    ensures { λ r. ⌜ r ≡ phaseAtFall phase ⌝ }
+{
+    match phase {
+        Phase::Idle => phase,
+        Phase::Address {
+            count,
+            bits,
+            acknowledged,
+        } => {
+            if acknowledged {
+                Phase::Held
+            } else {
+                Phase::Address {
+                    count: count,
+                    bits: bits,
+                    acknowledged: acknowledges(count),
+                }
+            }
+        }
+        Phase::Ignoring => phase,
+        Phase::Receive {
+            count,
+            bits,
+            acknowledged,
+        } => {
+            if acknowledged {
+                Phase::Held
+            } else {
+                Phase::Receive {
+                    count: count,
+                    bits: bits,
+                    acknowledged: acknowledges(count),
+                }
+            }
+        }
+        Phase::Transmit { count, byte } => transmit_at_fall(count, byte),
+        Phase::Held => phase,
+    }
+}
+
+fn transmit_at_fall(count: u8, byte: u8) -> Phase
+    ensures { λ r. ⌜ r ≡ phaseAtFall (Phase.Transmit count byte) ⌝ }
+{
+    if count < 9 {
+        return Phase::Transmit {
+            count: count + 1,
+            byte: byte,
+        };
+    }
+    if count == 10 {
+        Phase::Held
+    } else {
+        Phase::Transmit {
+            count: count,
+            byte: byte,
+        }
+    }
+}
+
+pub fn phase_let_go(trx: bool, byte: u8) -> Phase
+    ensures { λ r. ⌜ r ≡ phaseLetGo trx byte ⌝ }
+{
+    if trx {
+        Phase::Transmit {
+            count: 1,
+            byte: byte,
+        }
+    } else {
+        Phase::Receive {
+            count: 0,
+            bits: 0,
+            acknowledged: false,
+        }
+    }
+}

@@ -1,0 +1,17 @@
+-- `chip::hvcon` meets its contract.
+-- Assumes nothing.
+use Rattle.chip.specs.Reads.{hvcon}
+use borrow.Author.Needs.{needs}
+use Rattle.chip.proofs.hvcon.Statement.{statement}
+use Rattle.chip.proofs.hvcon.Tie as tie
+
+pub hvcon-spec : {M : Type 1} → statement M
+unfolding hvcon
+hvcon-spec =
+    tie.close
+    (tie.spec
+    (λ c κs. search needs)
+    (λ c κs. search needs)
+    (λ c κs. search needs)
+    (λ c κs. search needs)
+    (λ c. simp (c .before .weight4 .ensures, c .before .before .weight3 .ensures, c .before .before .before .weight2 .ensures, c .before .before .before .before .weight .ensures)))

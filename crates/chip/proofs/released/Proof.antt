@@ -1,0 +1,13 @@
+-- `chip::released` meets its contract.
+-- Assumes nothing.
+use mathlib.Core.Path.{refl}
+use Rattle.chip.specs.State.{released}
+use Rattle.chip.proofs.released.Statement.{statement}
+use Rattle.chip.proofs.released.Tie as tie
+
+pub released-spec : {M : Type 1} → statement M
+unfolding released
+released-spec =
+    tie.close
+    (tie.spec
+    (λ c. refl))

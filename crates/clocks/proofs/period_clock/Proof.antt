@@ -1,0 +1,15 @@
+-- `clocks::period_clock` meets its contract.
+-- Assumes nothing.
+use Rattle.clocks.specs.Clocks.{periodClock}
+use borrow.Author.Needs.{needs}
+use Rattle.clocks.proofs.period_clock.Statement.{statement}
+use Rattle.clocks.proofs.period_clock.Tie as tie
+
+pub period-clock-spec : {M : Type 1} → statement M
+unfolding periodClock
+period-clock-spec =
+    tie.close
+    (tie.spec
+    (λ c κs. search needs)
+    (λ c κs. search needs)
+    (λ c. simp (c .on-period .ensures, c .before .hsel .ensures)))

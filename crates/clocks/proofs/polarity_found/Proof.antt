@@ -1,0 +1,16 @@
+-- `clocks::polarity_found` meets its contract.
+-- Assumes nothing.
+use Rattle.clocks.specs.Clocks.{polarityFound}
+use borrow.Author.Needs.{needs}
+use Rattle.clocks.proofs.polarity_found.Statement.{statement}
+use Rattle.clocks.proofs.polarity_found.Tie as tie
+
+pub polarity-found-spec : {M : Type 1} → statement M
+unfolding polarityFound
+polarity-found-spec =
+    tie.close
+    (tie.spec
+    (λ c κs. search needs)
+    (λ c κs. search needs)
+    (λ c. simp (c .with-bit .ensures, c .before .polarity-bit .ensures, c .before .before .if1 .taken))
+    (λ c. simp (c .if1 .left)))

@@ -1,0 +1,17 @@
+-- `clocks::timer_step` meets its contract.
+-- Assumes nothing.
+use Rattle.clocks.specs.Clocks.{timerStep}
+use borrow.Author.Needs.{needs}
+use Rattle.clocks.proofs.timer_step.Statement.{statement}
+use Rattle.clocks.proofs.timer_step.Tie as tie
+
+pub timer-step-spec : {M : Type 1} → statement M
+unfolding timerStep
+timer-step-spec =
+    tie.close
+    (tie.spec
+    (λ c κs. search needs)
+    (λ c κs. search needs)
+    (λ c κs. search needs)
+    (λ c κs. search needs)
+    (λ c. simp (c .timer-next .ensures, c .before .raised .ensures, c .before .before .flag-if .ensures, c .before .before .before .timer-overflows .ensures)))

@@ -1,0 +1,17 @@
+-- `clocks::watchdog_clock` meets its contract.
+-- Assumes nothing.
+use Rattle.clocks.specs.Clocks.{watchdogClock}
+use borrow.Author.Needs.{needs}
+use Rattle.clocks.proofs.watchdog_clock.Statement.{statement}
+use Rattle.clocks.proofs.watchdog_clock.Tie as tie
+
+pub watchdog-clock-spec : {M : Type 1} → statement M
+unfolding watchdogClock
+watchdog-clock-spec =
+    tie.close
+    (tie.spec
+    (λ c κs. search needs)
+    (λ c κs. search needs)
+    (λ c κs. search needs)
+    (λ c. simp (c .reset-chip .ensures, ← (c .before .before .watchdog-fires .ensures), c .before .if1 .taken))
+    (λ c. simp (c .watchdog-next .ensures, ← (c .before .before .watchdog-fires .ensures), c .before .if1 .left)))

@@ -1,0 +1,94 @@
+// Clocks, and a polarity that is found.
+ghost use mathlib.Core.Path.{_≡_};
+ghost use Rattle.bits.specs.Byte.{pick};
+ghost use Rattle.clocks.specs.Clocks.{periodClock, timerRuns, timerStep, timerClock, watchdogClock, clockedAs, clocked as clockedOf, polarityFound};
+use chip::Chip;
+
+// A clock of 8 µs.
+pub fn period_clock(c: Chip) -> Chip
+    ensures { λ r. ⌜ r ≡ periodClock c ⌝ }
+{
+    let counters = c.sync;
+    let after = sync::on_period(chip::hsel(c), counters);
+    let mut n = c;
+    n.sync = after;
+    n
+}
+
+fn timer_runs(btcon: u8, k: u8) -> bool
+    ensures { λ r. ⌜ r ≡ timerRuns btcon k ⌝ }
+{
+    if bits::bit(0, btcon) {
+        return false;
+    }
+    if bits::bit(1, btcon) { k == 2 } else { k == 1 }
+}
+
+fn timer_step(c: Chip) -> Chip
+    ensures { λ r. ⌜ r ≡ timerStep c ⌝ }
+{
+    let flags = lines::flag_if(sync::timer_overflows(c.bt), 0x04);
+    let mut n = lines::raised(c, flags);
+    n.bt = sync::timer_next(c.bt);
+    n
+}
+
+fn timer_clock(c: Chip, k: u8) -> Chip
+    ensures { λ r. ⌜ r ≡ timerClock c k ⌝ }
+{
+    let registers = c.registers;
+    if timer_runs(registers[0x17], k) {
+        timer_step(c)
+    } else {
+        c
+    }
+}
+
+fn watchdog_clock(c: Chip) -> Chip
+    ensures { λ r. ⌜ r ≡ watchdogClock c ⌝ }
+{
+    if sync::watchdog_fires(c.watchdog) {
+        chip::reset_chip(c)
+    } else {
+        let mut n = c;
+        n.watchdog = sync::watchdog_next(c.watchdog);
+        n
+    }
+}
+
+fn clocked_as(c: Chip, k: u8) -> Chip
+    ensures { λ r. ⌜ r ≡ clockedAs c k ⌝ }
+{
+    match k {
+        0 => period_clock(c),
+        3 => watchdog_clock(c),
+        _ => timer_clock(c, k),
+    }
+}
+
+// A clock; none runs while RESET is low.
+pub fn clocked(c: Chip, k: u8) -> Chip
+    ensures { λ r. ⌜ r ≡ clockedOf c k ⌝ }
+{
+    if c.reset { clocked_as(c, k) } else { c }
+}
+
+// The bit of HVCON that a polarity goes to.
+fn polarity_bit(vertical: bool) -> u8
+    ensures { λ r. ⌜ r ≡ pick vertical 2 3 ⌝ }
+{
+    if vertical { 2 } else { 3 }
+}
+
+// A polarity is found.
+pub fn polarity_found(c: Chip, vertical: bool, level: bool) -> Chip
+    ensures { λ r. ⌜ r ≡ polarityFound c vertical level ⌝ }
+{
+    if c.reset {
+        let mut n = c;
+        n.polarity = bits::with_bit(n.polarity, polarity_bit(vertical), level);
+        n
+    } else {
+        c
+    }
+}

@@ -1,0 +1,156 @@
+// Event words and answer words (document 01, "Event words").
+ghost use mathlib.Core.Path.{_≡_};
+ghost use Rattle.events.specs.Word.{decode as decodeOf, encode as encodeOf, event as eventOf, isPin, noEvent, noPlace, badByte};
+ghost use Rattle.events.specs.Word.{answerWord, answerFields, refusedWord, eventWord};
+
+// An event, or the number with which a word is refused.
+pub enum Decoded {
+    // a register
+    Read(u8),
+    // a register and a byte
+    Write(u8, u8),
+    // a pin and its level
+    Pin(u8, bool),
+    // a clock: 0 of 8 µs, 1 and 2 of the base timer, 3 of the watchdog
+    Clock(u8),
+    // vertical or not, and the polarity found
+    Polarity(bool, bool),
+    Refused(u8),
+}
+
+// The parts of an answer word.
+pub struct AnswerFields {
+    pub number: u8,
+    pub watchdog: bool,
+    pub requests: u8,
+    pub byte: u8,
+}
+
+// Pins 0 to 14 and 16 to 28.
+fn is_pin(a: u32) -> bool
+    ensures { λ r. ⌜ r ≡ isPin a ⌝ }
+{
+    (a < 15) | ((15 < a) & (a < 29))
+}
+
+// Number 1: no kind, or a bit set between the kind and A.
+fn no_event(word: u32) -> bool
+    ensures { λ r. ⌜ r ≡ noEvent word ⌝ }
+{
+    let kind = word / 16777216;
+    (kind < 1) | ((5 < kind) | (0 < word / 65536 % 256))
+}
+
+// Number 2: no register, pin, clock or polarity has this A.
+fn no_place(word: u32) -> bool
+    ensures { λ r. ⌜ r ≡ noPlace word ⌝ }
+{
+    let a = word / 256 % 256;
+    match word / 16777216 {
+        1 => 0x25 < a,
+        2 => 0x25 < a,
+        3 => !is_pin(a),
+        4 => 3 < a,
+        _ => 1 < a,
+    }
+}
+
+// Number 3: the kind does not take this B.
+fn bad_byte(word: u32) -> bool
+    ensures { λ r. ⌜ r ≡ badByte word ⌝ }
+{
+    let b = word % 256;
+    match word / 16777216 {
+        1 => 0 < b,
+        2 => false,
+        3 => 1 < b,
+        4 => 0 < b,
+        _ => 1 < b,
+    }
+}
+
+// The event of the word's kind, once no number refuses it.
+fn event(word: u32) -> Decoded
+    ensures { λ r. ⌜ r ≡ eventOf word ⌝ }
+{
+    let a = (word / 256 % 256) as u8;
+    let b = (word % 256) as u8;
+    match word / 16777216 {
+        1 => Decoded::Read(a),
+        2 => Decoded::Write(a, b),
+        3 => Decoded::Pin(a, b == 1),
+        4 => Decoded::Clock(a),
+        _ => Decoded::Polarity(a == 1, b == 1),
+    }
+}
+
+// The first number that applies refuses the word, else it is an event.
+pub fn decode(word: u32) -> Decoded
+    ensures { λ r. ⌜ r ≡ decodeOf word ⌝ }
+{
+    if no_event(word) {
+        return Decoded::Refused(1);
+    }
+    if no_place(word) {
+        return Decoded::Refused(2);
+    }
+    if bad_byte(word) {
+        return Decoded::Refused(3);
+    }
+    event(word)
+}
+
+// The word with these fields.
+fn event_word(kind: u8, a: u8, b: u8) -> u32
+    ensures { λ r. ⌜ r ≡ eventWord kind a b ⌝ }
+{
+    (kind as u32) * 16777216 + (a as u32) * 256 + (b as u32)
+}
+
+// A word that the number refuses.
+fn refused_word(number: u8) -> u32
+    ensures { λ r. ⌜ r ≡ refusedWord number ⌝ }
+{
+    if number == 2 {
+        return event_word(1, 0x26, 0);
+    }
+    if number == 3 {
+        return event_word(1, 0, 1);
+    }
+    0
+}
+
+// The word of an event; for a refusal, one of the words that it refuses.
+pub fn encode(event: Decoded) -> u32
+    ensures { λ r. ⌜ r ≡ encodeOf event ⌝ }
+{
+    match event {
+        Decoded::Read(a) => event_word(1, a, 0),
+        Decoded::Write(a, b) => event_word(2, a, b),
+        Decoded::Pin(a, level) => event_word(3, a, bits::num(level)),
+        Decoded::Clock(a) => event_word(4, a, 0),
+        Decoded::Polarity(vertical, level) => event_word(5, bits::num(vertical), bits::num(level)),
+        Decoded::Refused(number) => refused_word(number),
+    }
+}
+
+// The answer word with these parts; bits 23..17 are 0.
+pub fn answer(number: u8, watchdog: bool, requests: u8, byte: u8) -> u32
+    ensures { λ r. ⌜ r ≡ answerWord number watchdog requests byte ⌝ }
+{
+    let low = (requests as u32) * 256 + (byte as u32);
+    let reset = (bits::num(watchdog) as u32) * 65536;
+    (number as u32) * 16777216 + reset + low
+}
+
+// The parts of an answer word; bits 23..17 are not looked at.
+pub fn answer_fields(word: u32) -> AnswerFields
+    ensures { λ r. ⌜ r ≡ answerFields word ⌝ }
+{
+    AnswerFields {
+        number: (word / 16777216) as u8,
+        watchdog: word / 65536 % 2 == 1,
+        requests: (word / 256 % 256) as u8,
+        byte: (word % 256) as u8,
+    }
+}

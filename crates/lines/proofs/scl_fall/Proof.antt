@@ -1,0 +1,18 @@
+-- `lines::scl_fall` meets its contract.
+-- Assumes nothing.
+use Rattle.lines.specs.Bus.{sclFall}
+use borrow.Author.Needs.{needs}
+use Rattle.lines.proofs.scl_fall.Statement.{statement}
+use Rattle.lines.proofs.scl_fall.Tie as tie
+
+pub scl-fall-spec : {M : Type 1} → statement M
+unfolding sclFall
+scl-fall-spec =
+    tie.close
+    (tie.spec
+    (λ c κs. search needs)
+    (λ c κs. search needs)
+    (λ c κs. search needs)
+    (λ c κs. search needs)
+    (λ c κs. search needs)
+    (λ c. simp (c .with-phase .ensures, c .before .phase-at-fall .ensures, c .before .before .raised .ensures, c .before .before .before .flag-if .ensures, c .before .before .before .before .holds-at-fall .ensures)))

@@ -1,0 +1,277 @@
+// The lines of the bus at a chip: edges of SCL and SDA, and rises of VSYNCI in DDC1.
+ghost use mathlib.Core.Path.{_≡_};
+ghost use Rattle.lines.specs.Bus.{withPhase, activeMode, busAtMode, busAtRise, sdaLine, sclRise, sclFall, leaveDdc1, onSclDdc1, onSclDdc2b, onScl, sclMoved, started as startedOf, stopped as stoppedOf, onSdaDdc2b, onSda, sdaMoved, busAtVsync, loadsAtVsync};
+ghost use Rattle.bits.specs.Byte.{pick};
+ghost use Rattle.chip.specs.State.{raised as raisedOf};
+use bus::Edge;
+use bus::Mode;
+use bus::Phase;
+use bus::Shifter;
+use chip::Bus;
+use chip::Chip;
+
+// Flags set in IRQX.
+pub fn raised(c: Chip, flags: u8) -> Chip
+    ensures { λ r. ⌜ r ≡ raisedOf c flags ⌝ }
+{
+    let mut n = c;
+    n.irqx = n.irqx | flags;
+    n
+}
+
+// A flag where the test holds, else none.
+pub fn flag_if(test: bool, flag: u8) -> u8
+    ensures { λ r. ⌜ r ≡ pick test flag 0 ⌝ }
+{
+    if test { flag } else { 0 }
+}
+
+fn with_phase(b: Bus, phase: Phase) -> Bus
+    ensures { λ r. ⌜ r ≡ withPhase b phase ⌝ }
+{
+    let shifter = b.shifter;
+    Bus {
+        iists: b.iists,
+        iiadr: b.iiadr,
+        iidat: b.iidat,
+        phase: phase,
+        shifter: shifter,
+    }
+}
+
+// The mode, or off while RESET is low.
+pub fn active_mode(c: Chip) -> Mode
+    ensures { λ r. ⌜ r ≡ activeMode c ⌝ }
+{
+    if c.reset { chip::mode_of(c) } else { Mode::Off }
+}
+
+// The bus where the mode goes from one to another.
+pub fn bus_at_mode(old: Mode, new: Mode, b: Bus) -> Bus
+    ensures { λ r. ⌜ r ≡ busAtMode old new b ⌝ }
+{
+    if bus::changes_mode(old, new) {
+        chip::released(b)
+    } else {
+        b
+    }
+}
+
+// All that a rise of SCL moves, at the SDA line's level.
+pub fn bus_at_rise(sda: bool, b: Bus) -> Bus
+    ensures { λ r. ⌜ r ≡ busAtRise sda b ⌝ }
+{
+    let phase = b.phase;
+    let shifter = b.shifter;
+    Bus {
+        iists: bus::status_at_rise(sda, phase, b.iists),
+        iiadr: b.iiadr,
+        iidat: bus::data_at_rise(sda, phase, b.iidat),
+        phase: bus::phase_at_rise(b.iiadr, sda, phase),
+        shifter: shifter,
+    }
+}
+
+// The SDA line at an outside level.
+pub fn sda_line(b: Bus, level: bool) -> bool
+    ensures { λ r. ⌜ r ≡ sdaLine b level ⌝ }
+{
+    let phase = b.phase;
+    bus::line_level(bus::pulls_sda(phase), level)
+}
+
+fn scl_rise(c: Chip) -> Chip
+    ensures { λ r. ⌜ r ≡ sclRise c ⌝ }
+{
+    let b = c.bus;
+    let phase = b.phase;
+    let sda = sda_line(b, c.sda);
+    let flags = flag_if(bus::matches_at_rise(b.iiadr, sda, phase), 0x08);
+    let mut n = raised(c, flags);
+    let after = bus_at_rise(sda, b);
+    n.bus = after;
+    n
+}
+
+fn scl_fall(c: Chip) -> Chip
+    ensures { λ r. ⌜ r ≡ sclFall c ⌝ }
+{
+    let b = c.bus;
+    let phase = b.phase;
+    let flags = flag_if(bus::holds_at_fall(phase), 0x10);
+    let mut n = raised(c, 0x20 | flags);
+    let after = with_phase(b, bus::phase_at_fall(phase));
+    n.bus = after;
+    n
+}
+
+fn leave_ddc1(c: Chip) -> Chip
+    ensures { λ r. ⌜ r ≡ leaveDdc1 c ⌝ }
+{
+    let b = c.bus;
+    let mut n = raised(c, 0x20);
+    n.mdcon = bits::with_bit(c.mdcon, 0, false);
+    let after = chip::released(b);
+    n.bus = after;
+    n
+}
+
+fn on_scl_ddc1(e: Edge, c: Chip) -> Chip
+    ensures { λ r. ⌜ r ≡ onSclDdc1 e c ⌝ }
+{
+    match e {
+        Edge::Flat => c,
+        Edge::Rise => c,
+        Edge::Fall => leave_ddc1(c),
+    }
+}
+
+fn on_scl_ddc2b(e: Edge, c: Chip) -> Chip
+    ensures { λ r. ⌜ r ≡ onSclDdc2b e c ⌝ }
+{
+    match e {
+        Edge::Flat => c,
+        Edge::Rise => scl_rise(c),
+        Edge::Fall => scl_fall(c),
+    }
+}
+
+fn on_scl(mode: Mode, e: Edge, c: Chip) -> Chip
+    ensures { λ r. ⌜ r ≡ onScl mode e c ⌝ }
+{
+    match mode {
+        Mode::Off => c,
+        Mode::Ddc1 => on_scl_ddc1(e, c),
+        Mode::Ddc2b => on_scl_ddc2b(e, c),
+    }
+}
+
+// SCL's outside level is put.
+pub fn scl_moved(c: Chip, level: bool) -> Chip
+    ensures { λ r. ⌜ r ≡ sclMoved c level ⌝ }
+{
+    let b = c.bus;
+    let phase = b.phase;
+    let mode = active_mode(c);
+    let pulled = bus::scl_pulled(mode, phase);
+    let e = bus::edge_between(
+        bus::line_level(pulled, c.scl),
+        bus::line_level(pulled, level),
+    );
+    let mut n = c;
+    n.scl = level;
+    on_scl(mode, e, n)
+}
+
+fn started(c: Chip) -> Chip
+    ensures { λ r. ⌜ r ≡ startedOf c ⌝ }
+{
+    let b = c.bus;
+    let shifter = b.shifter;
+    let after = Bus {
+        iists: b.iists | 0x20,
+        iiadr: b.iiadr,
+        iidat: b.iidat,
+        phase: Phase::Address {
+            count: 0,
+            bits: 0,
+            acknowledged: false,
+        },
+        shifter: shifter,
+    };
+    let mut n = c;
+    n.bus = after;
+    n
+}
+
+fn stopped(c: Chip) -> Chip
+    ensures { λ r. ⌜ r ≡ stoppedOf c ⌝ }
+{
+    let b = c.bus;
+    let shifter = b.shifter;
+    let after = Bus {
+        iists: b.iists | 0x10,
+        iiadr: b.iiadr,
+        iidat: b.iidat,
+        phase: Phase::Idle,
+        shifter: shifter,
+    };
+    let mut n = c;
+    n.bus = after;
+    n
+}
+
+fn on_sda_ddc2b(high: bool, e: Edge, c: Chip) -> Chip
+    ensures { λ r. ⌜ r ≡ onSdaDdc2b high e c ⌝ }
+{
+    match e {
+        Edge::Flat => c,
+        Edge::Rise => { if high { stopped(c) } else { c } }
+        Edge::Fall => { if high { started(c) } else { c } }
+    }
+}
+
+fn on_sda(mode: Mode, high: bool, e: Edge, c: Chip) -> Chip
+    ensures { λ r. ⌜ r ≡ onSda mode high e c ⌝ }
+{
+    match mode {
+        Mode::Off => c,
+        Mode::Ddc1 => c,
+        Mode::Ddc2b => on_sda_ddc2b(high, e, c),
+    }
+}
+
+// SDA's outside level is put.
+pub fn sda_moved(c: Chip, level: bool) -> Chip
+    ensures { λ r. ⌜ r ≡ sdaMoved c level ⌝ }
+{
+    let b = c.bus;
+    let phase = b.phase;
+    let shifter = b.shifter;
+    let mode = active_mode(c);
+    let pulled = bus::sda_pulled(mode, phase, shifter);
+    let high = bus::line_level(bus::scl_pulled(mode, phase), c.scl);
+    let e = bus::edge_between(
+        bus::line_level(pulled, c.sda),
+        bus::line_level(pulled, level),
+    );
+    let mut n = c;
+    n.sda = level;
+    on_sda(mode, high, e, n)
+}
+
+// The bus at a rise of VSYNCI.
+pub fn bus_at_vsync(mode: Mode, b: Bus) -> Bus
+    ensures { λ r. ⌜ r ≡ busAtVsync mode b ⌝ }
+{
+    match mode {
+        Mode::Off => b,
+        Mode::Ddc1 => bus_shifted(b),
+        Mode::Ddc2b => b,
+    }
+}
+
+fn bus_shifted(b: Bus) -> Bus
+    ensures { λ r. ⌜ r ≡ busAtVsync Mode.Ddc1 b ⌝ }
+{
+    let phase = b.phase;
+    let shifter = b.shifter;
+    Bus {
+        iists: b.iists,
+        iiadr: b.iiadr,
+        iidat: b.iidat,
+        phase: phase,
+        shifter: bus::shifter_at_rise(b.iidat, shifter),
+    }
+}
+
+// A rise of VSYNCI loads II DAT.
+pub fn loads_at_vsync(mode: Mode, s: Shifter) -> bool
+    ensures { λ r. ⌜ r ≡ loadsAtVsync mode s ⌝ }
+{
+    match mode {
+        Mode::Off => false,
+        Mode::Ddc1 => bus::loads_at_rise(s),
+        Mode::Ddc2b => false,
+    }
+}

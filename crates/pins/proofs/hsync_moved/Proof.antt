@@ -1,0 +1,17 @@
+-- `pins::hsync_moved` meets its contract.
+-- Assumes nothing.
+use Rattle.pins.specs.Pins.{hsyncMoved}
+use borrow.Author.Needs.{needs}
+use Rattle.pins.proofs.hsync_moved.Statement.{statement}
+use Rattle.pins.proofs.hsync_moved.Tie as tie
+
+pub hsync-moved-spec : {M : Type 1} → statement M
+unfolding hsyncMoved
+hsync-moved-spec =
+    tie.close
+    (tie.spec
+    (λ c κs. search needs)
+    (λ c κs. search needs)
+    (λ c κs. search needs)
+    (λ c. simp (c .on-hsync .ensures, ← (c .before .before .rises .ensures), c .before .if1 .taken, c .before .before .before .hsync-level .ensures))
+    (λ c. simp (← (c .before .rises .ensures), c .if1 .left, c .before .before .hsync-level .ensures)))

@@ -1,0 +1,14 @@
+-- `pins::port0_moved` meets its contract.
+-- Assumes nothing.
+use Rattle.pins.specs.Pins.{port0Moved}
+use borrow.Author.Needs.{needs}
+use Rattle.pins.proofs.port0_moved.Statement.{statement}
+use Rattle.pins.proofs.port0_moved.Tie as tie
+
+pub port0-moved-spec : {M : Type 1} → statement M
+unfolding port0Moved
+port0-moved-spec =
+    tie.close
+    (tie.spec
+    (λ c κs. search needs)
+    (λ c. simp (c .before .with-bit .ensures)))

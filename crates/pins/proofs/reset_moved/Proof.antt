@@ -1,0 +1,15 @@
+-- `pins::reset_moved` meets its contract.
+-- Assumes nothing.
+use Rattle.pins.specs.Pins.{resetMoved}
+use borrow.Author.Needs.{needs}
+use Rattle.pins.proofs.reset_moved.Statement.{statement}
+use Rattle.pins.proofs.reset_moved.Tie as tie
+
+pub reset-moved-spec : {M : Type 1} → statement M
+unfolding resetMoved
+reset-moved-spec =
+    tie.close
+    (tie.spec
+    (λ c κs. search needs)
+    (λ c κs. search needs)
+    (λ c. simp (c .on-reset .ensures, c .before .edge-between .ensures)))

@@ -1,0 +1,95 @@
+-- What a pin's outside level does (document 01, "Event words", "Ports", "Flags, timer, watchdog, reset", "Counting sync").
+use Prim.Native.Nat.{ℕ}
+use mathlib.Core.Bool.{Bool, true, false, not, _&&_}
+use lib.Bits.{bitOr}
+use lib.Dec.{eqb, ltb}
+use Rattle.bits.specs.Byte.{pick, bit, withBit}
+use Rattle.sync.specs.Sync.{onHsync, onVsync}
+use Rattle.bus.specs.declared.Edge.{Edge}
+use Rattle.bus.specs.declared.Edge.the-variants.{Flat, Rise, Fall}
+use Rattle.bus.specs.Lines.{edge}
+use Rattle.chip.specs.declared.Pins.{Pins}
+use Rattle.chip.specs.declared.Chip.{Chip}
+use Rattle.chip.specs.State.{modeOf, hselOf, resetChip, raised, withSync, withBus, withPins, withReset}
+use Rattle.pins.specs.declared.PinKind.{PinKind}
+use Rattle.pins.specs.declared.PinKind.the-variants.{Port0, Port1, P16, Port2, Sda, Scl, Hsynci, Vsynci, Reset}
+use Rattle.lines.specs.Bus.{sclMoved, sdaMoved, busAtVsync, loadsAtVsync}
+
+-- "Event words": which pin a number is; within a port the bit is the number modulo 8
+unfoldable pub pinKind : ℕ → PinKind
+pinKind p =
+    pick (ltb p 8) Port0
+    (pick (eqb p 14) P16
+    (pick (ltb p 16) Port1
+    (pick (ltb p 24) Port2
+    (pick (eqb p 24) Sda
+    (pick (eqb p 25) Scl
+    (pick (eqb p 26) Hsynci
+    (pick (eqb p 27) Vsynci
+    Reset)))))))
+
+abbrev pub pinsOf : ℕ → ℕ → ℕ → Bool → Bool → Pins
+pinsOf port0 port1 port2 hsynci vsynci = record { port0 = port0; port1 = port1; port2 = port2; hsynci = hsynci; vsynci = vsynci }
+
+-- a rise of a pin that the chip acts on: none while RESET is low, and none where the level is there already
+abbrev pub rises : Bool → Bool → Bool → Bool
+rises reset old new = reset && (not old && new)
+
+-- ---- ports: the level is all that changes
+unfoldable pub port0Moved : Chip → ℕ → Bool → Chip
+port0Moved c p level = withPins c (pinsOf (withBit (c .pins .port0) p level) (c .pins .port1) (c .pins .port2) (c .pins .hsynci) (c .pins .vsynci))
+
+unfoldable pub port1Moved : Chip → ℕ → Bool → Chip
+port1Moved c p level = withPins c (pinsOf (c .pins .port0) (withBit (c .pins .port1) p level) (c .pins .port2) (c .pins .hsynci) (c .pins .vsynci))
+
+unfoldable pub port2Moved : Chip → ℕ → Bool → Chip
+port2Moved c p level = withPins c (pinsOf (c .pins .port0) (c .pins .port1) (withBit (c .pins .port2) p level) (c .pins .hsynci) (c .pins .vsynci))
+
+-- a rise of P16 sets flag E
+unfoldable pub p16Moved : Chip → Bool → Chip
+p16Moved c level = port1Moved (raised c (pick (rises (c .reset) (bit 6 (c .pins .port1)) level) 0x02 0)) 14 level
+
+-- ---- sync inputs
+abbrev pub hsyncLevel : Chip → Bool → Chip
+hsyncLevel c level = withPins c (pinsOf (c .pins .port0) (c .pins .port1) (c .pins .port2) level (c .pins .vsynci))
+
+abbrev pub vsyncLevel : Chip → Bool → Chip
+vsyncLevel c level = withPins c (pinsOf (c .pins .port0) (c .pins .port1) (c .pins .port2) (c .pins .hsynci) level)
+
+-- a rise of HSYNCI is a step of HCNT
+unfoldable pub hsyncMoved : Chip → Bool → Chip
+hsyncMoved c level = withSync (hsyncLevel c level) (pick (rises (c .reset) (c .pins .hsynci) level) (onHsync (c .sync)) (c .sync))
+
+-- a rise of VSYNCI sets flag V, latches, and clocks DDC1, which sets flag D where it loads
+unfoldable pub vsyncRise : Chip → Chip
+vsyncRise c =
+    withBus
+    (withSync (raised c (bitOr 0x01 (pick (loadsAtVsync (modeOf c) (c .bus .shifter)) 0x10 0))) (onVsync (hselOf c) (c .sync)))
+    (busAtVsync (modeOf c) (c .bus))
+
+unfoldable pub vsyncMoved : Chip → Bool → Chip
+vsyncMoved c level = pick (rises (c .reset) (c .pins .vsynci) level) (vsyncRise (vsyncLevel c level)) (vsyncLevel c level)
+
+-- ---- RESET: going low resets the chip; going high does nothing
+unfoldable pub onReset : Edge → Chip → Chip
+onReset Flat c = c
+onReset Rise c = c
+onReset Fall c = resetChip c
+
+unfoldable pub resetMoved : Chip → Bool → Chip
+resetMoved c level = onReset (edge (c .reset) level) (withReset c level)
+
+-- ---- a pin event
+unfoldable pub pinMovedAs : PinKind → Chip → ℕ → Bool → Chip
+pinMovedAs Port0 c p level = port0Moved c p level
+pinMovedAs Port1 c p level = port1Moved c p level
+pinMovedAs P16 c p level = p16Moved c level
+pinMovedAs Port2 c p level = port2Moved c p level
+pinMovedAs Sda c p level = sdaMoved c level
+pinMovedAs Scl c p level = sclMoved c level
+pinMovedAs Hsynci c p level = hsyncMoved c level
+pinMovedAs Vsynci c p level = vsyncMoved c level
+pinMovedAs Reset c p level = resetMoved c level
+
+unfoldable pub pinMoved : Chip → ℕ → Bool → Chip
+pinMoved c p level = pinMovedAs (pinKind p) c p level

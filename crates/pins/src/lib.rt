@@ -1,0 +1,184 @@
+// Pins.
+ghost use mathlib.Core.Path.{_≡_};
+ghost use Rattle.pins.specs.Pins.{pinKind, rises as risesOf, port0Moved, port1Moved, port2Moved, p16Moved, hsyncLevel, vsyncLevel, hsyncMoved, vsyncRise, vsyncMoved, onReset, resetMoved, pinMovedAs, pinMoved};
+use bus::Edge;
+use chip::Chip;
+
+// What a pin is.
+pub enum PinKind {
+    Port0,
+    Port1,
+    P16,
+    Port2,
+    Sda,
+    Scl,
+    Hsynci,
+    Vsynci,
+    Reset,
+}
+
+// Which pin a number is.
+pub fn pin_kind(p: u8) -> PinKind
+    ensures { λ r. ⌜ r ≡ pinKind p ⌝ }
+{
+    if p < 8 {
+        return PinKind::Port0;
+    }
+    if p == 14 {
+        return PinKind::P16;
+    }
+    if p < 16 {
+        return PinKind::Port1;
+    }
+    if p < 24 {
+        return PinKind::Port2;
+    }
+    match p {
+        24 => PinKind::Sda,
+        25 => PinKind::Scl,
+        26 => PinKind::Hsynci,
+        27 => PinKind::Vsynci,
+        _ => PinKind::Reset,
+    }
+}
+
+// A rise that the chip acts on.
+fn rises(reset: bool, old: bool, new: bool) -> bool
+    ensures { λ r. ⌜ r ≡ risesOf reset old new ⌝ }
+{
+    reset & (!old & new)
+}
+
+fn port0_moved(c: Chip, p: u8, level: bool) -> Chip
+    ensures { λ r. ⌜ r ≡ port0Moved c p level ⌝ }
+{
+    let mut n = c;
+    let levels = bits::with_bit(c.pins.port0, p, level);
+    n.pins.port0 = levels;
+    n
+}
+
+fn port1_moved(c: Chip, p: u8, level: bool) -> Chip
+    ensures { λ r. ⌜ r ≡ port1Moved c p level ⌝ }
+{
+    let mut n = c;
+    let levels = bits::with_bit(c.pins.port1, p, level);
+    n.pins.port1 = levels;
+    n
+}
+
+fn port2_moved(c: Chip, p: u8, level: bool) -> Chip
+    ensures { λ r. ⌜ r ≡ port2Moved c p level ⌝ }
+{
+    let mut n = c;
+    let levels = bits::with_bit(c.pins.port2, p, level);
+    n.pins.port2 = levels;
+    n
+}
+
+fn p16_moved(c: Chip, level: bool) -> Chip
+    ensures { λ r. ⌜ r ≡ p16Moved c level ⌝ }
+{
+    let rise = rises(c.reset, bits::bit(6, c.pins.port1), level);
+    let flags = lines::flag_if(rise, 0x02);
+    port1_moved(lines::raised(c, flags), 14, level)
+}
+
+fn hsync_level(c: Chip, level: bool) -> Chip
+    ensures { λ r. ⌜ r ≡ hsyncLevel c level ⌝ }
+{
+    let mut n = c;
+    n.pins.hsynci = level;
+    n
+}
+
+fn vsync_level(c: Chip, level: bool) -> Chip
+    ensures { λ r. ⌜ r ≡ vsyncLevel c level ⌝ }
+{
+    let mut n = c;
+    n.pins.vsynci = level;
+    n
+}
+
+fn hsync_moved(c: Chip, level: bool) -> Chip
+    ensures { λ r. ⌜ r ≡ hsyncMoved c level ⌝ }
+{
+    let counters = c.sync;
+    let mut n = hsync_level(c, level);
+    if rises(c.reset, c.pins.hsynci, level) {
+        let after = sync::on_hsync(counters);
+        n.sync = after;
+        n
+    } else {
+        n
+    }
+}
+
+fn vsync_rise(c: Chip) -> Chip
+    ensures { λ r. ⌜ r ≡ vsyncRise c ⌝ }
+{
+    let b = c.bus;
+    let shifter = b.shifter;
+    let counters = c.sync;
+    let mode = chip::mode_of(c);
+    let flags = lines::flag_if(lines::loads_at_vsync(mode, shifter), 0x10);
+    let mut n = lines::raised(c, 0x01 | flags);
+    let latched = sync::on_vsync(chip::hsel(c), counters);
+    n.sync = latched;
+    let shifted = lines::bus_at_vsync(mode, b);
+    n.bus = shifted;
+    n
+}
+
+fn vsync_moved(c: Chip, level: bool) -> Chip
+    ensures { λ r. ⌜ r ≡ vsyncMoved c level ⌝ }
+{
+    let n = vsync_level(c, level);
+    if rises(c.reset, c.pins.vsynci, level) {
+        vsync_rise(n)
+    } else {
+        n
+    }
+}
+
+fn on_reset(e: Edge, c: Chip) -> Chip
+    ensures { λ r. ⌜ r ≡ onReset e c ⌝ }
+{
+    match e {
+        Edge::Flat => c,
+        Edge::Rise => c,
+        Edge::Fall => chip::reset_chip(c),
+    }
+}
+
+fn reset_moved(c: Chip, level: bool) -> Chip
+    ensures { λ r. ⌜ r ≡ resetMoved c level ⌝ }
+{
+    let e = bus::edge_between(c.reset, level);
+    let mut n = c;
+    n.reset = level;
+    on_reset(e, n)
+}
+
+fn pin_moved_as(kind: PinKind, c: Chip, p: u8, level: bool) -> Chip
+    ensures { λ r. ⌜ r ≡ pinMovedAs kind c p level ⌝ }
+{
+    match kind {
+        PinKind::Port0 => port0_moved(c, p, level),
+        PinKind::Port1 => port1_moved(c, p, level),
+        PinKind::P16 => p16_moved(c, level),
+        PinKind::Port2 => port2_moved(c, p, level),
+        PinKind::Sda => lines::sda_moved(c, level),
+        PinKind::Scl => lines::scl_moved(c, level),
+        PinKind::Hsynci => hsync_moved(c, level),
+        PinKind::Vsynci => vsync_moved(c, level),
+        PinKind::Reset => reset_moved(c, level),
+    }
+}
+
+// A pin's outside level is put.
+pub fn pin_moved(c: Chip, p: u8, level: bool) -> Chip
+    ensures { λ r. ⌜ r ≡ pinMoved c p level ⌝ }
+{
+    pin_moved_as(pin_kind(p), c, p, level)
+}

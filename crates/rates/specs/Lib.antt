@@ -1,0 +1,2 @@
+pub mod Hertz
+pub mod Report

@@ -1,0 +1,86 @@
+-- Rules of the register table: each is a test computed over the 38 rows, and holds at every address.
+-- Assumes nothing.
+use mathlib.Core.Path.{_≡_, refl, ap}
+use mathlib.Core.Bool.{Bool, false, _||_, Bool·beq}
+use mathlib.Core.Logic.{⊎-elim}
+use Prim.Native.Nat.{ℕ, _<_, _≤_}
+use borrow.Author.Tests.{le-ltb}
+use lib.Dec.{T, eqb, ltb, eqb→eq, ltb→lt}
+use lib.ListN.{length, getD, List·getD-map, List·getD-eq-default}
+use Rattle.bits.specs.Finite.{allBelow}
+use Rattle.bits.proofs.Finite.{or-right, at-each, lt-or-le, beq-eq}
+use Rattle.registers.specs.declared.Row.{Row}
+use Rattle.registers.specs.Table.{table, none, rowOf, resetValue, writeMask, readMask, isWritable, isReadable, isRegister, resets}
+
+-- the table has 38 rows
+pub table-length : length table ≡ 38
+unfolding table
+table-length = refl
+
+-- past it is the row of no register
+pub row-past : (a : ℕ) → 38 ≤ a → rowOf a ≡ none
+unfolding rowOf
+row-past a h = List·getD-eq-default table none h
+
+-- a test that the 38 rows and the row of no register pass, at every address
+pub at-row : (f : Row → Bool) → T (allBelow (λ a. f (rowOf a)) 38) → T (f none) → (a : ℕ) → T (f (rowOf a))
+at-row f t n a = ⊎-elim (λ (h : a < 38). at-each (λ a. f (rowOf a)) 38 t a h) (λ (h : 38 ≤ a). rw (row-past a h) n) (lt-or-le a 38)
+
+-- ---- values are bytes
+
+pub resetValue-lt : (a : ℕ) → resetValue a < 256
+unfolding resetValue rowOf
+resetValue-lt a = ltb→lt (resetValue a) 256 (at-row (λ r. ltb (r .reset) 256) tt tt a)
+
+pub writeMask-lt : (a : ℕ) → writeMask a < 256
+unfolding writeMask rowOf
+writeMask-lt a = ltb→lt (writeMask a) 256 (at-row (λ r. ltb (r .write) 256) tt tt a)
+
+pub readMask-lt : (a : ℕ) → readMask a < 256
+unfolding readMask rowOf
+readMask-lt a = ltb→lt (readMask a) 256 (at-row (λ r. ltb (r .read) 256) tt tt a)
+
+-- ---- what is refused has no bit
+
+-- an address that takes no write has write mask 00; the converse fails at AD0
+pub refused-write : (a : ℕ) → isWritable a ≡ false → writeMask a ≡ 0
+unfolding isWritable writeMask rowOf
+refused-write a e = eqb→eq (writeMask a) 0 (or-right (isWritable a) (eqb (writeMask a) 0) e (at-row (λ r. r .writable || eqb (r .write) 0) tt tt a))
+
+-- an address that takes no read has read mask 00; the converse fails at AD1
+pub refused-read : (a : ℕ) → isReadable a ≡ false → readMask a ≡ 0
+unfolding isReadable readMask rowOf
+refused-read a e = eqb→eq (readMask a) 0 (or-right (isReadable a) (eqb (readMask a) 0) e (at-row (λ r. r .readable || eqb (r .read) 0) tt tt a))
+
+-- ---- past the table
+
+pub past-writable : (a : ℕ) → 38 ≤ a → isWritable a ≡ false
+unfolding isWritable
+past-writable a h = ap (λ (r : Row). r .writable) (row-past a h)
+
+pub past-readable : (a : ℕ) → 38 ≤ a → isReadable a ≡ false
+unfolding isReadable
+past-readable a h = ap (λ (r : Row). r .readable) (row-past a h)
+
+pub past-reset : (a : ℕ) → 38 ≤ a → resetValue a ≡ 0
+unfolding resetValue
+past-reset a h = ap (λ (r : Row). r .reset) (row-past a h)
+
+-- every register takes a write or a read, and no other address does
+pub register-used : (a : ℕ) → (isWritable a || isReadable a) ≡ isRegister a
+unfolding isWritable isReadable isRegister rowOf
+register-used a =
+    ⊎-elim
+    (λ (h : a < 38). beq-eq _ _ (at-each (λ a. Bool·beq (isWritable a || isReadable a) (isRegister a)) 38 tt a h))
+    (λ (h : 38 ≤ a). rw (past-writable a h, past-readable a h, le-ltb a 38 h))
+    (lt-or-le a 38)
+
+-- ---- the list of reset values
+
+pub resets-length : length resets ≡ 38
+unfolding resets
+resets-length = refl
+
+pub resets-at : (a : ℕ) → getD resets a 0 ≡ resetValue a
+unfolding resets resetValue rowOf
+resets-at a = List·getD-map (λ (r : Row). r .reset) table a none

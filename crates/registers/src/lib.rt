@@ -1,0 +1,545 @@
+// The registers: names of addresses and bits, and the table.
+ghost use mathlib.Core.Path.{_≡_};
+ghost use Rattle.registers.specs.Table.{rowOf, resetValue, writeMask, readMask, isWritable, isReadable, isRegister, resets as resetsOf};
+
+// Addresses, by the data sheet's names without their blanks. DACH1 to DACH13 follow DACH0.
+pub const PT0: u8 = 0x00;
+
+pub const PT1: u8 = 0x01;
+
+pub const PT2DIR: u8 = 0x02;
+
+pub const PT2: u8 = 0x03;
+
+pub const PT3: u8 = 0x04;
+
+pub const MDCON: u8 = 0x05;
+
+pub const HVCON: u8 = 0x06;
+
+pub const HCNTL: u8 = 0x07;
+
+pub const HCNTH: u8 = 0x08;
+
+pub const VCNTL: u8 = 0x09;
+
+pub const VCNTH: u8 = 0x0a;
+
+pub const SYNCON: u8 = 0x0b;
+
+pub const ENDAC: u8 = 0x0c;
+
+pub const AD0: u8 = 0x0d;
+
+pub const AD1: u8 = 0x0e;
+
+pub const IEX: u8 = 0x0f;
+
+pub const IRQX: u8 = 0x10;
+
+pub const CLRFLG: u8 = 0x11;
+
+pub const CLRWDT: u8 = 0x12;
+
+pub const IIADR: u8 = 0x13;
+
+pub const IIDAT: u8 = 0x14;
+
+pub const IISTS: u8 = 0x15;
+
+pub const BT: u8 = 0x16;
+
+pub const BTCON: u8 = 0x17;
+
+pub const DACH0: u8 = 0x18;
+
+// Bits, by their weights. Those of MDCON:
+pub const INSEN: u8 = 0x08;
+
+pub const HSEL: u8 = 0x04;
+
+pub const SC: u8 = 0x02;
+
+pub const MD12: u8 = 0x01;
+
+// Those of HVCON:
+pub const HCNTOV: u8 = 0x80;
+
+pub const VCNTOV: u8 = 0x40;
+
+pub const HSYNCI: u8 = 0x20;
+
+pub const VSYNCI: u8 = 0x10;
+
+pub const HPOLI: u8 = 0x08;
+
+pub const VPOLI: u8 = 0x04;
+
+pub const HPOLO: u8 = 0x02;
+
+pub const VPOLO: u8 = 0x01;
+
+// Those of SYNCON:
+pub const ENHALF: u8 = 0x40;
+
+pub const ENH: u8 = 0x02;
+
+pub const ENV: u8 = 0x01;
+
+// Those of ENDAC:
+pub const ENAD1: u8 = 0x80;
+
+pub const ENAD0: u8 = 0x40;
+
+pub const ENDK13: u8 = 0x20;
+
+pub const ENDK12: u8 = 0x10;
+
+pub const ENDK11: u8 = 0x08;
+
+pub const ENDK10: u8 = 0x04;
+
+pub const ENDK9: u8 = 0x02;
+
+pub const ENDK8: u8 = 0x01;
+
+// Those of IEX and IRQX:
+pub const INTS: u8 = 0x20;
+
+pub const INTD: u8 = 0x10;
+
+pub const INTA: u8 = 0x08;
+
+pub const INTR: u8 = 0x04;
+
+pub const INTE: u8 = 0x02;
+
+pub const INTV: u8 = 0x01;
+
+// Those of CLRFLG:
+pub const CLRHOV: u8 = 0x80;
+
+pub const CLRVOV: u8 = 0x40;
+
+// Those of IISTS:
+pub const START: u8 = 0x20;
+
+pub const STOP: u8 = 0x10;
+
+pub const ENDDC: u8 = 0x08;
+
+pub const TRX: u8 = 0x04;
+
+pub const RXAK: u8 = 0x02;
+
+pub const TXAK: u8 = 0x01;
+
+// Those of BTCON:
+pub const TBS: u8 = 0x02;
+
+pub const ENBT: u8 = 0x01;
+
+// What a register is at reset, the bits that a write changes and those that a read shows, and which of the two it takes.
+// A write mask of 00 does not mean that a write is refused.
+pub struct Row {
+    pub reset: u8,
+    pub write: u8,
+    pub read: u8,
+    pub writable: bool,
+    pub readable: bool,
+}
+
+const TABLE: [Row; 38] = [
+    // PT0
+    Row {
+        reset: 0xff,
+        write: 0xff,
+        read: 0xff,
+        writable: true,
+        readable: true,
+    },
+    // PT1
+    Row {
+        reset: 0x7f,
+        write: 0x3f,
+        read: 0x7f,
+        writable: true,
+        readable: true,
+    },
+    // PT2DIR
+    Row {
+        reset: 0xff,
+        write: 0xff,
+        read: 0x00,
+        writable: true,
+        readable: false,
+    },
+    // PT2
+    Row {
+        reset: 0xff,
+        write: 0xff,
+        read: 0xff,
+        writable: true,
+        readable: true,
+    },
+    // PT3
+    Row {
+        reset: 0x03,
+        write: 0x03,
+        read: 0x03,
+        writable: true,
+        readable: true,
+    },
+    // MDCON
+    Row {
+        reset: 0x07,
+        write: 0x0f,
+        read: 0x03,
+        writable: true,
+        readable: true,
+    },
+    // HVCON
+    Row {
+        reset: 0x2f,
+        write: 0x03,
+        read: 0xfc,
+        writable: true,
+        readable: true,
+    },
+    // HCNTL
+    Row {
+        reset: 0x00,
+        write: 0x00,
+        read: 0xff,
+        writable: false,
+        readable: true,
+    },
+    // HCNTH
+    Row {
+        reset: 0x00,
+        write: 0x00,
+        read: 0x0f,
+        writable: false,
+        readable: true,
+    },
+    // VCNTL
+    Row {
+        reset: 0x00,
+        write: 0x00,
+        read: 0xff,
+        writable: false,
+        readable: true,
+    },
+    // VCNTH
+    Row {
+        reset: 0x00,
+        write: 0x00,
+        read: 0x0f,
+        writable: false,
+        readable: true,
+    },
+    // SYNCON
+    Row {
+        reset: 0xff,
+        write: 0xdf,
+        read: 0x00,
+        writable: true,
+        readable: false,
+    },
+    // ENDAC
+    Row {
+        reset: 0xff,
+        write: 0xff,
+        read: 0x00,
+        writable: true,
+        readable: false,
+    },
+    // AD0
+    Row {
+        reset: 0xc0,
+        write: 0x00,
+        read: 0xc0,
+        writable: true,
+        readable: true,
+    },
+    // AD1
+    Row {
+        reset: 0x00,
+        write: 0x00,
+        read: 0x00,
+        writable: false,
+        readable: true,
+    },
+    // IEX
+    Row {
+        reset: 0x00,
+        write: 0x3f,
+        read: 0x00,
+        writable: true,
+        readable: false,
+    },
+    // IRQX
+    Row {
+        reset: 0x00,
+        write: 0x00,
+        read: 0x3f,
+        writable: false,
+        readable: true,
+    },
+    // CLRFLG
+    Row {
+        reset: 0x00,
+        write: 0x00,
+        read: 0x00,
+        writable: true,
+        readable: false,
+    },
+    // CLRWDT
+    Row {
+        reset: 0x00,
+        write: 0x00,
+        read: 0x00,
+        writable: true,
+        readable: false,
+    },
+    // IIADR
+    Row {
+        reset: 0xff,
+        write: 0xfe,
+        read: 0x00,
+        writable: true,
+        readable: false,
+    },
+    // IIDAT
+    Row {
+        reset: 0x00,
+        write: 0xff,
+        read: 0xff,
+        writable: true,
+        readable: true,
+    },
+    // IISTS
+    Row {
+        reset: 0x08,
+        write: 0x0d,
+        read: 0x3e,
+        writable: true,
+        readable: true,
+    },
+    // BT
+    Row {
+        reset: 0x00,
+        write: 0xff,
+        read: 0x00,
+        writable: true,
+        readable: false,
+    },
+    // BTCON
+    Row {
+        reset: 0x03,
+        write: 0x03,
+        read: 0x00,
+        writable: true,
+        readable: false,
+    },
+    // DACH0
+    Row {
+        reset: 0x80,
+        write: 0xff,
+        read: 0xff,
+        writable: true,
+        readable: true,
+    },
+    // DACH1
+    Row {
+        reset: 0x80,
+        write: 0xff,
+        read: 0xff,
+        writable: true,
+        readable: true,
+    },
+    // DACH2
+    Row {
+        reset: 0x80,
+        write: 0xff,
+        read: 0xff,
+        writable: true,
+        readable: true,
+    },
+    // DACH3
+    Row {
+        reset: 0x80,
+        write: 0xff,
+        read: 0xff,
+        writable: true,
+        readable: true,
+    },
+    // DACH4
+    Row {
+        reset: 0x80,
+        write: 0xff,
+        read: 0xff,
+        writable: true,
+        readable: true,
+    },
+    // DACH5
+    Row {
+        reset: 0x80,
+        write: 0xff,
+        read: 0xff,
+        writable: true,
+        readable: true,
+    },
+    // DACH6
+    Row {
+        reset: 0x80,
+        write: 0xff,
+        read: 0xff,
+        writable: true,
+        readable: true,
+    },
+    // DACH7
+    Row {
+        reset: 0x80,
+        write: 0xff,
+        read: 0xff,
+        writable: true,
+        readable: true,
+    },
+    // DACH8
+    Row {
+        reset: 0x80,
+        write: 0xff,
+        read: 0xff,
+        writable: true,
+        readable: true,
+    },
+    // DACH9
+    Row {
+        reset: 0x80,
+        write: 0xff,
+        read: 0xff,
+        writable: true,
+        readable: true,
+    },
+    // DACH10
+    Row {
+        reset: 0x80,
+        write: 0xff,
+        read: 0xff,
+        writable: true,
+        readable: true,
+    },
+    // DACH11
+    Row {
+        reset: 0x80,
+        write: 0xff,
+        read: 0xff,
+        writable: true,
+        readable: true,
+    },
+    // DACH12
+    Row {
+        reset: 0x80,
+        write: 0xff,
+        read: 0xff,
+        writable: true,
+        readable: true,
+    },
+    // DACH13
+    Row {
+        reset: 0x80,
+        write: 0xff,
+        read: 0xff,
+        writable: true,
+        readable: true,
+    },
+];
+
+// The address is that of a register.
+// Wrong answers: false at 25H; true at 26H.
+pub fn is_register(address: u8) -> bool
+    ensures { λ r. ⌜ r ≡ isRegister address ⌝ }
+{
+    address < 38
+}
+
+// The row of an address; one past the table takes neither write nor read.
+// Wrong answers: AD0, of write mask 00, taken for refused; past the table the last row.
+pub fn row_of(address: u8) -> Row
+    ensures { λ r. ⌜ r ≡ rowOf address ⌝ }
+{
+    let i = address as usize;
+    if i < 38 {
+        TABLE[i]
+    } else {
+        Row {
+            reset: 0,
+            write: 0,
+            read: 0,
+            writable: false,
+            readable: false,
+        }
+    }
+}
+
+// The value that a reset gives.
+// Wrong answers: 0FH at MDCON, INSEN as the sheet's text has it; 80H past the table.
+pub fn reset_value(address: u8) -> u8
+    ensures { λ r. ⌜ r ≡ resetValue address ⌝ }
+{
+    let row = row_of(address);
+    row.reset
+}
+
+// The bits that a write changes.
+// Wrong answers: 7FH at PT1, its input P16 with it; FFH wherever a write is taken.
+pub fn write_mask(address: u8) -> u8
+    ensures { λ r. ⌜ r ≡ writeMask address ⌝ }
+{
+    let row = row_of(address);
+    row.write
+}
+
+// The bits that a read shows.
+// Wrong answers: FFH at HVCON, the output polarities with it; FFH at SYNCON, which is not read.
+pub fn read_mask(address: u8) -> u8
+    ensures { λ r. ⌜ r ≡ readMask address ⌝ }
+{
+    let row = row_of(address);
+    row.read
+}
+
+// A write is taken.
+// Wrong answers: false at AD0, since its write mask is 00; true at AD1.
+pub fn writable(address: u8) -> bool
+    ensures { λ r. ⌜ r ≡ isWritable address ⌝ }
+{
+    let row = row_of(address);
+    row.writable
+}
+
+// A read is taken.
+// Wrong answers: false at AD1, since its read mask is 00; true at CLRFLG.
+pub fn readable(address: u8) -> bool
+    ensures { λ r. ⌜ r ≡ isReadable address ⌝ }
+{
+    let row = row_of(address);
+    row.readable
+}
+
+// All registers at reset.
+// Wrong answers: 0 in the last place; each value one place late.
+pub fn resets() -> [u8; 38]
+    ensures { λ r. ⌜ r ≡ resetsOf ⌝ }
+{
+    let mut registers = [0u8; 38];
+    let mut i: u8 = 0;
+    while i < 38 {
+        let value = reset_value(i);
+        let at = i as usize;
+        registers[at] = value;
+        i = i + 1;
+    }
+    registers
+}

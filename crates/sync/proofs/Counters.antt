@@ -1,0 +1,46 @@
+-- HCNT and VCNT count by the laws of `Counting`, for 12 bits.
+use Prim.Native.Nat.{ℕ, zero, suc, _+_, _%_}
+use mathlib.Core.Path.{_≡_, ap}
+use mathlib.Core.Bool.{Bool, false}
+use lib.Dec.{eqb}
+use Rattle.sync.specs.Count.{atLast, steps, cycles}
+use Rattle.sync.specs.Sync.{stepLines, stepsLines, stepPeriods, stepsPeriods, timerOverflows, watchdogFires}
+use Rattle.sync.specs.declared.LineCounter.{LineCounter}
+use Rattle.sync.specs.declared.PeriodCounter.{PeriodCounter}
+use Rattle.sync.proofs.Counting.{cycle-due}
+
+-- the counter of this count and overflow bit, its latch being as it was
+abbrev pub linesAt : LineCounter → ℕ × Bool → LineCounter
+linesAt c p = record { count = record { 0 = p .0 }; latch = c .latch; overflow = p .1 }
+
+abbrev pub periodsAt : PeriodCounter → ℕ × Bool → PeriodCounter
+periodsAt c p = record { count = record { 0 = p .0 }; latch = c .latch; overflow = p .1 }
+
+start : (count : ℕ) (overflow : Bool) → count ≡ 0 → overflow ≡ false → _≡_ {A = ℕ × Bool} (count, overflow) (0, false)
+start count overflow h k = cc
+
+-- n rises of HSYNCI since HCNT was zeroed, no overflow standing
+pub lines-since-zero : (n : ℕ) (c : LineCounter) → c .count .0 ≡ 0 → c .overflow ≡ false → stepsLines n c ≡ linesAt c (steps 4095 n)
+unfolding stepsLines stepLines steps
+lines-since-zero zero c h k = ap (linesAt c) (start _ _ h k)
+lines-since-zero (suc n) c h k = ap stepLines (lines-since-zero n c h k)
+
+-- n clocks of 8 µs since VCNT was zeroed, no overflow standing
+pub periods-since-zero : (n : ℕ) (c : PeriodCounter) → c .count .0 ≡ 0 → c .overflow ≡ false → stepsPeriods n c ≡ periodsAt c (steps 4095 n)
+unfolding stepsPeriods stepPeriods steps
+periods-since-zero zero c h k = ap (periodsAt c) (start _ _ h k)
+periods-since-zero (suc n) c h k = ap stepPeriods (periods-since-zero n c h k)
+
+-- with HSEL 0, every 1,024th clock of 8 µs is the interval's last
+pub interval-due : (n : ℕ) → atLast 1023 (cycles 1023 n) ≡ eqb ((n + 1) % 1024) 0
+interval-due n = cycle-due 1023 n
+
+-- from 00, every 256th step of the base timer sets flag R
+pub timer-due : (n : ℕ) → timerOverflows (cycles 255 n) ≡ eqb ((n + 1) % 256) 0
+unfolding timerOverflows
+timer-due n = cycle-due 255 n
+
+-- every 64th watchdog clock since reset or clearing resets the chip
+pub watchdog-due : (n : ℕ) → watchdogFires (cycles 63 n) ≡ eqb ((n + 1) % 64) 0
+unfolding watchdogFires
+watchdog-due n = cycle-due 63 n

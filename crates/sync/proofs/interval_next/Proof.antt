@@ -1,0 +1,14 @@
+-- `sync::interval_next` meets its contract.
+use borrow.Author.Needs.{needs}
+use Rattle.sync.specs.Sync.{intervalNext}
+use Rattle.sync.proofs.interval_next.Statement.{statement}
+use Rattle.sync.proofs.interval_next.Tie as tie
+
+pub interval-next-spec : {M : Type 1} → statement M
+unfolding intervalNext
+interval-next-spec =
+    tie.close
+    (tie.spec
+    (λ c κs. search needs)
+    (λ c. simp (c .if1 .taken))
+    (λ c. simp (c .cycle-next .ensures, c .before .if1 .left)))

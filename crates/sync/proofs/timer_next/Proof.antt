@@ -1,0 +1,16 @@
+-- `sync::timer_next` meets its contract.
+use borrow.Author.Needs.{needs}
+use borrow.Author.Tests.{lt-ltb, le-ltb}
+use Rattle.sync.specs.Sync.{timerNext}
+use Rattle.sync.specs.Count.{cycleNext}
+use Rattle.sync.proofs.timer_next.Statement.{statement}
+use Rattle.sync.proofs.timer_next.Tie as tie
+
+pub timer-next-spec : {M : Type 1} → statement M
+unfolding cycleNext timerNext
+timer-next-spec =
+    tie.close
+    (tie.spec
+    (λ c. search needs)
+    (λ c. simp (lt-ltb _ _ (c .if1 .taken)))
+    (λ c. simp (le-ltb _ _ (c .if1 .left))))

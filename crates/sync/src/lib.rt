@@ -1,0 +1,315 @@
+// Sync counters HCNT and VCNT with their latches and overflow bits, the interval, the base timer and the watchdog.
+ghost use mathlib.Core.Path.{_≡_};
+ghost use Rattle.sync.specs.Count.{counted as countedOf, overflowed as overflowedOf, latched as latchedOf, zeroed as zeroedOf, cycleNext};
+ghost use Rattle.sync.specs.Sync.{stepLines, latchLines, clearLines, zeroLines, stepPeriods, latchPeriods, clearPeriods, onHsync, linesOnVsync, onVsync, intervalNext, linesOnPeriod, onPeriod, hselCleared, clearOverflow, zeroSync, wellSync, timerNext, timerOverflows, watchdogNext, watchdogFires};
+
+// Lines counted.
+pub struct Lines(pub u16);
+
+// Periods of 8 µs counted.
+pub struct Periods(pub u16);
+
+// HCNT, its latch, and HCNTOV.
+pub struct LineCounter {
+    pub count: Lines,
+    pub latch: Lines,
+    pub overflow: bool,
+}
+
+// VCNT, its latch, and VCNTOV.
+pub struct PeriodCounter {
+    pub count: Periods,
+    pub latch: Periods,
+    pub overflow: bool,
+}
+
+pub struct Sync {
+    pub lines: LineCounter,
+    pub periods: PeriodCounter,
+    pub interval: u16,
+}
+
+// The last value of a counter of 12 bits.
+const COUNT_LAST: u16 = 4095;
+
+// The last value of the interval of 1,024 periods.
+const INTERVAL_LAST: u16 = 1023;
+
+// The count after a step that is due.
+pub fn counted(last: u16, overflow: bool, count: u16) -> u16
+    ensures { λ r. ⌜ r ≡ countedOf last overflow count ⌝ }
+{
+    if overflow {
+        return count;
+    }
+    if count < last { count + 1 } else { count }
+}
+
+// The overflow bit after a step that is due.
+pub fn overflowed(last: u16, overflow: bool, count: u16) -> bool
+    ensures { λ r. ⌜ r ≡ overflowedOf last overflow count ⌝ }
+{
+    overflow | (count >= last)
+}
+
+// The latch after latching.
+pub fn latched(overflow: bool, count: u16, latch: u16) -> u16
+    ensures { λ r. ⌜ r ≡ latchedOf overflow count latch ⌝ }
+{
+    if overflow { latch } else { count }
+}
+
+// The count after latching.
+pub fn zeroed(overflow: bool, count: u16) -> u16
+    ensures { λ r. ⌜ r ≡ zeroedOf overflow count ⌝ }
+{
+    if overflow { count } else { 0 }
+}
+
+// The next value of a count that runs on from 0.
+pub fn cycle_next(last: u16, n: u16) -> u16
+    ensures { λ r. ⌜ r ≡ cycleNext last n ⌝ }
+{
+    if n < last { n + 1 } else { 0 }
+}
+
+// HCNT steps.
+pub fn step_lines(c: LineCounter) -> LineCounter
+    ensures { λ r. ⌜ r ≡ stepLines c ⌝ }
+{
+    let latch = c.latch;
+    LineCounter {
+        count: Lines(counted(COUNT_LAST, c.overflow, c.count.0)),
+        latch,
+        overflow: overflowed(COUNT_LAST, c.overflow, c.count.0),
+    }
+}
+
+// HCNT is latched and zeroed.
+pub fn latch_lines(c: LineCounter) -> LineCounter
+    ensures { λ r. ⌜ r ≡ latchLines c ⌝ }
+{
+    LineCounter {
+        count: Lines(zeroed(c.overflow, c.count.0)),
+        latch: Lines(latched(c.overflow, c.count.0, c.latch.0)),
+        overflow: c.overflow,
+    }
+}
+
+// CLRFLG bit 7.
+pub fn clear_lines(bit: bool, c: LineCounter) -> LineCounter
+    ensures { λ r. ⌜ r ≡ clearLines bit c ⌝ }
+{
+    if bit {
+        let latch = c.latch;
+        LineCounter {
+            count: Lines(0),
+            latch,
+            overflow: false,
+        }
+    } else {
+        c
+    }
+}
+
+// HSEL from 1 to 0.
+pub fn zero_lines(c: LineCounter) -> LineCounter
+    ensures { λ r. ⌜ r ≡ zeroLines c ⌝ }
+{
+    let latch = c.latch;
+    LineCounter {
+        count: Lines(0),
+        latch,
+        overflow: c.overflow,
+    }
+}
+
+// VCNT steps.
+pub fn step_periods(c: PeriodCounter) -> PeriodCounter
+    ensures { λ r. ⌜ r ≡ stepPeriods c ⌝ }
+{
+    let latch = c.latch;
+    PeriodCounter {
+        count: Periods(counted(COUNT_LAST, c.overflow, c.count.0)),
+        latch,
+        overflow: overflowed(COUNT_LAST, c.overflow, c.count.0),
+    }
+}
+
+// VCNT is latched and zeroed.
+pub fn latch_periods(c: PeriodCounter) -> PeriodCounter
+    ensures { λ r. ⌜ r ≡ latchPeriods c ⌝ }
+{
+    PeriodCounter {
+        count: Periods(zeroed(c.overflow, c.count.0)),
+        latch: Periods(latched(c.overflow, c.count.0, c.latch.0)),
+        overflow: c.overflow,
+    }
+}
+
+// CLRFLG bit 6.
+pub fn clear_periods(bit: bool, c: PeriodCounter) -> PeriodCounter
+    ensures { λ r. ⌜ r ≡ clearPeriods bit c ⌝ }
+{
+    if bit {
+        let latch = c.latch;
+        PeriodCounter {
+            count: Periods(0),
+            latch,
+            overflow: false,
+        }
+    } else {
+        c
+    }
+}
+
+// A rise of HSYNCI.
+pub fn on_hsync(s: Sync) -> Sync
+    ensures { λ r. ⌜ r ≡ onHsync s ⌝ }
+{
+    let lines = s.lines;
+    let periods = s.periods;
+    Sync {
+        lines: step_lines(lines),
+        periods,
+        interval: s.interval,
+    }
+}
+
+// HCNT at a rise of VSYNCI.
+pub fn lines_on_vsync(hsel: bool, c: LineCounter) -> LineCounter
+    ensures { λ r. ⌜ r ≡ linesOnVsync hsel c ⌝ }
+{
+    if hsel { latch_lines(c) } else { c }
+}
+
+// A rise of VSYNCI.
+pub fn on_vsync(hsel: bool, s: Sync) -> Sync
+    ensures { λ r. ⌜ r ≡ onVsync hsel s ⌝ }
+{
+    let lines = s.lines;
+    let periods = s.periods;
+    Sync {
+        lines: lines_on_vsync(hsel, lines),
+        periods: latch_periods(periods),
+        interval: s.interval,
+    }
+}
+
+// The interval after an 8 µs clock.
+pub fn interval_next(hsel: bool, n: u16) -> u16
+    ensures { λ r. ⌜ r ≡ intervalNext hsel n ⌝ }
+{
+    if hsel {
+        n
+    } else {
+        cycle_next(INTERVAL_LAST, n)
+    }
+}
+
+// HCNT at an 8 µs clock: the 1,024th ends the interval.
+pub fn lines_on_period(hsel: bool, n: u16, c: LineCounter) -> LineCounter
+    ensures { λ r. ⌜ r ≡ linesOnPeriod hsel n c ⌝ }
+{
+    if hsel {
+        return c;
+    }
+    if n < INTERVAL_LAST { c } else { latch_lines(c) }
+}
+
+// An 8 µs clock.
+pub fn on_period(hsel: bool, s: Sync) -> Sync
+    ensures { λ r. ⌜ r ≡ onPeriod hsel s ⌝ }
+{
+    let lines = s.lines;
+    let periods = s.periods;
+    Sync {
+        lines: lines_on_period(hsel, s.interval, lines),
+        periods: step_periods(periods),
+        interval: interval_next(hsel, s.interval),
+    }
+}
+
+// HSEL has changed from 1 to 0.
+pub fn hsel_cleared(s: Sync) -> Sync
+    ensures { λ r. ⌜ r ≡ hselCleared s ⌝ }
+{
+    let lines = s.lines;
+    let periods = s.periods;
+    Sync {
+        lines: zero_lines(lines),
+        periods,
+        interval: 0,
+    }
+}
+
+// CLRFLG written with these bits 7 and 6.
+pub fn clear_overflow(h: bool, v: bool, s: Sync) -> Sync
+    ensures { λ r. ⌜ r ≡ clearOverflow h v s ⌝ }
+{
+    let lines = s.lines;
+    let periods = s.periods;
+    Sync {
+        lines: clear_lines(h, lines),
+        periods: clear_periods(v, periods),
+        interval: s.interval,
+    }
+}
+
+// All zero, as after a reset.
+pub fn zero_sync() -> Sync
+    ensures { λ r. ⌜ r ≡ zeroSync ⌝ }
+{
+    Sync {
+        lines: LineCounter {
+            count: Lines(0),
+            latch: Lines(0),
+            overflow: false,
+        },
+        periods: PeriodCounter {
+            count: Periods(0),
+            latch: Periods(0),
+            overflow: false,
+        },
+        interval: 0,
+    }
+}
+
+// Counts, latches and interval are within their ranges.
+pub fn well_sync(s: Sync) -> bool
+    ensures { λ r. ⌜ r ≡ wellSync s ⌝ }
+{
+    (s.lines.count.0 < 4096)
+        & (s.lines.latch.0 < 4096)
+        & (s.periods.count.0 < 4096)
+        & (s.periods.latch.0 < 4096)
+        & (s.interval < 1024)
+}
+
+// The base timer after its clock.
+pub fn timer_next(n: u8) -> u8
+    ensures { λ r. ⌜ r ≡ timerNext n ⌝ }
+{
+    if n < 255 { n + 1 } else { 0 }
+}
+
+// The base timer's clock sets flag R.
+pub fn timer_overflows(n: u8) -> bool
+    ensures { λ r. ⌜ r ≡ timerOverflows n ⌝ }
+{
+    n >= 255
+}
+
+// The watchdog after its clock.
+pub fn watchdog_next(n: u8) -> u8
+    ensures { λ r. ⌜ r ≡ watchdogNext n ⌝ }
+{
+    if n < 63 { n + 1 } else { 0 }
+}
+
+// The watchdog's clock resets the chip.
+pub fn watchdog_fires(n: u8) -> bool
+    ensures { λ r. ⌜ r ≡ watchdogFires n ⌝ }
+{
+    n >= 63
+}

@@ -1,0 +1,14 @@
+-- `writes::bt_written` meets its contract.
+-- Assumes nothing.
+use Rattle.writes.specs.Writes.{writtenTo}
+use borrow.Author.Needs.{needs}
+use Rattle.writes.proofs.bt_written.Statement.{statement}
+use Rattle.writes.proofs.bt_written.Tie as tie
+
+pub bt-written-spec : {M : Type 1} → statement M
+unfolding writtenTo
+bt-written-spec =
+    tie.close
+    (tie.spec
+    (λ c κs. search needs)
+    (λ c. simp (c .updated .ensures)))

@@ -1,0 +1,16 @@
+-- `writes::clrflg_written` meets its contract.
+-- Assumes nothing.
+use Rattle.writes.specs.Writes.{clrflgWritten}
+use borrow.Author.Needs.{needs}
+use Rattle.writes.proofs.clrflg_written.Statement.{statement}
+use Rattle.writes.proofs.clrflg_written.Tie as tie
+
+pub clrflg-written-spec : {M : Type 1} → statement M
+unfolding clrflgWritten
+clrflg-written-spec =
+    tie.close
+    (tie.spec
+    (λ c κs. search needs)
+    (λ c κs. search needs)
+    (λ c κs. search needs)
+    (λ c. simp (c .clear-overflow .ensures, c .before .bit2 .ensures, c .before .before .bit .ensures)))

@@ -1,0 +1,14 @@
+-- `writes::clrwdt_written` meets its contract.
+-- Assumes nothing.
+use borrow.Author.Tests.{eq-eqb, ne-eqb}
+use Rattle.writes.specs.Writes.{clrwdtWritten}
+use Rattle.writes.proofs.clrwdt_written.Statement.{statement}
+use Rattle.writes.proofs.clrwdt_written.Tie as tie
+
+pub clrwdt-written-spec : {M : Type 1} → statement M
+unfolding clrwdtWritten
+clrwdt-written-spec =
+    tie.close
+    (tie.spec
+    (λ c. simp (eq-eqb _ _ (c .if1 .taken)))
+    (λ c. simp (ne-eqb _ _ (c .if1 .left))))

@@ -1,0 +1,14 @@
+-- `writes::iidat_written` meets its contract.
+-- Assumes nothing.
+use Rattle.writes.specs.Writes.{iidatWritten}
+use borrow.Author.Needs.{needs}
+use Rattle.writes.proofs.iidat_written.Statement.{statement}
+use Rattle.writes.proofs.iidat_written.Tie as tie
+
+pub iidat-written-spec : {M : Type 1} → statement M
+unfolding iidatWritten
+iidat-written-spec =
+    tie.close
+    (tie.spec
+    (λ c κs. search needs)
+    (λ c. simp (c .bus-at-iidat .ensures)))

@@ -1,0 +1,259 @@
+// Register writes.
+ghost use mathlib.Core.Path.{_≡_};
+ghost use Rattle.writes.specs.Writes.{target, updated as updatedOf, storedWritten, syncAtHsel, mdconWritten, clrflgWritten, clrwdtWritten, iiadrWritten, statusWritten, iistsWritten, withIidat, busLetGo, busRisen, busAtIidat, iidatWritten, writtenTo, written as writtenOf, writeNumber, writeRegister};
+use chip::Bus;
+use chip::Chip;
+use sync::Sync;
+
+// What a register's write does beside or instead of storing under the mask.
+pub enum Target {
+    Stored,
+    Mdcon,
+    Hvcon,
+    Clrflg,
+    Clrwdt,
+    Iiadr,
+    Iidat,
+    Iists,
+    Bt,
+}
+
+// What a write to a register does.
+pub fn target_of(a: u8) -> Target
+    ensures { λ r. ⌜ r ≡ target a ⌝ }
+{
+    match a {
+        0x05 => Target::Mdcon,
+        0x06 => Target::Hvcon,
+        0x11 => Target::Clrflg,
+        0x12 => Target::Clrwdt,
+        0x13 => Target::Iiadr,
+        0x14 => Target::Iidat,
+        0x15 => Target::Iists,
+        0x16 => Target::Bt,
+        _ => Target::Stored,
+    }
+}
+
+// The byte that a write leaves.
+fn updated(a: u8, old: u8, b: u8) -> u8
+    ensures { λ r. ⌜ r ≡ updatedOf a old b ⌝ }
+{
+    bits::merge(registers::write_mask(a), old, b)
+}
+
+fn stored_written(c: Chip, a: u8, b: u8) -> Chip
+    ensures { λ r. ⌜ r ≡ storedWritten c a b ⌝ }
+{
+    let value = updated(a, chip::register_at(c, a), b);
+    let i = a as usize;
+    if i < 38 {
+        let mut n = c;
+        n.registers[i] = value;
+        n
+    } else {
+        c
+    }
+}
+
+fn sync_at_hsel(old: bool, new: bool, s: Sync) -> Sync
+    ensures { λ r. ⌜ r ≡ syncAtHsel old new s ⌝ }
+{
+    if old {
+        if new { s } else { sync::hsel_cleared(s) }
+    } else {
+        s
+    }
+}
+
+fn mdcon_written(c: Chip, b: u8) -> Chip
+    ensures { λ r. ⌜ r ≡ mdconWritten c b ⌝ }
+{
+    let old = c.mdcon;
+    let new = updated(0x05, old, b);
+    let counters = c.sync;
+    let lines = c.bus;
+    let mut n = c;
+    n.mdcon = new;
+    let after = sync_at_hsel(bits::bit(2, old), bits::bit(2, new), counters);
+    n.sync = after;
+    let released = lines::bus_at_mode(
+        bus::mode_of(lines.iists, old),
+        bus::mode_of(lines.iists, new),
+        lines,
+    );
+    n.bus = released;
+    n
+}
+
+fn clrflg_written(c: Chip, b: u8) -> Chip
+    ensures { λ r. ⌜ r ≡ clrflgWritten c b ⌝ }
+{
+    let counters = c.sync;
+    let mut n = c;
+    n.irqx = n.irqx & !b;
+    let after = sync::clear_overflow(bits::bit(7, b), bits::bit(6, b), counters);
+    n.sync = after;
+    n
+}
+
+fn clrwdt_written(c: Chip, b: u8) -> Chip
+    ensures { λ r. ⌜ r ≡ clrwdtWritten c b ⌝ }
+{
+    if b == 0x55 {
+        let mut n = c;
+        n.watchdog = 0;
+        n
+    } else {
+        c
+    }
+}
+
+fn iiadr_written(c: Chip, b: u8) -> Chip
+    ensures { λ r. ⌜ r ≡ iiadrWritten c b ⌝ }
+{
+    let mut n = c;
+    let value = updated(0x13, c.bus.iiadr, b);
+    n.bus.iiadr = value;
+    n
+}
+
+fn status_written(old: u8, b: u8) -> u8
+    ensures { λ r. ⌜ r ≡ statusWritten old b ⌝ }
+{
+    updated(0x15, old, b) & (b | 0xcf)
+}
+
+fn iists_written(c: Chip, b: u8) -> Chip
+    ensures { λ r. ⌜ r ≡ iistsWritten c b ⌝ }
+{
+    let mut lines = c.bus;
+    let old = lines.iists;
+    let new = status_written(old, b);
+    lines.iists = new;
+    let after = lines::bus_at_mode(
+        bus::mode_of(old, c.mdcon),
+        bus::mode_of(new, c.mdcon),
+        lines,
+    );
+    let mut n = c;
+    n.bus = after;
+    n
+}
+
+fn with_iidat(b: u8, lines: Bus) -> Bus
+    ensures { λ r. ⌜ r ≡ withIidat b lines ⌝ }
+{
+    let mut n = lines;
+    n.iidat = updated(0x14, n.iidat, b);
+    n
+}
+
+fn bus_let_go(b: u8, lines: Bus) -> Bus
+    ensures { λ r. ⌜ r ≡ busLetGo b lines ⌝ }
+{
+    let shifter = lines.shifter;
+    Bus {
+        iists: lines.iists,
+        iiadr: lines.iiadr,
+        iidat: updated(0x14, lines.iidat, b),
+        phase: bus::phase_let_go(bits::bit(2, lines.iists), b),
+        shifter: shifter,
+    }
+}
+
+fn bus_risen(scl: bool, sda: bool, lines: Bus) -> Bus
+    ensures { λ r. ⌜ r ≡ busRisen scl sda lines ⌝ }
+{
+    if scl {
+        lines::bus_at_rise(lines::sda_line(lines, sda), lines)
+    } else {
+        lines
+    }
+}
+
+fn bus_at_iidat(scl: bool, sda: bool, b: u8, lines: Bus) -> Bus
+    ensures { λ r. ⌜ r ≡ busAtIidat scl sda b lines ⌝ }
+{
+    let phase = lines.phase;
+    if bus::pulls_scl(phase) {
+        bus_risen(scl, sda, bus_let_go(b, lines))
+    } else {
+        with_iidat(b, lines)
+    }
+}
+
+fn iidat_written(c: Chip, b: u8) -> Chip
+    ensures { λ r. ⌜ r ≡ iidatWritten c b ⌝ }
+{
+    let lines = c.bus;
+    let after = bus_at_iidat(c.scl, c.sda, b, lines);
+    let mut n = c;
+    n.bus = after;
+    n
+}
+
+fn written_to(t: Target, c: Chip, a: u8, b: u8) -> Chip
+    ensures { λ r. ⌜ r ≡ writtenTo t c a b ⌝ }
+{
+    match t {
+        Target::Stored => stored_written(c, a, b),
+        Target::Mdcon => mdcon_written(c, b),
+        Target::Hvcon => hvcon_written(c, b),
+        Target::Clrflg => clrflg_written(c, b),
+        Target::Clrwdt => clrwdt_written(c, b),
+        Target::Iiadr => iiadr_written(c, b),
+        Target::Iidat => iidat_written(c, b),
+        Target::Iists => iists_written(c, b),
+        Target::Bt => bt_written(c, b),
+    }
+}
+
+fn hvcon_written(c: Chip, b: u8) -> Chip
+    ensures { λ r. ⌜ r ≡ writtenTo Target.Hvcon c 0x06 b ⌝ }
+{
+    let mut n = c;
+    n.polarity = updated(0x06, c.polarity, b);
+    n
+}
+
+fn bt_written(c: Chip, b: u8) -> Chip
+    ensures { λ r. ⌜ r ≡ writtenTo Target.Bt c 0x16 b ⌝ }
+{
+    let mut n = c;
+    n.bt = updated(0x16, c.bt, b);
+    n
+}
+
+// The chip after a write that is taken.
+pub fn written(c: Chip, a: u8, b: u8) -> Chip
+    ensures { λ r. ⌜ r ≡ writtenOf c a b ⌝ }
+{
+    written_to(target_of(a), c, a, b)
+}
+
+// The number of a write: 0 where it is taken.
+pub fn write_number(c: Chip, a: u8) -> u8
+    ensures { λ r. ⌜ r ≡ writeNumber c a ⌝ }
+{
+    if c.reset {
+        if registers::writable(a) { 0 } else { 6 }
+    } else {
+        4
+    }
+}
+
+// The chip after a write, taken or refused.
+pub fn write_register(c: Chip, a: u8, b: u8) -> Chip
+    ensures { λ r. ⌜ r ≡ writeRegister c a b ⌝ }
+{
+    if c.reset {
+        if registers::writable(a) {
+            written(c, a, b)
+        } else {
+            c
+        }
+    } else {
+        c
+    }
+}

@@ -1,0 +1,176 @@
+//! A second, independent model of the NT6861 peripherals, for comparison by running.
+//!
+//! It is written from document 01 alone and shares nothing with the proved code. One program reads
+//! words and answers them, makes seeded words, and compares another program's answers with its own.
+
+mod chip;
+mod coverage;
+#[cfg(test)]
+mod tests;
+mod traffic;
+
+use chip::Chip;
+use std::fs;
+use std::hint::black_box;
+use std::io::{self, Read, Write};
+use std::process::ExitCode;
+use std::time::Instant;
+use traffic::Traffic;
+
+const USAGE: &str = "usage:
+  model answers                          words on standard input, answers on standard output
+  model words SEED COUNT [TAIL]          generated words, then TAIL (0..3) bytes more
+  model compare SEED COUNT FILE [TAIL]   the lines of FILE against this model's answers;
+                                         the place of a difference counts from 0
+  model coverage SEED COUNT              what the generated words do
+  model time COUNT                       speed of the step";
+
+fn main() -> ExitCode {
+    let arguments: Vec<String> = std::env::args().skip(1).collect();
+    let arguments: Vec<&str> = arguments.iter().map(String::as_str).collect();
+    let outcome = match arguments[..] {
+        ["answers"] => answers(),
+        ["words", seed, count] => words(seed, count, "0"),
+        ["words", seed, count, tail] => words(seed, count, tail),
+        ["compare", seed, count, file] => compare(seed, count, file, "0"),
+        ["compare", seed, count, file, tail] => compare(seed, count, file, tail),
+        ["coverage", seed, count] => coverage(seed, count),
+        ["time", count] => time(count),
+        _ => Err(USAGE.to_string()),
+    };
+    match outcome {
+        Ok(true) => ExitCode::SUCCESS,
+        Ok(false) => ExitCode::from(1),
+        Err(message) => {
+            eprintln!("{message}");
+            ExitCode::from(2)
+        }
+    }
+}
+
+fn number<T: std::str::FromStr>(text: &str) -> Result<T, String> {
+    text.parse()
+        .map_err(|_| format!("not a number in range: {text}\n{USAGE}"))
+}
+
+fn tail_length(text: &str) -> Result<usize, String> {
+    match number(text)? {
+        tail @ 0..=3 => Ok(tail),
+        _ => Err(format!("TAIL is 0..3\n{USAGE}")),
+    }
+}
+
+fn print_bytes(bytes: &[u8]) -> Result<bool, String> {
+    let mut out = io::stdout().lock();
+    out.write_all(bytes)
+        .and_then(|()| out.flush())
+        .map_err(|error| error.to_string())?;
+    Ok(true)
+}
+
+fn push_line(out: &mut Vec<u8>, answer: u32) {
+    const DIGITS: &[u8; 16] = b"0123456789ABCDEF";
+    for place in (0..8).rev() {
+        out.push(DIGITS[(answer >> (4 * place) & 0xF) as usize]);
+    }
+    out.push(b'\n');
+}
+
+/// The answers to a stream of bytes, one a line, from a fresh chip.
+pub fn replay(bytes: &[u8]) -> Vec<u8> {
+    let mut chip = Chip::fresh();
+    let mut out = Vec::with_capacity(bytes.len() / 4 * 9 + 9);
+    let words = bytes.chunks_exact(4);
+    let leftover = !words.remainder().is_empty();
+    for word in words {
+        push_line(
+            &mut out,
+            chip.step(u32::from_le_bytes([word[0], word[1], word[2], word[3]])),
+        );
+    }
+    if leftover {
+        push_line(&mut out, chip.answer_to_leftover());
+    }
+    out
+}
+
+fn answers() -> Result<bool, String> {
+    let mut bytes = Vec::new();
+    io::stdin()
+        .lock()
+        .read_to_end(&mut bytes)
+        .map_err(|error| error.to_string())?;
+    print_bytes(&replay(&bytes))
+}
+
+fn generate(seed: u64, count: usize, tail: usize) -> Vec<u8> {
+    let mut bytes = Vec::with_capacity(4 * count + tail);
+    for word in Traffic::new(seed).take(count) {
+        bytes.extend(word.to_le_bytes());
+    }
+    // Any bytes will do; these would begin a read of IRQX.
+    bytes.extend(&[0x00, 0x10, 0x00][..tail]);
+    bytes
+}
+
+fn words(seed: &str, count: &str, tail: &str) -> Result<bool, String> {
+    print_bytes(&generate(number(seed)?, number(count)?, tail_length(tail)?))
+}
+
+fn compare(seed: &str, count: &str, file: &str, tail: &str) -> Result<bool, String> {
+    let (seed, count, tail): (u64, usize, usize) =
+        (number(seed)?, number(count)?, tail_length(tail)?);
+    let theirs = fs::read(file).map_err(|error| format!("{file}: {error}"))?;
+    let bytes = generate(seed, count, tail);
+    let ours = replay(&bytes);
+    if ours == theirs {
+        println!("agree: {count} words, seed {seed}");
+        return Ok(true);
+    }
+    let our_lines: Vec<&[u8]> = ours.split_inclusive(|&byte| byte == b'\n').collect();
+    let their_lines: Vec<&[u8]> = theirs.split_inclusive(|&byte| byte == b'\n').collect();
+    let place = our_lines
+        .iter()
+        .zip(&their_lines)
+        .take_while(|(our, their)| our == their)
+        .count();
+    let show = |lines: &[&[u8]]| match lines.get(place) {
+        Some(line) => {
+            let (text, end) = match line.strip_suffix(b"\n") {
+                Some(text) => (text, ""),
+                None => (*line, " (no newline)"),
+            };
+            format!("{}{end}", String::from_utf8_lossy(text).escape_debug())
+        }
+        None => "(no line)".to_string(),
+    };
+    let word = match bytes.chunks(4).nth(place) {
+        Some(&[a, b, c, d]) => format!("{:08X}", u32::from_le_bytes([a, b, c, d])),
+        Some(_) => "(left-over bytes)".to_string(),
+        None => "(past the end)".to_string(),
+    };
+    println!("differ: seed {seed}, place {place}, word {word}");
+    println!("  model: {}", show(&our_lines));
+    println!("  file:  {}", show(&their_lines));
+    Ok(false)
+}
+
+fn coverage(seed: &str, count: &str) -> Result<bool, String> {
+    Ok(coverage::report(number(seed)?, number(count)?))
+}
+
+fn time(count: &str) -> Result<bool, String> {
+    let words: Vec<u32> = Traffic::new(1).take(number(count)?).collect();
+    let mut chip = Chip::fresh();
+    let begin = Instant::now();
+    for &word in &words {
+        black_box(chip.step(black_box(word)));
+    }
+    let seconds = begin.elapsed().as_secs_f64();
+    println!(
+        "{} words in {seconds:.4} s: {:.0} words per second",
+        words.len(),
+        words.len() as f64 / seconds
+    );
+    Ok(true)
+}

@@ -1,0 +1,904 @@
+//! The cases of document 01, more worked out from its rules, and checks of the generator.
+
+use crate::chip::{flag, pin, Chip, Counter, Phase};
+use crate::traffic::Traffic;
+use crate::{coverage, generate, replay};
+
+/// A chip with calls for events that must not be refused.
+struct Rig(Chip);
+
+impl Rig {
+    fn new() -> Rig {
+        Rig(Chip::fresh())
+    }
+
+    fn raw(&mut self, word: u32) -> u32 {
+        self.0.step(word)
+    }
+
+    fn done(&mut self, word: u32) -> u32 {
+        let answer = self.0.step(word);
+        assert_eq!(answer >> 24, 0, "word {word:08X} answered {answer:08X}");
+        answer
+    }
+
+    fn read(&mut self, register: u8) -> u8 {
+        self.done(u32::from_be_bytes([1, 0, register, 0])) as u8
+    }
+
+    fn write(&mut self, register: u8, byte: u8) {
+        self.done(u32::from_be_bytes([2, 0, register, byte]));
+    }
+
+    fn pin(&mut self, pin: u8, level: u8) -> u32 {
+        self.done(u32::from_be_bytes([3, 0, pin, level]))
+    }
+
+    fn clock(&mut self, which: u8) -> u32 {
+        self.done(u32::from_be_bytes([4, 0, which, 0]))
+    }
+
+    fn clocks(&mut self, which: u8, count: u32) {
+        for _ in 0..count {
+            self.clock(which);
+        }
+    }
+
+    fn rises(&mut self, pin: u8, count: u32) {
+        for _ in 0..count {
+            self.pin(pin, 0);
+            self.pin(pin, 1);
+        }
+    }
+
+    fn flags(&mut self) -> u8 {
+        self.read(0x10)
+    }
+
+    fn clear_flags(&mut self) {
+        self.write(0x11, 0x3F);
+    }
+
+    fn h_latch(&mut self) -> u16 {
+        u16::from_be_bytes([self.read(0x08), self.read(0x07)])
+    }
+
+    fn v_latch(&mut self) -> u16 {
+        u16::from_be_bytes([self.read(0x0A), self.read(0x09)])
+    }
+
+    fn ddc2b() -> Rig {
+        let mut rig = Rig::new();
+        rig.write(0x05, 0x06);
+        rig.write(0x15, 0x00);
+        rig
+    }
+
+    fn scl(&mut self, level: u8) {
+        self.pin(pin::SCL, level);
+    }
+
+    fn sda(&mut self, level: u8) {
+        self.pin(pin::SDA, level);
+    }
+
+    /// Both lines high to begin with; ends with SCL low.
+    fn start(&mut self) {
+        self.sda(1);
+        self.scl(1);
+        self.sda(0);
+        self.scl(0);
+    }
+
+    fn bits(&mut self, byte: u8, count: u32) {
+        for place in (8 - count..8).rev() {
+            self.sda(byte >> place & 1);
+            self.scl(1);
+            self.scl(0);
+        }
+    }
+
+    fn ninth_clock(&mut self, sda: u8) {
+        self.sda(sda);
+        self.scl(1);
+        self.scl(0);
+    }
+
+    fn send(&mut self, byte: u8) {
+        self.bits(byte, 8);
+        self.ninth_clock(1);
+    }
+
+    /// Addressed at A1H and held, ready for a byte out.
+    fn addressed_for_read() -> Rig {
+        let mut rig = Rig::ddc2b();
+        rig.start();
+        rig.send(0xA1);
+        rig.write(0x15, 0x04);
+        rig.clear_flags();
+        rig
+    }
+}
+
+// The cases named in document 01.
+
+#[test]
+fn replay_case() {
+    let words: [u32; 7] = [
+        0x01000600, 0x02000F01, 0x03001B00, 0x03001B01, 0x01001000, 0x02002600, 0x02001101,
+    ];
+    let bytes: Vec<u8> = words.iter().flat_map(|word| word.to_le_bytes()).collect();
+    let lines = "0000003C\n00000000\n00000000\n00000100\n00000101\n02000100\n00000000\n";
+    assert_eq!(replay(&bytes), lines.as_bytes());
+}
+
+#[test]
+fn p1_mdcon() {
+    assert_eq!(Rig::new().read(0x05), 0x03);
+}
+
+#[test]
+fn p2_last_register() {
+    let mut rig = Rig::new();
+    assert_eq!(rig.read(0x25), 0x80);
+    assert_eq!(rig.raw(0x01002600), 0x02000000);
+}
+
+#[test]
+fn p3_p16_requests() {
+    let mut rig = Rig::new();
+    rig.write(0x0F, 0xFF);
+    assert_eq!(rig.pin(pin::P16, 0), 0x00000000);
+    assert_eq!(rig.pin(pin::P16, 1), 0x00000200);
+}
+
+#[test]
+fn p4_base_timer() {
+    let mut rig = Rig::new();
+    rig.write(0x16, 0xFE);
+    rig.write(0x17, 0x00);
+    rig.clock(1);
+    assert_eq!(rig.flags(), 0);
+    rig.clock(1);
+    assert_eq!(rig.flags(), flag::R);
+}
+
+#[test]
+fn p5_watchdog() {
+    let mut rig = Rig::new();
+    rig.write(0x18, 0x12);
+    for _ in 0..63 {
+        assert_eq!(rig.clock(3), 0);
+    }
+    assert_eq!(rig.read(0x18), 0x12);
+    assert_eq!(rig.clock(3), 0x00010000);
+    assert_eq!(rig.0, Chip::fresh());
+}
+
+#[test]
+fn p6_wrong_byte_clears_nothing() {
+    let mut rig = Rig::new();
+    rig.clocks(3, 40);
+    rig.write(0x12, 0x54);
+    rig.clocks(3, 23);
+    assert_eq!(rig.clock(3), 0x00010000);
+    rig.clocks(3, 40);
+    rig.write(0x12, 0x55);
+    rig.clocks(3, 63);
+    assert_eq!(rig.clock(3), 0x00010000);
+}
+
+#[test]
+fn p7_vcnt_overflow() {
+    let mut rig = Rig::new();
+    rig.clocks(0, 4095);
+    assert_eq!(
+        rig.0.vcnt,
+        Counter {
+            count: 4095,
+            latch: 0,
+            overflow: false
+        }
+    );
+    rig.clock(0);
+    assert_eq!(
+        rig.0.vcnt,
+        Counter {
+            count: 4095,
+            latch: 0,
+            overflow: true
+        }
+    );
+    assert_eq!(rig.read(0x06), 0x7C);
+}
+
+#[test]
+fn p8_address_a1() {
+    let mut rig = Rig::ddc2b();
+    rig.start();
+    rig.bits(0xA1, 7);
+    assert_eq!(rig.flags() & flag::A, 0);
+    rig.sda(1);
+    rig.scl(1);
+    assert_eq!(rig.flags() & flag::A, flag::A);
+    assert_eq!(rig.read(0x14), 0xA1);
+}
+
+#[test]
+fn p9_addresses_a2_and_fe() {
+    for (address, expected) in [(0xA2, 0), (0xFE, flag::A)] {
+        let mut rig = Rig::ddc2b();
+        rig.start();
+        rig.bits(address, 8);
+        assert_eq!(rig.flags() & flag::A, expected);
+    }
+}
+
+#[test]
+fn p10_ddc1_loads() {
+    let mut rig = Rig::new();
+    rig.write(0x15, 0x00);
+    let mut loads = Vec::new();
+    for rise in 1..=27 {
+        rig.clear_flags();
+        rig.rises(pin::VSYNCI, 1);
+        if rig.flags() & flag::D != 0 {
+            loads.push(rise);
+        }
+    }
+    assert_eq!(loads, [10, 19]);
+}
+
+// Refusals.
+
+#[test]
+fn refusals_in_order() {
+    let mut rig = Rig::new();
+    rig.write(0x0F, 0x02);
+    rig.rises(pin::P16, 1);
+    let before = rig.0;
+    for (word, number) in [
+        (0x00000000, 1),
+        (0x06000000, 1),
+        (0x010100FF, 1),
+        (0x018026FF, 1),
+        (0x010026FF, 2),
+        (0x02002600, 2),
+        (0x03000F02, 2),
+        (0x03001D00, 2),
+        (0x04000401, 2),
+        (0x05000202, 2),
+        (0x01000001, 3),
+        (0x03001C02, 3),
+        (0x04000301, 3),
+        (0x05000102, 3),
+        (0x01000201, 3),
+        (0x01000200, 5),
+        (0x01001100, 5),
+        (0x01001700, 5),
+        (0x02000700, 6),
+        (0x02000EFF, 6),
+        (0x020010FF, 6),
+    ] {
+        assert_eq!(rig.raw(word), number << 24 | 0x0200, "word {word:08X}");
+        assert_eq!(rig.0, before);
+    }
+}
+
+#[test]
+fn registers_by_their_masks() {
+    // Address, reset value read, value read after writing FF and after writing 00.
+    for (register, reset, ones, zeros) in [
+        (0x00, 0xFF, 0xFF, 0x00),
+        (0x01, 0x7F, 0x7F, 0x40),
+        (0x03, 0xFF, 0xFF, 0x00),
+        (0x04, 0x03, 0x03, 0x00),
+        (0x05, 0x03, 0x03, 0x00),
+        (0x06, 0x3C, 0x3C, 0x3C),
+        (0x0D, 0xC0, 0xC0, 0xC0),
+        (0x14, 0x00, 0xFF, 0x00),
+        (0x15, 0x08, 0x0C, 0x00),
+        (0x18, 0x80, 0xFF, 0x00),
+        (0x25, 0x80, 0xFF, 0x00),
+    ] {
+        let mut rig = Rig::new();
+        assert_eq!(rig.read(register), reset, "register {register:02X}");
+        rig.write(register, 0xFF);
+        assert_eq!(rig.read(register), ones, "register {register:02X}");
+        rig.write(register, 0x00);
+        assert_eq!(rig.read(register), zeros, "register {register:02X}");
+    }
+    for register in [0x02, 0x0B, 0x0C, 0x0F, 0x11, 0x12, 0x13, 0x16, 0x17] {
+        assert_eq!(Rig::new().raw(0x01000000 | register << 8) >> 24, 5);
+        assert_eq!(Rig::new().raw(0x02000000 | register << 8) >> 24, 0);
+    }
+    for register in [0x07, 0x08, 0x09, 0x0A, 0x0E, 0x10] {
+        assert_eq!(Rig::new().raw(0x01000000 | register << 8), 0);
+        assert_eq!(Rig::new().raw(0x02000000 | register << 8) >> 24, 6);
+    }
+}
+
+#[test]
+fn reset_low() {
+    let mut rig = Rig::new();
+    rig.write(0x0F, 0x3F);
+    rig.rises(pin::P16, 1);
+    assert_eq!(rig.pin(pin::RESET, 0), 0);
+    let mut expected = Chip::fresh();
+    expected.levels &= !(1 << pin::RESET);
+    assert_eq!(rig.0, expected);
+    // Refused for reset before being refused for direction; not before a bad operand.
+    assert_eq!(rig.raw(0x01000200), 0x04000000);
+    assert_eq!(rig.raw(0x02000700), 0x04000000);
+    assert_eq!(rig.raw(0x01000001), 0x03000000);
+    rig.pin(pin::P16, 0);
+    rig.pin(pin::VSYNCI, 0);
+    rig.pin(pin::P16, 1);
+    rig.pin(pin::VSYNCI, 1);
+    rig.pin(pin::HSYNCI, 0);
+    rig.clocks(3, 200);
+    rig.clocks(0, 5);
+    rig.done(0x05000000);
+    rig.pin(pin::RESET, 0);
+    expected.levels &= !(1 << pin::HSYNCI);
+    assert_eq!(rig.0, expected);
+    rig.pin(pin::RESET, 1);
+    assert_eq!(rig.flags(), 0);
+    assert_eq!(rig.read(0x06), 0x1C);
+}
+
+#[test]
+fn left_over_bytes() {
+    let mut bytes: Vec<u8> = [0x02000F02u32, 0x03000E00, 0x03000E01]
+        .iter()
+        .flat_map(|word| word.to_le_bytes())
+        .collect();
+    bytes.push(0);
+    assert_eq!(replay(&bytes), b"00000000\n00000000\n00000200\n01000200\n");
+    assert_eq!(replay(&[1, 2, 3]), b"01000000\n");
+    assert_eq!(replay(&[]), b"");
+}
+
+// Ports, flags, timer.
+
+#[test]
+fn port_reads() {
+    let mut rig = Rig::new();
+    for pin in (0..15).chain(16..26) {
+        rig.pin(pin, 0);
+    }
+    assert_eq!(
+        [rig.read(0), rig.read(1), rig.read(3), rig.read(4)],
+        [0, 0, 0xFF, 0]
+    );
+    rig.write(0x02, 0xF0);
+    assert_eq!(rig.read(3), 0xF0);
+    // Given away: P02 to DAC10, P06 and P07 to the sync outputs, P11 to A/D, P12 and P13 to half.
+    rig.write(0x0C, !0x84);
+    rig.write(0x0B, !0x03);
+    assert_eq!([rig.read(0), rig.read(1)], [0xC4, 0x02]);
+    rig.write(0x0B, !0x41);
+    assert_eq!([rig.read(0), rig.read(1)], [0x44, 0x0E]);
+    rig.write(0x15, 0x00);
+    assert_eq!(rig.read(4), 0x03);
+    rig.write(0x04, 0x02);
+    assert_eq!(rig.read(4), 0x02);
+    // P16 shows its level, whatever is written.
+    rig.pin(pin::P16, 1);
+    rig.write(0x01, 0x00);
+    assert_eq!(rig.read(1), 0x40);
+}
+
+#[test]
+fn flags_do_not_wait_for_enable() {
+    let mut rig = Rig::new();
+    rig.rises(pin::VSYNCI, 1);
+    rig.rises(pin::P16, 1);
+    assert_eq!(rig.flags(), flag::V | flag::E);
+    assert_eq!(rig.raw(0x02000FC2), 0x00000200);
+    assert_eq!(rig.raw(0x02001102), 0x00000000);
+    assert_eq!(rig.flags(), flag::V);
+    // Present level again: nothing.
+    rig.clear_flags();
+    rig.pin(pin::VSYNCI, 1);
+    rig.pin(pin::P16, 1);
+    assert_eq!(rig.flags(), 0);
+}
+
+#[test]
+fn base_timer_clock_select() {
+    let mut rig = Rig::new();
+    rig.clocks(2, 300);
+    rig.write(0x17, 0x02);
+    rig.write(0x16, 0xFF);
+    rig.clocks(1, 3);
+    rig.write(0x16, 0x00);
+    assert_eq!(rig.flags(), 0);
+    rig.clocks(2, 255);
+    assert_eq!(rig.flags(), 0);
+    rig.clock(2);
+    assert_eq!(rig.flags(), flag::R);
+    rig.clear_flags();
+    rig.clocks(2, 255);
+    assert_eq!(rig.flags(), 0);
+    rig.clock(2);
+    assert_eq!(rig.flags(), flag::R);
+}
+
+// Sync counters.
+
+#[test]
+fn lines_per_field() {
+    let mut rig = Rig::new();
+    rig.rises(pin::HSYNCI, 625);
+    rig.clocks(0, 2500);
+    rig.rises(pin::VSYNCI, 1);
+    assert_eq!((rig.h_latch(), rig.v_latch()), (625, 2500));
+    rig.rises(pin::HSYNCI, 3);
+    rig.clocks(0, 2);
+    rig.rises(pin::VSYNCI, 1);
+    assert_eq!((rig.h_latch(), rig.v_latch()), (3, 2));
+    // CLRFLG zeroes the counts, not the latches.
+    rig.rises(pin::HSYNCI, 5);
+    rig.clocks(0, 5);
+    rig.write(0x11, 0x80);
+    assert_eq!((rig.h_latch(), rig.v_latch()), (3, 2));
+    rig.rises(pin::VSYNCI, 1);
+    assert_eq!((rig.h_latch(), rig.v_latch()), (0, 5));
+}
+
+#[test]
+fn hcnt_overflow_stands() {
+    let mut rig = Rig::new();
+    rig.rises(pin::HSYNCI, 7);
+    rig.rises(pin::VSYNCI, 1);
+    rig.rises(pin::HSYNCI, 4096);
+    assert_eq!(rig.read(0x06), 0xBC);
+    rig.rises(pin::VSYNCI, 1);
+    assert_eq!(rig.h_latch(), 7);
+    assert_eq!(rig.0.hcnt.count, 4095);
+    // HSEL from 1 to 0 zeroes the count, the bit stays, and the counter stands there.
+    rig.write(0x05, 0x03);
+    rig.rises(pin::HSYNCI, 2);
+    assert_eq!(
+        rig.0.hcnt,
+        Counter {
+            count: 0,
+            latch: 7,
+            overflow: true
+        }
+    );
+    rig.write(0x11, 0x40);
+    assert_eq!(rig.read(0x06), 0xBC);
+    rig.write(0x11, 0x80);
+    assert_eq!(rig.read(0x06), 0x3C);
+    rig.rises(pin::HSYNCI, 2);
+    rig.clocks(0, 1024);
+    assert_eq!(rig.h_latch(), 2);
+}
+
+#[test]
+fn lines_per_interval() {
+    let mut rig = Rig::new();
+    rig.rises(pin::HSYNCI, 9);
+    rig.clocks(0, 500);
+    rig.write(0x05, 0x03);
+    rig.rises(pin::HSYNCI, 256);
+    rig.clocks(0, 1023);
+    assert_eq!(rig.h_latch(), 0);
+    rig.rises(pin::VSYNCI, 1);
+    assert_eq!(rig.h_latch(), 0);
+    rig.clock(0);
+    assert_eq!(rig.h_latch(), 256);
+    // HSEL 0 written over 0 zeroes nothing; 0 to 1 and back does.
+    rig.rises(pin::HSYNCI, 5);
+    rig.clocks(0, 1000);
+    rig.write(0x05, 0x03);
+    rig.clocks(0, 24);
+    assert_eq!(rig.h_latch(), 5);
+    rig.rises(pin::HSYNCI, 6);
+    rig.clocks(0, 1000);
+    rig.write(0x05, 0x07);
+    rig.clocks(0, 30);
+    rig.write(0x05, 0x03);
+    rig.rises(pin::HSYNCI, 1);
+    rig.clocks(0, 1023);
+    assert_eq!(rig.h_latch(), 5);
+    rig.clock(0);
+    assert_eq!(rig.h_latch(), 1);
+}
+
+#[test]
+fn interval_runs_on_in_overflow() {
+    let mut rig = Rig::new();
+    rig.write(0x05, 0x03);
+    rig.clocks(0, 100);
+    rig.rises(pin::HSYNCI, 4096);
+    assert_eq!(rig.read(0x06) & 0x80, 0x80);
+    rig.clocks(0, 924 + 1000);
+    assert_eq!(rig.h_latch(), 0);
+    rig.write(0x11, 0x80);
+    rig.rises(pin::HSYNCI, 3);
+    rig.clocks(0, 23);
+    assert_eq!(rig.h_latch(), 0);
+    rig.clock(0);
+    assert_eq!(rig.h_latch(), 3);
+}
+
+// The bus.
+
+#[test]
+fn write_transfer() {
+    let mut rig = Rig::ddc2b();
+    rig.sda(0);
+    assert_eq!(rig.read(0x15), 0x20);
+    rig.sda(1);
+    assert_eq!(rig.read(0x15), 0x30);
+    rig.write(0x15, 0x10);
+    assert_eq!(rig.read(0x15), 0x10);
+    rig.write(0x15, 0x30);
+    assert_eq!(rig.read(0x15), 0x10);
+    rig.start();
+    rig.bits(0xA0, 8);
+    assert!(rig.0.pull_sda && !rig.0.pull_scl);
+    assert_eq!(rig.flags(), flag::S | flag::A);
+    rig.clear_flags();
+    rig.sda(1);
+    rig.scl(1);
+    assert!(!rig.0.sda());
+    rig.scl(0);
+    assert!(rig.0.pull_scl && !rig.0.pull_sda);
+    assert_eq!(rig.flags(), flag::S | flag::D);
+    assert_eq!(rig.0.phase, Phase::Held);
+    // Let go with SCL low outside; the byte written is kept until one has come in.
+    rig.clear_flags();
+    rig.write(0x14, 0x5A);
+    assert_eq!(rig.flags(), 0);
+    assert_eq!(rig.read(0x14), 0x5A);
+    rig.bits(0xA1, 7);
+    assert_eq!(rig.read(0x14), 0x5A);
+    rig.sda(1);
+    rig.scl(1);
+    assert_eq!(rig.read(0x14), 0xA1);
+    rig.scl(0);
+    rig.ninth_clock(1);
+    assert_eq!(rig.flags(), flag::S | flag::D);
+    // Let go once more, then STOP.
+    rig.write(0x14, 0x00);
+    rig.sda(0);
+    rig.scl(1);
+    rig.write(0x15, 0x00);
+    rig.sda(1);
+    assert_eq!(rig.read(0x15), 0x10);
+    assert_eq!(rig.0.phase, Phase::Idle);
+}
+
+#[test]
+fn foreign_address_is_ignored() {
+    let mut rig = Rig::ddc2b();
+    rig.write(0x13, 0x6E);
+    rig.start();
+    rig.send(0x62);
+    assert_eq!(rig.read(0x14), 0x62);
+    assert_eq!(rig.0.phase, Phase::Ignoring);
+    rig.send(0xA0);
+    rig.send(0x6E);
+    assert_eq!(rig.read(0x14), 0x62);
+    assert_eq!(rig.flags(), flag::S);
+    // A repeated START is heard.
+    rig.start();
+    rig.send(0x6F);
+    assert_eq!(rig.flags(), flag::S | flag::A | flag::D);
+    assert_eq!(rig.read(0x14), 0x6F);
+}
+
+#[test]
+fn read_transfer() {
+    let mut rig = Rig::addressed_for_read();
+    for (byte, acknowledge) in [(0xC5u8, 0), (0x3A, 1), (0x80, 0)] {
+        rig.write(0x14, byte);
+        rig.write(0x14, !byte);
+        rig.sda(1);
+        for place in (0..8).rev() {
+            assert_eq!(rig.0.sda() as u8, byte >> place & 1);
+            rig.scl(1);
+            assert_eq!(rig.0.sda() as u8, byte >> place & 1);
+            rig.scl(0);
+        }
+        assert!(!rig.0.pull_sda);
+        rig.sda(acknowledge);
+        assert_eq!(rig.flags(), flag::S);
+        rig.scl(1);
+        assert_eq!(rig.read(0x15), 0x04 | acknowledge << 1);
+        rig.scl(0);
+        assert_eq!(rig.flags(), flag::S | flag::D);
+        assert_eq!(rig.0.phase, Phase::Held);
+        rig.clear_flags();
+    }
+    // TRX 0 turns the direction at the next letting go.
+    rig.write(0x15, 0x00);
+    rig.write(0x14, 0x00);
+    rig.bits(0x42, 8);
+    assert_eq!(rig.read(0x14), 0x42);
+}
+
+#[test]
+fn held_line_makes_no_edge() {
+    let mut rig = Rig::ddc2b();
+    rig.start();
+    rig.send(0xA0);
+    rig.clear_flags();
+    rig.write(0x15, 0x00);
+    for _ in 0..5 {
+        rig.scl(1);
+        rig.sda(0);
+        rig.sda(1);
+        rig.scl(0);
+    }
+    assert_eq!(rig.flags(), 0);
+    assert_eq!(rig.read(0x15), 0x00);
+    // Let go at SCL 1: that is the first rise, and the next fall belongs to it.
+    rig.sda(1);
+    rig.scl(1);
+    rig.write(0x14, 0x00);
+    assert_eq!(
+        rig.0.phase,
+        Phase::Incoming {
+            address: false,
+            bits: 1,
+            byte: 1
+        }
+    );
+    assert_eq!(rig.flags(), 0);
+    rig.scl(0);
+    rig.bits(0x26, 7);
+    assert_eq!(rig.read(0x14), 0x93);
+}
+
+#[test]
+fn transmit_let_go_at_scl_high() {
+    let mut rig = Rig::addressed_for_read();
+    rig.sda(1);
+    rig.scl(1);
+    rig.write(0x15, 0x04);
+    rig.write(0x14, 0x60);
+    // Bit 7 went out before SCL rose: no START.
+    assert_eq!(rig.read(0x15) & 0x30, 0);
+    assert!(!rig.0.sda());
+    rig.scl(0);
+    assert!(rig.0.sda());
+    rig.scl(1);
+    // Under a 1 the master can begin anew.
+    rig.sda(0);
+    assert_eq!(rig.read(0x15) & 0x30, 0x20);
+    assert_eq!(
+        rig.0.phase,
+        Phase::Incoming {
+            address: true,
+            bits: 0,
+            byte: 0
+        }
+    );
+}
+
+#[test]
+fn pulled_sda_hides_start_and_stop() {
+    let mut rig = Rig::addressed_for_read();
+    rig.write(0x15, 0x04);
+    rig.write(0x14, 0x00);
+    rig.scl(1);
+    rig.sda(0);
+    rig.sda(1);
+    assert_eq!(rig.read(0x15), 0x04);
+    assert!(matches!(rig.0.phase, Phase::Outgoing { .. }));
+}
+
+#[test]
+fn start_within_a_byte() {
+    let mut rig = Rig::ddc2b();
+    rig.start();
+    rig.bits(0xFF, 5);
+    rig.scl(1);
+    rig.sda(0);
+    rig.scl(0);
+    rig.send(0xA0);
+    assert_eq!(rig.flags(), flag::S | flag::A | flag::D);
+    assert_eq!(rig.read(0x14), 0xA0);
+}
+
+#[test]
+fn ddc1_left_by_scl_fall() {
+    let mut rig = Rig::new();
+    rig.pin(pin::SCL, 0);
+    rig.write(0x15, 0x00);
+    rig.rises(pin::VSYNCI, 10);
+    assert_eq!(rig.flags(), flag::V | flag::D);
+    rig.scl(1);
+    // SDA is at the top bit of II DAT, 0; moving it outside means nothing in DDC1.
+    assert!(!rig.0.sda());
+    rig.sda(0);
+    rig.sda(1);
+    assert_eq!(rig.read(0x15), 0x00);
+    assert_eq!(rig.read(0x05), 0x03);
+    rig.clear_flags();
+    rig.scl(0);
+    assert_eq!(rig.flags(), flag::S);
+    assert_eq!(rig.read(0x05), 0x02);
+    assert!(rig.0.sda());
+    // Asked for again, it begins at nine.
+    rig.write(0x05, 0x07);
+    rig.clear_flags();
+    rig.rises(pin::VSYNCI, 9);
+    assert_eq!(rig.flags(), flag::V);
+    rig.rises(pin::VSYNCI, 1);
+    assert_eq!(rig.flags(), flag::V | flag::D);
+}
+
+#[test]
+fn ddc1_shifts_bytes_out() {
+    let mut rig = Rig::new();
+    rig.write(0x14, 0xB4);
+    rig.write(0x15, 0x00);
+    rig.rises(pin::VSYNCI, 9);
+    assert!(rig.0.sda());
+    let mut seen = Vec::new();
+    for _ in 0..18 {
+        rig.rises(pin::VSYNCI, 1);
+        seen.push(rig.0.sda() as u8);
+        rig.write(0x14, 0x0F);
+    }
+    assert_eq!(seen, [1, 0, 1, 1, 0, 1, 0, 0, 1, 0, 0, 0, 0, 1, 1, 1, 1, 1]);
+}
+
+#[test]
+fn mode_change_in_a_transfer() {
+    // Held, SCL high outside: turning off releases the line, and that is no edge.
+    let mut rig = Rig::ddc2b();
+    rig.start();
+    rig.send(0xA0);
+    rig.scl(1);
+    rig.clear_flags();
+    rig.write(0x15, 0x2C);
+    assert!(rig.0.scl());
+    assert_eq!(rig.0.phase, Phase::Idle);
+    assert_eq!(rig.flags(), 0);
+    assert_eq!(rig.read(0x15), 0x2C);
+    assert_eq!(rig.read(0x14), 0xA0);
+    // Off: no S, no START, though the levels move.
+    rig.scl(0);
+    rig.scl(1);
+    rig.sda(0);
+    rig.sda(1);
+    assert_eq!(rig.flags(), 0);
+    // Rewriting the present mode is no change.
+    let mut rig = Rig::ddc2b();
+    rig.start();
+    rig.bits(0xA0, 4);
+    rig.write(0x05, 0x0E);
+    rig.write(0x15, 0x05);
+    rig.bits(0x00, 4);
+    assert_eq!(rig.flags(), flag::S | flag::A);
+    // To DDC1 and back forgets the transfer.
+    let mut rig = Rig::ddc2b();
+    rig.start();
+    rig.bits(0xA0, 4);
+    rig.write(0x05, 0x07);
+    rig.write(0x05, 0x06);
+    rig.bits(0x00, 4);
+    assert_eq!(rig.flags(), flag::S);
+}
+
+#[test]
+fn resets_in_a_transfer() {
+    let mut rig = Rig::ddc2b();
+    rig.write(0x0F, 0x3F);
+    rig.start();
+    rig.send(0xA0);
+    let levels = rig.0.levels;
+    rig.clocks(3, 63);
+    assert_eq!(rig.clock(3), 0x00010000);
+    assert_eq!(
+        rig.0,
+        Chip {
+            levels,
+            ..Chip::fresh()
+        }
+    );
+
+    let mut rig = Rig::ddc2b();
+    rig.start();
+    rig.bits(0xA0, 8);
+    let levels = rig.0.levels;
+    rig.pin(pin::RESET, 0);
+    rig.pin(pin::RESET, 1);
+    assert_eq!(
+        rig.0,
+        Chip {
+            levels,
+            ..Chip::fresh()
+        }
+    );
+}
+
+#[test]
+fn own_address_at_the_eighth_rise() {
+    let mut rig = Rig::ddc2b();
+    rig.start();
+    rig.bits(0x34, 7);
+    rig.write(0x13, 0x35);
+    rig.sda(0);
+    rig.scl(1);
+    assert_eq!(rig.flags() & flag::A, flag::A);
+    // Changed afterwards, the match stands.
+    rig.write(0x13, 0x00);
+    rig.scl(0);
+    rig.ninth_clock(1);
+    assert_eq!(rig.0.phase, Phase::Held);
+}
+
+// The generator.
+
+#[test]
+fn words_follow_from_the_seed() {
+    let long = generate(7, 20_000, 3);
+    assert_eq!(long.len(), 80_003);
+    assert_eq!(generate(7, 5_000, 0), long[..20_000]);
+    assert_ne!(generate(8, 5_000, 0), long[..20_000]);
+}
+
+#[test]
+fn every_class_occurs() {
+    let mut always_empty = coverage::empty_classes(1, 1_000_000);
+    let second = coverage::empty_classes(2, 1_000_000);
+    always_empty.retain(|class| second.contains(class));
+    assert!(always_empty.is_empty(), "{always_empty:?}");
+}
+
+/// What document 01 calls well formed, in this model's terms.
+fn well_formed(chip: &Chip) -> bool {
+    let counts = chip.hcnt.count <= 4095
+        && chip.hcnt.latch <= 4095
+        && chip.vcnt.count <= 4095
+        && chip.vcnt.latch <= 4095
+        && chip.interval <= 1023
+        && chip.watchdog <= 63
+        && chip.edges_left <= 9;
+    let reserved = chip.pt1 & 0xC0 == 0
+        && chip.pt3 & 0xFC == 0
+        && chip.syncon & 0x20 == 0x20
+        && chip.iex & 0xC0 == 0
+        && chip.irqx & 0xC0 == 0
+        && chip.iiadr & 0x01 == 0x01;
+    let mode = (chip.ddc2b() || chip.phase == Phase::Idle)
+        && (chip.ddc1() || chip.edges_left == 9)
+        && (chip.edges_left < 9 || chip.shift == 0xFF);
+    let sda_as_said = match chip.phase {
+        Phase::Idle if chip.ddc1() => chip.pull_sda == (chip.shift & 0x80 == 0),
+        Phase::Incoming { bits: 8, .. } => true,
+        Phase::Incoming { bits, byte, .. } => {
+            bits < 8 && u32::from(byte) < 1 << bits && !chip.pull_sda
+        }
+        Phase::Outgoing { rest, falls, acked } => {
+            falls <= 8 && (falls == 8 || !acked) && chip.pull_sda == (falls < 8 && rest & 0x80 == 0)
+        }
+        _ => !chip.pull_sda,
+    };
+    counts && reserved && mode && sda_as_said && chip.pull_scl == (chip.phase == Phase::Held)
+}
+
+#[test]
+fn states_stay_well_formed() {
+    let mut chip = Chip::fresh();
+    for (place, word) in Traffic::new(3).take(1_000_000).enumerate() {
+        let old = chip;
+        let answer = chip.step(word);
+        assert!(
+            well_formed(&chip),
+            "place {place}, word {word:08X}: {chip:?}"
+        );
+        if answer >> 24 != 0 {
+            assert_eq!(old, chip, "place {place}, word {word:08X}");
+        }
+        assert_eq!(answer >> 8 & 0xFF, (chip.irqx & chip.iex) as u32);
+    }
+}
