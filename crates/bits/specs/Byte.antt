@@ -22,6 +22,6 @@ bit k n = eqb (n / 2 ^ k % 2) 1
 unfoldable pub merge : ℕ → ℕ → ℕ → ℕ
 merge mask old new = bitOr (bitAnd old (255 - mask)) (bitAnd new mask)
 
--- the byte x with bit k put to v, for k below 8
+-- the byte x with bit k, counted modulo 8, put to v
 unfoldable pub withBit : ℕ → ℕ → Bool → ℕ
 withBit x k v = pick v (bitOr x (2 ^ (k % 8))) (bitAnd x (255 - 2 ^ (k % 8)))

@@ -1,6 +1,6 @@
 -- DDC2B: the phases of a transfer (document 01, "The bus"). A definition for each thing that an edge of SCL moves.
-use Prim.Native.Nat.{ℕ, _+_, _-_, _*_, _/_, _%_}
-use mathlib.Core.Bool.{Bool, true, false, not, _||_}
+use Prim.Native.Nat.{ℕ, _+_, _*_, _/_, _%_}
+use mathlib.Core.Bool.{Bool, true, false, _||_}
 use lib.Bits.{bitOr}
 use lib.Dec.{eqb, ltb}
 use Rattle.bits.specs.Byte.{pick, num, withBit}
@@ -85,7 +85,7 @@ holdsAtFall (Receive count bits acknowledged) = acknowledged
 holdsAtFall (Transmit count byte) = eqb count 10
 holdsAtFall Held = false
 
--- the acknowledge: after eight bits the next fall pulls SDA low; before, nothing
+-- the fall that begins the acknowledge
 unfoldable pub acknowledges : ℕ → Bool
 acknowledges count = eqb count 8
 

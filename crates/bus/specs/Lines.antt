@@ -37,7 +37,7 @@ modeNumber Ddc2b = 2
 unfoldable pub changesMode : Mode → Mode → Bool
 changesMode old new = not (eqb (modeNumber old) (modeNumber new))
 
--- a line is 1 when its outside level is 1 and the chip does not pull it
+-- wired-AND of the outside and the chip
 abbrev pub line : Bool → Bool → Bool
 line true level = false
 line false level = level

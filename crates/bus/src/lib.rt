@@ -46,6 +46,7 @@ pub struct Shifter {
     pub edges: u8,
 }
 
+// The edge from one level to the next.
 pub fn edge_between(old: bool, new: bool) -> Edge
     ensures { λ r. ⌜ r ≡ edge old new ⌝ }
 {
@@ -56,6 +57,7 @@ pub fn edge_between(old: bool, new: bool) -> Edge
     }
 }
 
+// The mode by ENDDC (II STS bit 3) and MD1/2 (MDCON bit 0).
 pub fn mode_of(status: u8, mdcon: u8) -> Mode
     ensures { λ r. ⌜ r ≡ mode status mdcon ⌝ }
 {
@@ -79,18 +81,21 @@ fn mode_number(mode: Mode) -> u8
     }
 }
 
+// The two modes differ.
 pub fn changes_mode(old: Mode, new: Mode) -> bool
     ensures { λ r. ⌜ r ≡ changesMode old new ⌝ }
 {
     mode_number(old) != mode_number(new)
 }
 
+// The level of a line: wired-AND of the outside and the chip.
 pub fn line_level(pulled: bool, level: bool) -> bool
     ensures { λ r. ⌜ r ≡ line pulled level ⌝ }
 {
     if pulled { false } else { level }
 }
 
+// A transmit pulls SDA at this count.
 pub fn pulls_at_bit(count: u8, byte: u8) -> bool
     ensures { λ r. ⌜ r ≡ pullsAtBit count byte ⌝ }
 {
@@ -101,6 +106,7 @@ pub fn pulls_at_bit(count: u8, byte: u8) -> bool
     }
 }
 
+// The phase pulls SDA.
 pub fn pulls_sda(phase: Phase) -> bool
     ensures { λ r. ⌜ r ≡ pullsSda phase ⌝ }
 {
@@ -122,6 +128,7 @@ pub fn pulls_sda(phase: Phase) -> bool
     }
 }
 
+// The phase pulls SCL.
 pub fn pulls_scl(phase: Phase) -> bool
     ensures { λ r. ⌜ r ≡ pullsScl phase ⌝ }
 {
@@ -165,12 +172,14 @@ pub fn scl_pulled(mode: Mode, phase: Phase) -> bool
     }
 }
 
+// A rise of VSYNCI loads the shift register.
 pub fn loads_at_rise(s: Shifter) -> bool
     ensures { λ r. ⌜ r ≡ loadsAtRise s ⌝ }
 {
     s.edges == 0
 }
 
+// The shift register after a rise of VSYNCI.
 pub fn shifter_at_rise(byte: u8, s: Shifter) -> Shifter
     ensures { λ r. ⌜ r ≡ shifterAtRise byte s ⌝ }
 {
@@ -195,6 +204,7 @@ pub fn matches(own: u8, byte: u8) -> bool
     (byte / 2 % 128 == 80) | (byte / 2 % 128 == own / 2 % 128)
 }
 
+// The bits gathered with SDA entering lowest.
 pub fn gathered(bits: u8, sda: bool) -> u8
     ensures { λ r. ⌜ r ≡ gatheredBits bits sda ⌝ }
 {
@@ -216,6 +226,62 @@ fn addressed(own: u8, byte: u8) -> Phase
     }
 }
 
+fn address_at_rise(own: u8, sda: bool, count: u8, bits: u8, acknowledged: bool) -> Phase
+    ensures { λ r. ⌜ r ≡ phaseAtRise own sda (Phase.Address count bits acknowledged) ⌝ }
+{
+    if count < 7 {
+        return Phase::Address {
+            count: count + 1,
+            bits: gathered(bits, sda),
+            acknowledged: acknowledged,
+        };
+    }
+    if count < 8 {
+        addressed(own, gathered(bits, sda))
+    } else {
+        Phase::Address {
+            count: count,
+            bits: bits,
+            acknowledged: acknowledged,
+        }
+    }
+}
+
+fn receive_at_rise(own: u8, sda: bool, count: u8, bits: u8, acknowledged: bool) -> Phase
+    ensures { λ r. ⌜ r ≡ phaseAtRise own sda (Phase.Receive count bits acknowledged) ⌝ }
+{
+    if count < 8 {
+        Phase::Receive {
+            count: count + 1,
+            bits: gathered(bits, sda),
+            acknowledged: acknowledged,
+        }
+    } else {
+        Phase::Receive {
+            count: count,
+            bits: bits,
+            acknowledged: acknowledged,
+        }
+    }
+}
+
+fn transmit_at_rise(own: u8, sda: bool, count: u8, byte: u8) -> Phase
+    ensures { λ r. ⌜ r ≡ phaseAtRise own sda (Phase.Transmit count byte) ⌝ }
+{
+    if count == 9 {
+        Phase::Transmit {
+            count: 10,
+            byte: byte,
+        }
+    } else {
+        Phase::Transmit {
+            count: count,
+            byte: byte,
+        }
+    }
+}
+
+// The phase after a rise of the SCL line, at the SDA line's level.
 pub fn phase_at_rise(own: u8, sda: bool, phase: Phase) -> Phase
     ensures { λ r. ⌜ r ≡ phaseAtRise own sda phase ⌝ }
 {
@@ -225,50 +291,19 @@ pub fn phase_at_rise(own: u8, sda: bool, phase: Phase) -> Phase
             count,
             bits,
             acknowledged,
-        } => {
-            if count < 7 {
-                return Phase::Address {
-                    count: count + 1,
-                    bits: gathered(bits, sda),
-                    acknowledged: acknowledged,
-                };
-            }
-            if count < 8 {
-                addressed(own, gathered(bits, sda))
-            } else {
-                phase
-            }
-        }
+        } => address_at_rise(own, sda, count, bits, acknowledged),
         Phase::Ignoring => phase,
         Phase::Receive {
             count,
             bits,
             acknowledged,
-        } => {
-            if count < 8 {
-                Phase::Receive {
-                    count: count + 1,
-                    bits: gathered(bits, sda),
-                    acknowledged: acknowledged,
-                }
-            } else {
-                phase
-            }
-        }
-        Phase::Transmit { count, byte } => {
-            if count == 9 {
-                Phase::Transmit {
-                    count: 10,
-                    byte: byte,
-                }
-            } else {
-                phase
-            }
-        }
+        } => receive_at_rise(own, sda, count, bits, acknowledged),
+        Phase::Transmit { count, byte } => transmit_at_rise(own, sda, count, byte),
         Phase::Held => phase,
     }
 }
 
+// II DAT after it.
 pub fn data_at_rise(sda: bool, phase: Phase, byte: u8) -> u8
     ensures { λ r. ⌜ r ≡ dataAtRise sda phase byte ⌝ }
 {
@@ -302,6 +337,7 @@ pub fn data_at_rise(sda: bool, phase: Phase, byte: u8) -> u8
     }
 }
 
+// A rise of the SCL line completes an address that matches.
 pub fn matches_at_rise(own: u8, sda: bool, phase: Phase) -> bool
     ensures { λ r. ⌜ r ≡ matchesAtRise own sda phase ⌝ }
 {
@@ -329,6 +365,7 @@ pub fn matches_at_rise(own: u8, sda: bool, phase: Phase) -> bool
     }
 }
 
+// II STS after a rise of the SCL line: RXAK is taken.
 pub fn status_at_rise(sda: bool, phase: Phase, status: u8) -> u8
     ensures { λ r. ⌜ r ≡ statusAtRise sda phase status ⌝ }
 {
@@ -356,6 +393,7 @@ pub fn status_at_rise(sda: bool, phase: Phase, status: u8) -> u8
     }
 }
 
+// A fall of the SCL line takes hold of SCL.
 pub fn holds_at_fall(phase: Phase) -> bool
     ensures { λ r. ⌜ r ≡ holdsAtFall phase ⌝ }
 {
@@ -384,44 +422,31 @@ pub fn acknowledges(count: u8) -> bool
     count == 8
 }
 
-pub fn phase_at_fall(phase: Phase) -> Phase
-    ensures { λ r. ⌜ r ≡ phaseAtFall phase ⌝ }
+fn address_at_fall(count: u8, bits: u8, acknowledged: bool) -> Phase
+    ensures { λ r. ⌜ r ≡ phaseAtFall (Phase.Address count bits acknowledged) ⌝ }
 {
-    match phase {
-        Phase::Idle => phase,
+    if acknowledged {
+        Phase::Held
+    } else {
         Phase::Address {
-            count,
-            bits,
-            acknowledged,
-        } => {
-            if acknowledged {
-                Phase::Held
-            } else {
-                Phase::Address {
-                    count: count,
-                    bits: bits,
-                    acknowledged: acknowledges(count),
-                }
-            }
+            count: count,
+            bits: bits,
+            acknowledged: acknowledges(count),
         }
-        Phase::Ignoring => phase,
+    }
+}
+
+fn receive_at_fall(count: u8, bits: u8, acknowledged: bool) -> Phase
+    ensures { λ r. ⌜ r ≡ phaseAtFall (Phase.Receive count bits acknowledged) ⌝ }
+{
+    if acknowledged {
+        Phase::Held
+    } else {
         Phase::Receive {
-            count,
-            bits,
-            acknowledged,
-        } => {
-            if acknowledged {
-                Phase::Held
-            } else {
-                Phase::Receive {
-                    count: count,
-                    bits: bits,
-                    acknowledged: acknowledges(count),
-                }
-            }
+            count: count,
+            bits: bits,
+            acknowledged: acknowledges(count),
         }
-        Phase::Transmit { count, byte } => transmit_at_fall(count, byte),
-        Phase::Held => phase,
     }
 }
 
@@ -444,6 +469,29 @@ fn transmit_at_fall(count: u8, byte: u8) -> Phase
     }
 }
 
+// The phase after a fall of the SCL line.
+pub fn phase_at_fall(phase: Phase) -> Phase
+    ensures { λ r. ⌜ r ≡ phaseAtFall phase ⌝ }
+{
+    match phase {
+        Phase::Idle => phase,
+        Phase::Address {
+            count,
+            bits,
+            acknowledged,
+        } => address_at_fall(count, bits, acknowledged),
+        Phase::Ignoring => phase,
+        Phase::Receive {
+            count,
+            bits,
+            acknowledged,
+        } => receive_at_fall(count, bits, acknowledged),
+        Phase::Transmit { count, byte } => transmit_at_fall(count, byte),
+        Phase::Held => phase,
+    }
+}
+
+// The phase once SCL is let go.
 pub fn phase_let_go(trx: bool, byte: u8) -> Phase
     ensures { λ r. ⌜ r ≡ phaseLetGo trx byte ⌝ }
 {

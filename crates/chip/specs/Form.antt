@@ -1,4 +1,5 @@
--- Well formed states (document 01, "Numbers given back", and the number 8): this paragraph of the document and no more.
+-- Well formed states (document 01, "Numbers given back", the paragraph on well formed): its clauses, with places of the state
+-- that hold nothing fixed, and no more.
 use Prim.Native.Nat.{ℕ, zero, suc, _-_, _^_}
 use mathlib.Core.Bool.{Bool, true, false, not, _&&_, _||_}
 use mathlib.Core.List.{List}
@@ -6,7 +7,7 @@ use lib.Bits.{bitAnd}
 use lib.Dec.{eqb, ltb}
 use lib.ListN.{getD}
 use Rattle.bits.specs.Byte.{pick, bit}
-use Rattle.registers.specs.Names.{MDCON, HVCON, IIADR, BT}
+use Rattle.registers.specs.Names.{MDCON, HVCON, CLRWDT, BTCON}
 use Rattle.registers.specs.Table.{resetValue, writeMask}
 use Rattle.sync.specs.Sync.{wellSync}
 use Rattle.bus.specs.declared.Mode.{Mode}
@@ -26,7 +27,7 @@ allBelow f (suc n) = pick (f n) (allBelow f n) false
 
 -- registers with a place of their own in the state: MDCON, HVCON, and II ADR to BT. The array's places for them stand still
 abbrev pub keptApart : ℕ → Bool
-keptApart a = (eqb a MDCON || eqb a HVCON) || (ltb 0x12 a && ltb a 0x17)
+keptApart a = (eqb a MDCON || eqb a HVCON) || (ltb CLRWDT a && ltb a BTCON)
 
 -- the reserved bits of a place of the array: all of one that is not used, else those that no write changes
 unfoldable pub reservedMask : ℕ → ℕ
@@ -68,12 +69,12 @@ isIdle (Receive count bits acknowledged) = false
 isIdle (Transmit count byte) = false
 isIdle Held = false
 
--- nine edges left, and ones in the shift register then
+-- the shift register unused since the last release
 unfoldable pub isEmpty : Shifter → Bool
 isEmpty s = eqb (s .edges) 9 && eqb (s .register) 255
 
--- idle with DDC off or in DDC1; nine edges left with DDC off or in DDC2B; in DDC1 0..9 edges. What the lines are pulled by
--- follows from mode, phase and shift register, so that no state can disagree with it
+-- off: no transfer, and the shift register unused; DDC1: no transfer; DDC2B: the shift register unused. What the lines are
+-- pulled by is computed from these, so that no state can disagree with it
 unfoldable pub busFits : Mode → Phase → Shifter → Bool
 busFits Off phase s = isIdle phase && isEmpty s
 busFits Ddc1 phase s = isIdle phase && (ltb (s .edges) 9 || isEmpty s)

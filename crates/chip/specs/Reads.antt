@@ -15,15 +15,15 @@ abbrev pub weight : Bool → ℕ → ℕ
 weight true w = w
 weight false w = 0
 
--- a pin of port 0, 1 or 3 reads as latch and outside level both 1, or as its latch where it is given away
+-- "Ports": a pin reads 1 where neither its latch nor the outside is 0; one that is given away does not look outside
 abbrev pub portRead : ℕ → ℕ → ℕ → ℕ
 portRead latch level given = bitAnd latch (bitOr level given)
 
--- port 0 given away: P00..P05 while ENDK8..13 is 0, P06 for ENV 0, P07 for ENH 0 (SYNCON bits 0 and 1)
+-- "Ports": a 0 in ENDAC bits 5..0 gives P05..P00 to the DACs, one in SYNCON bits 0 and 1 P06 and P07 to the sync outputs
 abbrev pub given0 : ℕ → ℕ → ℕ
 given0 endac syncon = (255 - endac) % 64 + (255 - syncon) % 4 * 64
 
--- port 1 given away: P10, P11 for ENAD0, ENAD1 0 (ENDAC bits 6 and 7), P12 and P13 for ENHALF 0 (SYNCON bit 6)
+-- "Ports": a 0 in ENDAC bits 6 and 7 gives P10 and P11 to the A/D inputs, one in SYNCON bit 6 P12 and P13 to the half signals
 abbrev pub given1 : ℕ → ℕ → ℕ
 given1 endac syncon = (255 - endac) / 64 + (255 - syncon) / 64 % 2 * 12
 
@@ -34,11 +34,11 @@ port0 c = portRead (registerAt c PT0) (c .pins .port0) (given0 (registerAt c END
 unfoldable pub port1 : Chip → ℕ
 port1 c = portRead (registerAt c PT1) (c .pins .port1) (given1 (registerAt c ENDAC) (registerAt c SYNCON))
 
--- a 1 in PT2DIR is an output and reads the latch, a 0 reads the level
+-- "Ports": PT2DIR selects, pin by pin, the latch where it is 1 and the outside where it is 0
 unfoldable pub port2 : Chip → ℕ
 port2 c = merge (registerAt c PT2DIR) (c .pins .port2) (registerAt c PT2)
 
--- both pins of port 3 are given away while ENDDC is 0
+-- "Ports": with DDC on both pins of port 3 belong to the bus
 unfoldable pub port3 : Chip → ℕ
 port3 c = pick (bit 3 (c .bus .iists)) (bitAnd (registerAt c PT3) (bitOr (weight (c .scl) 2) (weight (c .sda) 1))) (registerAt c PT3)
 

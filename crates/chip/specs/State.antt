@@ -1,10 +1,10 @@
 -- The chip's state: a new one, a reset one, and one with a part put anew (document 01, "Flags, timer, watchdog, reset").
 use Prim.Native.Nat.{ℕ}
-use mathlib.Core.Bool.{Bool, true, false}
+use mathlib.Core.Bool.{Bool, true}
 use mathlib.Core.List.{List}
 use lib.Bits.{bitAnd, bitOr}
 use lib.ListN.{getD}
-use Rattle.bits.specs.Byte.{pick, bit}
+use Rattle.bits.specs.Byte.{bit}
 use Rattle.registers.specs.Names.{MDCON, HVCON, IEX, IRQX, IIADR, IIDAT, IISTS, BT}
 use Rattle.registers.specs.Table.{resetValue, resets}
 use Rattle.sync.specs.declared.Sync.{Sync}
@@ -62,9 +62,12 @@ withReset c v = record { registers = c .registers; irqx = c .irqx; mdcon = c .md
 abbrev pub busOf : ℕ → ℕ → ℕ → Phase → Shifter → Bus
 busOf iists iiadr iidat phase shifter = record { iists = iists; iiadr = iiadr; iidat = iidat; phase = phase; shifter = shifter }
 
--- lines released (all three ways to it come here: a change of mode, RESET, the watchdog): phase idle, ones, nine edges
+-- lines released, by a change of mode and by a reset alike: no transfer, ones, nine edges
+abbrev pub idleBus : ℕ → ℕ → ℕ → Bus
+idleBus iists iiadr iidat = busOf iists iiadr iidat Idle emptyShifter
+
 unfoldable pub released : Bus → Bus
-released b = busOf (b .iists) (b .iiadr) (b .iidat) Idle emptyShifter
+released b = idleBus (b .iists) (b .iiadr) (b .iidat)
 
 -- ---- what other rules ask of a state
 
@@ -79,7 +82,7 @@ modeOf c = mode (c .bus .iists) (c .mdcon)
 abbrev pub hselOf : Chip → Bool
 hselOf c = bit 2 (c .mdcon)
 
--- requests: IRQX and IEX, bit by bit
+-- a request is a flag that is enabled
 unfoldable pub requests : Chip → ℕ
 requests c = bitAnd (c .irqx) (registerAt c IEX)
 
@@ -100,7 +103,7 @@ resetAt pins sda scl reset =
       bt = resetValue BT;
       watchdog = 0;
       sync = zeroSync;
-      bus = busOf (resetValue IISTS) (resetValue IIADR) (resetValue IIDAT) Idle emptyShifter;
+      bus = idleBus (resetValue IISTS) (resetValue IIADR) (resetValue IIDAT);
       pins = pins;
       sda = sda;
       scl = scl;

@@ -1,12 +1,33 @@
 // The chip: its state, a fresh and a reset one, what a read shows, and which states are well formed.
 ghost use mathlib.Core.Path.{_≡_};
-ghost use Prim.Native.Nat.{ℕ, _<_};
-ghost use Rattle.chip.specs.State.{busOf, released as releasedOf, requests as requestsOf, resetAt, resetChip, fresh as freshOf, modeOf, hselOf, registerAt};
+ghost use Prim.Native.Nat.{_<_};
+ghost use Rattle.chip.specs.State.{idleBus, released as releasedOf, requests as requestsOf, resetAt, resetChip, fresh as freshOf, modeOf, hselOf, registerAt};
 ghost use Rattle.chip.specs.Reads.{weight as weightOf, portRead, given0 as givenOf0, given1 as givenOf1, port0 as portOf0, port1 as portOf1, port2 as portOf2, port3 as portOf3, hvcon as hvconOf, shown as shownOf, readingOf, reading};
 ghost use Rattle.chip.specs.Form.{allBelow, keptApart, reservedMask, reservedAt, reservedApart, gatheredFits, phaseFits, isIdle, isEmpty, busFits, wellFormed};
 use bus::Mode;
 use bus::Phase;
 use bus::Shifter;
+use registers::BT;
+use registers::BTCON;
+use registers::CLRWDT;
+use registers::ENDAC;
+use registers::HCNTH;
+use registers::HCNTL;
+use registers::HVCON;
+use registers::IEX;
+use registers::IIADR;
+use registers::IIDAT;
+use registers::IISTS;
+use registers::IRQX;
+use registers::MDCON;
+use registers::PT0;
+use registers::PT1;
+use registers::PT2;
+use registers::PT2DIR;
+use registers::PT3;
+use registers::SYNCON;
+use registers::VCNTH;
+use registers::VCNTL;
 use sync::Sync;
 
 // The registers of the bus, the phase of a transfer, and the shift register of DDC1.
@@ -50,20 +71,27 @@ pub struct Reading {
     pub byte: u8,
 }
 
-// Lines released: phase idle, ones in the shift register, nine edges left.
-pub fn released(b: Bus) -> Bus
-    ensures { λ r. ⌜ r ≡ releasedOf b ⌝ }
+// A bus with no transfer, ones in the shift register and nine edges left.
+fn idle_bus(iists: u8, iiadr: u8, iidat: u8) -> Bus
+    ensures { λ r. ⌜ r ≡ idleBus iists iiadr iidat ⌝ }
 {
     Bus {
-        iists: b.iists,
-        iiadr: b.iiadr,
-        iidat: b.iidat,
+        iists: iists,
+        iiadr: iiadr,
+        iidat: iidat,
         phase: Phase::Idle,
         shifter: Shifter {
             register: 255,
             edges: 9,
         },
     }
+}
+
+// Lines released.
+pub fn released(b: Bus) -> Bus
+    ensures { λ r. ⌜ r ≡ releasedOf b ⌝ }
+{
+    idle_bus(b.iists, b.iiadr, b.iidat)
 }
 
 pub fn mode_of(c: Chip) -> Mode
@@ -83,7 +111,7 @@ pub fn requests(c: Chip) -> u8
     ensures { λ r. ⌜ r ≡ requestsOf c ⌝ }
 {
     let registers = c.registers;
-    c.irqx & registers[0x0f]
+    c.irqx & registers[IEX as usize]
 }
 
 // Every part at its reset value, at these outside levels.
@@ -92,22 +120,17 @@ pub fn reset_at(pins: Pins, sda: bool, scl: bool, reset: bool) -> Chip
 {
     Chip {
         registers: registers::resets(),
-        irqx: registers::reset_value(0x10),
-        mdcon: registers::reset_value(0x05),
-        polarity: registers::reset_value(0x06) & 0x0f,
-        bt: registers::reset_value(0x16),
+        irqx: registers::reset_value(IRQX),
+        mdcon: registers::reset_value(MDCON),
+        polarity: registers::reset_value(HVCON) & 0x0f,
+        bt: registers::reset_value(BT),
         watchdog: 0,
         sync: sync::zero_sync(),
-        bus: Bus {
-            iists: registers::reset_value(0x15),
-            iiadr: registers::reset_value(0x13),
-            iidat: registers::reset_value(0x14),
-            phase: Phase::Idle,
-            shifter: Shifter {
-                register: 255,
-                edges: 9,
-            },
-        },
+        bus: idle_bus(
+            registers::reset_value(IISTS),
+            registers::reset_value(IIADR),
+            registers::reset_value(IIDAT),
+        ),
         pins: pins,
         sda: sda,
         scl: scl,
@@ -176,9 +199,9 @@ fn port0(c: Chip) -> u8
 {
     let registers = c.registers;
     port_read(
-        registers[0x00],
+        registers[PT0 as usize],
         c.pins.port0,
-        given0(registers[0x0c], registers[0x0b]),
+        given0(registers[ENDAC as usize], registers[SYNCON as usize]),
     )
 }
 
@@ -187,9 +210,9 @@ fn port1(c: Chip) -> u8
 {
     let registers = c.registers;
     port_read(
-        registers[0x01],
+        registers[PT1 as usize],
         c.pins.port1,
-        given1(registers[0x0c], registers[0x0b]),
+        given1(registers[ENDAC as usize], registers[SYNCON as usize]),
     )
 }
 
@@ -197,14 +220,18 @@ fn port2(c: Chip) -> u8
     ensures { λ r. ⌜ r ≡ portOf2 c ⌝ }
 {
     let registers = c.registers;
-    bits::merge(registers[0x02], c.pins.port2, registers[0x03])
+    bits::merge(
+        registers[PT2DIR as usize],
+        c.pins.port2,
+        registers[PT2 as usize],
+    )
 }
 
 fn port3(c: Chip) -> u8
     ensures { λ r. ⌜ r ≡ portOf3 c ⌝ }
 {
     let registers = c.registers;
-    let latch = registers[0x04];
+    let latch = registers[PT3 as usize];
     if bits::bit(3, c.bus.iists) {
         latch & (weight(c.scl, 2) | weight(c.sda, 1))
     } else {
@@ -224,19 +251,19 @@ fn shown(c: Chip, a: u8) -> u8
     ensures { λ r. ⌜ r ≡ shownOf c a ⌝ }
 {
     match a {
-        0x00 => port0(c),
-        0x01 => port1(c),
-        0x03 => port2(c),
-        0x04 => port3(c),
-        0x05 => c.mdcon,
-        0x06 => hvcon(c),
-        0x07 => (c.sync.lines.latch.0 % 256) as u8,
-        0x08 => (c.sync.lines.latch.0 / 256) as u8,
-        0x09 => (c.sync.periods.latch.0 % 256) as u8,
-        0x0a => (c.sync.periods.latch.0 / 256) as u8,
-        0x10 => c.irqx,
-        0x14 => c.bus.iidat,
-        0x15 => c.bus.iists,
+        PT0 => port0(c),
+        PT1 => port1(c),
+        PT2 => port2(c),
+        PT3 => port3(c),
+        MDCON => c.mdcon,
+        HVCON => hvcon(c),
+        HCNTL => (c.sync.lines.latch.0 % 256) as u8,
+        HCNTH => (c.sync.lines.latch.0 / 256) as u8,
+        VCNTL => (c.sync.periods.latch.0 % 256) as u8,
+        VCNTH => (c.sync.periods.latch.0 / 256) as u8,
+        IRQX => c.irqx,
+        IIDAT => c.bus.iidat,
+        IISTS => c.bus.iists,
         _ => register_at(c, a),
     }
 }
@@ -268,7 +295,7 @@ pub fn read_register(c: Chip, a: u8) -> Reading
 fn kept_apart(a: u8) -> bool
     ensures { λ r. ⌜ r ≡ keptApart a ⌝ }
 {
-    ((a == 0x05) | (a == 0x06)) | ((0x12 < a) & (a < 0x17))
+    ((a == MDCON) | (a == HVCON)) | ((CLRWDT < a) & (a < BTCON))
 }
 
 fn reserved_mask(a: u8) -> u8

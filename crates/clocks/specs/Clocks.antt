@@ -1,9 +1,9 @@
 -- What a clock does, and a polarity that is found (document 01, "Flags, timer, watchdog, reset" and "Counting sync").
 use Prim.Native.Nat.{ℕ}
-use mathlib.Core.Bool.{Bool, true, false, _&&_}
+use mathlib.Core.Bool.{Bool, false}
 use lib.Dec.{eqb}
 use Rattle.bits.specs.Byte.{pick, bit, withBit}
-use Rattle.registers.specs.Names.{BTCON}
+use Rattle.registers.specs.Names.{BTCON, INTR}
 use Rattle.sync.specs.Sync.{onPeriod, timerNext, timerOverflows, watchdogNext, watchdogFires}
 use Rattle.chip.specs.declared.Chip.{Chip}
 use Rattle.chip.specs.State.{registerAt, hselOf, resetChip, raised, withBt, withWatchdog, withSync, withPolarity}
@@ -18,7 +18,7 @@ timerRuns btcon k = pick (bit 0 btcon) false (pick (bit 1 btcon) (eqb k 2) (eqb 
 
 -- it steps by one, and the step FF to 00 sets flag R
 unfoldable pub timerStep : Chip → Chip
-timerStep c = withBt (raised c (pick (timerOverflows (c .bt)) 0x04 0)) (timerNext (c .bt))
+timerStep c = withBt (raised c (pick (timerOverflows (c .bt)) INTR 0)) (timerNext (c .bt))
 
 unfoldable pub timerClock : Chip → ℕ → Chip
 timerClock c k = pick (timerRuns (registerAt c BTCON) k) (timerStep c) c
@@ -27,10 +27,11 @@ timerClock c k = pick (timerRuns (registerAt c BTCON) k) (timerStep c) c
 unfoldable pub watchdogClock : Chip → Chip
 watchdogClock c = pick (watchdogFires (c .watchdog)) (resetChip c) (withWatchdog c (watchdogNext (c .watchdog)))
 
--- clock 0 is that of 8 µs, 3 that of the watchdog, 1 and 2 are base clocks; none runs while RESET is low
+-- clock 0 is that of 8 µs, 3 that of the watchdog, 1 and 2 are base clocks
 unfoldable pub clockedAs : Chip → ℕ → Chip
 clockedAs c k = pick (eqb k 0) (periodClock c) (pick (eqb k 3) (watchdogClock c) (timerClock c k))
 
+-- no clock runs while RESET is low
 unfoldable pub clocked : Chip → ℕ → Chip
 clocked c k = pick (c .reset) (clockedAs c k) c
 

@@ -3,6 +3,8 @@ ghost use mathlib.Core.Path.{_≡_};
 ghost use Rattle.bits.specs.Byte.{pick};
 ghost use Rattle.clocks.specs.Clocks.{periodClock, timerRuns, timerStep, timerClock, watchdogClock, clockedAs, clocked as clockedOf, polarityFound};
 use chip::Chip;
+use registers::BTCON;
+use registers::INTR;
 
 // A clock of 8 µs.
 pub fn period_clock(c: Chip) -> Chip
@@ -27,7 +29,7 @@ fn timer_runs(btcon: u8, k: u8) -> bool
 fn timer_step(c: Chip) -> Chip
     ensures { λ r. ⌜ r ≡ timerStep c ⌝ }
 {
-    let flags = lines::flag_if(sync::timer_overflows(c.bt), 0x04);
+    let flags = lines::flag_if(sync::timer_overflows(c.bt), INTR);
     let mut n = lines::raised(c, flags);
     n.bt = sync::timer_next(c.bt);
     n
@@ -37,7 +39,7 @@ fn timer_clock(c: Chip, k: u8) -> Chip
     ensures { λ r. ⌜ r ≡ timerClock c k ⌝ }
 {
     let registers = c.registers;
-    if timer_runs(registers[0x17], k) {
+    if timer_runs(registers[BTCON as usize], k) {
         timer_step(c)
     } else {
         c

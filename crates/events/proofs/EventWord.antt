@@ -8,10 +8,10 @@ use borrow.Author.Tests.{ltb-false, le-ltb, eqb-true, eqb-false}
 use Rattle.bits.specs.Byte.{num}
 use Rattle.bits.proofs.Mask.{num-lt}
 use Rattle.events.proofs.Level.{pick-by, eqb-num, num-eqb}
-use Rattle.events.proofs.Refusal.{pin-lt, decode-in-range}
+use Rattle.events.proofs.Refusal.{pin-lt, decode-in-range, number-is}
 use Rattle.events.specs.declared.Decoded.{Decoded}
 use Rattle.events.specs.declared.Decoded.the-variants.{Read, Write, Pin, Clock, Polarity, Refused}
-use Rattle.events.specs.Word.{kind, reserved, fieldA, fieldB, eventWord, refusedWord, event, noEvent, noPlace, badByte}
+use Rattle.events.specs.Word.{kind, reserved, fieldA, fieldB, eventWord, refusedWord, event, noEvent, noPlace, badByte, DecodedCase}
 use Rattle.events.specs.Word.{decode, encode, numberOf, kindOf, InRange}
 
 -- the fields of a word made of a kind, an A and a B
@@ -111,3 +111,7 @@ kind-of-word (Refused number) h z = omega arith
 
 pub kind-of-decode : (w : ℕ) → numberOf (decode w) ≡ 0 → kindOf (decode w) ≡ kind w
 kind-of-decode w z = sym (kind-of-word (decode w) (decode-in-range w) z) ∙ ap kind (encode-decode w z)
+
+-- the contract of `decode` for a result that equals the definition's
+pub decode-case : (w : ℕ) (r : Decoded) → r ≡ decode w → (r ≡ decode w) × DecodedCase w r
+decode-case w r e = (e, rw e (record { number = number-is w; values = encode-decode w }))

@@ -42,7 +42,7 @@ first-is false false true = (refl, refl, refl, refl)
 first-is false false false = (refl, refl, refl, refl)
 
 module _ (w : ℕ) where
-  number-is : numberOf (decode w) ≡ first (noEvent w) (noPlace w) (badByte w)
+  pub number-is : numberOf (decode w) ≡ first (noEvent w) (noPlace w) (badByte w)
   unfolding decode
   number-is = number-first (noEvent w) (noPlace w) (badByte w) (event w) (number-event w)
 

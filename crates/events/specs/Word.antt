@@ -120,3 +120,12 @@ encode (Pin a level) = eventWord 3 a (num level)
 encode (Clock a) = eventWord 4 a 0
 encode (Polarity vertical level) = eventWord 5 (num vertical) (num level)
 encode (Refused number) = refusedWord number
+
+-- "Numbers given back", 1 to 3 in their order, of a word
+abbrev pub refusal : ℕ → ℕ
+refusal word = pick (noEvent word) 1 (pick (noPlace word) 2 (pick (badByte word) 3 0))
+
+-- what a decoded word says in the paper's numbers: the number that refuses it, or the kind and the values of the word
+pub record DecodedCase (word : ℕ) (decoded : Decoded) : Type 0 where
+  pub number : numberOf decoded ≡ refusal word
+  pub values : numberOf decoded ≡ 0 → encode decoded ≡ word

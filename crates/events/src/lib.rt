@@ -1,7 +1,7 @@
 // Event words and answer words (document 01, "Event words").
 ghost use mathlib.Core.Path.{_≡_};
 ghost use Rattle.events.specs.Word.{decode as decodeOf, encode as encodeOf, event as eventOf, isPin, noEvent, noPlace, badByte};
-ghost use Rattle.events.specs.Word.{answerWord, answerFields, refusedWord, eventWord};
+ghost use Rattle.events.specs.Word.{DecodedCase, answerWord, answerFields, refusedWord, eventWord};
 
 // An event, or the number with which a word is refused.
 pub enum Decoded {
@@ -86,7 +86,7 @@ fn event(word: u32) -> Decoded
 
 // The first number that applies refuses the word, else it is an event.
 pub fn decode(word: u32) -> Decoded
-    ensures { λ r. ⌜ r ≡ decodeOf word ⌝ }
+    ensures { λ r. ⌜ (r ≡ decodeOf word) × DecodedCase word r ⌝ }
 {
     if no_event(word) {
         return Decoded::Refused(1);

@@ -3,6 +3,7 @@ use Prim.Native.Nat.{ℕ}
 use mathlib.Core.Bool.{Bool, true, false}
 use lib.Bits.{bitOr}
 use Rattle.bits.specs.Byte.{pick, bit, withBit}
+use Rattle.registers.specs.Names.{INTS, INTD, INTA}
 use Rattle.bus.specs.declared.Mode.{Mode}
 use Rattle.bus.specs.declared.Mode.the-variants.{Off, Ddc1, Ddc2b}
 use Rattle.bus.specs.declared.Edge.{Edge}
@@ -26,7 +27,7 @@ activeMode c = pick (c .reset) (modeOf c) Off
 
 -- ---- a change of mode
 
--- turning DDC on or off, or changing MD1/2 while on, releases the lines; no edge is made of that
+-- a change of mode frees the bus, and no edge is seen in that
 unfoldable pub busAtMode : Mode → Mode → Bus → Bus
 busAtMode old new b = pick (changesMode old new) (released b) b
 
@@ -43,18 +44,18 @@ sdaLine b level = line (pullsSda (b .phase)) level
 -- a rise of the SCL line in DDC2B; a matched address sets flag A
 unfoldable pub sclRise : Chip → Chip
 sclRise c =
-    withBus (raised c (pick (matchesAtRise (c .bus .iiadr) (sdaLine (c .bus) (c .sda)) (c .bus .phase)) 0x08 0))
+    withBus (raised c (pick (matchesAtRise (c .bus .iiadr) (sdaLine (c .bus) (c .sda)) (c .bus .phase)) INTA 0))
     (busAtRise (sdaLine (c .bus) (c .sda)) (c .bus))
 
 -- a fall of the SCL line in DDC2B sets flag S, and D where the chip takes hold of SCL
 unfoldable pub sclFall : Chip → Chip
 sclFall c =
-    withBus (raised c (bitOr 0x20 (pick (holdsAtFall (c .bus .phase)) 0x10 0)))
+    withBus (raised c (bitOr INTS (pick (holdsAtFall (c .bus .phase)) INTD 0)))
     (withPhase (c .bus) (phaseAtFall (c .bus .phase)))
 
 -- a fall of the SCL line in DDC1 sets flag S and clears MD1/2, which is a change of mode
 unfoldable pub leaveDdc1 : Chip → Chip
-leaveDdc1 c = withBus (withMdcon (raised c 0x20) (withBit (c .mdcon) 0 false)) (released (c .bus))
+leaveDdc1 c = withBus (withMdcon (raised c INTS) (withBit (c .mdcon) 0 false)) (released (c .bus))
 
 unfoldable pub onSclDdc1 : Edge → Chip → Chip
 onSclDdc1 Flat c = c

@@ -9,6 +9,11 @@ use bus::Phase;
 use bus::Shifter;
 use chip::Bus;
 use chip::Chip;
+use registers::INTA;
+use registers::INTD;
+use registers::INTS;
+use registers::START;
+use registers::STOP;
 
 // Flags set in IRQX.
 pub fn raised(c: Chip, flags: u8) -> Chip
@@ -86,7 +91,7 @@ fn scl_rise(c: Chip) -> Chip
     let b = c.bus;
     let phase = b.phase;
     let sda = sda_line(b, c.sda);
-    let flags = flag_if(bus::matches_at_rise(b.iiadr, sda, phase), 0x08);
+    let flags = flag_if(bus::matches_at_rise(b.iiadr, sda, phase), INTA);
     let mut n = raised(c, flags);
     let after = bus_at_rise(sda, b);
     n.bus = after;
@@ -98,8 +103,8 @@ fn scl_fall(c: Chip) -> Chip
 {
     let b = c.bus;
     let phase = b.phase;
-    let flags = flag_if(bus::holds_at_fall(phase), 0x10);
-    let mut n = raised(c, 0x20 | flags);
+    let flags = flag_if(bus::holds_at_fall(phase), INTD);
+    let mut n = raised(c, INTS | flags);
     let after = with_phase(b, bus::phase_at_fall(phase));
     n.bus = after;
     n
@@ -109,7 +114,7 @@ fn leave_ddc1(c: Chip) -> Chip
     ensures { λ r. ⌜ r ≡ leaveDdc1 c ⌝ }
 {
     let b = c.bus;
-    let mut n = raised(c, 0x20);
+    let mut n = raised(c, INTS);
     n.mdcon = bits::with_bit(c.mdcon, 0, false);
     let after = chip::released(b);
     n.bus = after;
@@ -169,7 +174,7 @@ fn started(c: Chip) -> Chip
     let b = c.bus;
     let shifter = b.shifter;
     let after = Bus {
-        iists: b.iists | 0x20,
+        iists: b.iists | START,
         iiadr: b.iiadr,
         iidat: b.iidat,
         phase: Phase::Address {
@@ -190,7 +195,7 @@ fn stopped(c: Chip) -> Chip
     let b = c.bus;
     let shifter = b.shifter;
     let after = Bus {
-        iists: b.iists | 0x10,
+        iists: b.iists | STOP,
         iiadr: b.iiadr,
         iidat: b.iidat,
         phase: Phase::Idle,

@@ -4,6 +4,7 @@ use mathlib.Core.Bool.{Bool, true, false, not, _&&_}
 use lib.Bits.{bitOr}
 use lib.Dec.{eqb, ltb}
 use Rattle.bits.specs.Byte.{pick, bit, withBit}
+use Rattle.registers.specs.Names.{INTD, INTE, INTV}
 use Rattle.sync.specs.Sync.{onHsync, onVsync}
 use Rattle.bus.specs.declared.Edge.{Edge}
 use Rattle.bus.specs.declared.Edge.the-variants.{Flat, Rise, Fall}
@@ -47,7 +48,7 @@ port2Moved c p level = withPins c (pinsOf (c .pins .port0) (c .pins .port1) (wit
 
 -- a rise of P16 sets flag E
 unfoldable pub p16Moved : Chip → Bool → Chip
-p16Moved c level = port1Moved (raised c (pick (rises (c .reset) (bit 6 (c .pins .port1)) level) 0x02 0)) 14 level
+p16Moved c level = port1Moved (raised c (pick (rises (c .reset) (bit 6 (c .pins .port1)) level) INTE 0)) 14 level
 
 -- ---- sync inputs
 abbrev pub hsyncLevel : Chip → Bool → Chip
@@ -64,7 +65,7 @@ hsyncMoved c level = withSync (hsyncLevel c level) (pick (rises (c .reset) (c .p
 unfoldable pub vsyncRise : Chip → Chip
 vsyncRise c =
     withBus
-    (withSync (raised c (bitOr 0x01 (pick (loadsAtVsync (modeOf c) (c .bus .shifter)) 0x10 0))) (onVsync (hselOf c) (c .sync)))
+    (withSync (raised c (bitOr INTV (pick (loadsAtVsync (modeOf c) (c .bus .shifter)) INTD 0))) (onVsync (hselOf c) (c .sync)))
     (busAtVsync (modeOf c) (c .bus))
 
 unfoldable pub vsyncMoved : Chip → Bool → Chip

@@ -3,6 +3,9 @@ ghost use mathlib.Core.Path.{_≡_};
 ghost use Rattle.pins.specs.Pins.{pinKind, rises as risesOf, port0Moved, port1Moved, port2Moved, p16Moved, hsyncLevel, vsyncLevel, hsyncMoved, vsyncRise, vsyncMoved, onReset, resetMoved, pinMovedAs, pinMoved};
 use bus::Edge;
 use chip::Chip;
+use registers::INTD;
+use registers::INTE;
+use registers::INTV;
 
 // What a pin is.
 pub enum PinKind {
@@ -80,7 +83,7 @@ fn p16_moved(c: Chip, level: bool) -> Chip
     ensures { λ r. ⌜ r ≡ p16Moved c level ⌝ }
 {
     let rise = rises(c.reset, bits::bit(6, c.pins.port1), level);
-    let flags = lines::flag_if(rise, 0x02);
+    let flags = lines::flag_if(rise, INTE);
     port1_moved(lines::raised(c, flags), 14, level)
 }
 
@@ -121,8 +124,8 @@ fn vsync_rise(c: Chip) -> Chip
     let shifter = b.shifter;
     let counters = c.sync;
     let mode = chip::mode_of(c);
-    let flags = lines::flag_if(lines::loads_at_vsync(mode, shifter), 0x10);
-    let mut n = lines::raised(c, 0x01 | flags);
+    let flags = lines::flag_if(lines::loads_at_vsync(mode, shifter), INTD);
+    let mut n = lines::raised(c, INTV | flags);
     let latched = sync::on_vsync(chip::hsel(c), counters);
     n.sync = latched;
     let shifted = lines::bus_at_vsync(mode, b);

@@ -37,7 +37,7 @@ latchLines c =
 unfoldable pub clearLines : Bool → LineCounter → LineCounter
 clearLines bit c = pick bit (record { count = record { 0 = 0 }; latch = c .latch; overflow = false }) c
 
--- HSEL from 1 to 0 zeroes the count, in overflow too, and leaves the overflow bit
+-- a cleared HSEL starts the count anew, also in overflow, whose bit it leaves
 unfoldable pub zeroLines : LineCounter → LineCounter
 zeroLines c = record { count = record { 0 = 0 }; latch = c .latch; overflow = c .overflow }
 
@@ -128,7 +128,7 @@ zeroSync =
       interval = 0;
     }
 
--- well formed (document 01, "Numbers given back"): counts and latches 0..4095, interval 0..1023
+-- "Numbers given back", well formed: 12 bits for counts and latches, 10 for the interval
 unfoldable pub wellSync : Sync → Bool
 wellSync s =
     (((ltb (s .lines .count .0) 4096

@@ -1,6 +1,6 @@
 -- What a write does (document 01, "Registers", "Flags, timer, watchdog, reset", "Counting sync", "The bus").
 use Prim.Native.Nat.{ℕ, _-_}
-use mathlib.Core.Bool.{Bool, true, false}
+use mathlib.Core.Bool.{Bool}
 use lib.Bits.{bitAnd, bitOr}
 use lib.Dec.{eqb}
 use lib.ListN.{set}
@@ -9,7 +9,7 @@ use Rattle.registers.specs.Names.{MDCON, HVCON, CLRFLG, CLRWDT, IIADR, IIDAT, I
 use Rattle.registers.specs.Table.{writeMask, isWritable}
 use Rattle.sync.specs.declared.Sync.{Sync}
 use Rattle.sync.specs.Sync.{hselCleared, clearOverflow}
-use Rattle.bus.specs.Lines.{mode, line, pullsSda, pullsScl}
+use Rattle.bus.specs.Lines.{mode, pullsScl}
 use Rattle.bus.specs.Ddc2b.{phaseLetGo}
 use Rattle.chip.specs.declared.Bus.{Bus}
 use Rattle.chip.specs.declared.Chip.{Chip}
@@ -39,7 +39,7 @@ updated a old b = merge (writeMask a) old b
 unfoldable pub storedWritten : Chip → ℕ → ℕ → Chip
 storedWritten c a b = withRegisters c (set (c .registers) a (updated a (registerAt c a) b))
 
--- HSEL changed from 1 to 0 zeroes HCNT and the interval
+-- a cleared HSEL starts the count of lines and the interval anew
 unfoldable pub syncAtHsel : Bool → Bool → Sync → Sync
 syncAtHsel old new s = pick old (pick new s (hselCleared s)) s
 
@@ -72,7 +72,7 @@ iistsWritten c b =
     (busAtMode (mode (c .bus .iists) (c .mdcon)) (mode new (c .mdcon))
     (busOf new (c .bus .iiadr) (c .bus .iidat) (c .bus .phase) (c .bus .shifter)))
 
--- II DAT stored, in the phase given
+-- II DAT stored, all else kept
 abbrev pub withIidat : ℕ → Bus → Bus
 withIidat b bus = busOf (bus .iists) (bus .iiadr) (updated IIDAT (bus .iidat) b) (bus .phase) (bus .shifter)
 
@@ -84,7 +84,7 @@ busLetGo b bus = busOf (bus .iists) (bus .iiadr) (updated IIDAT (bus .iidat) b) 
 unfoldable pub busRisen : Bool → Bool → Bus → Bus
 busRisen scl sda bus = pick scl (busAtRise (sdaLine bus sda) bus) bus
 
--- a write to II DAT lets SCL go while held; any other only stores
+-- held, a write to II DAT releases SCL; at any other time it stores
 unfoldable pub busAtIidat : Bool → Bool → ℕ → Bus → Bus
 busAtIidat scl sda b bus = pick (pullsScl (bus .phase)) (busRisen scl sda (busLetGo b bus)) (withIidat b bus)
 

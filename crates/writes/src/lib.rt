@@ -3,6 +3,14 @@ ghost use mathlib.Core.Path.{_≡_};
 ghost use Rattle.writes.specs.Writes.{target, updated as updatedOf, storedWritten, syncAtHsel, mdconWritten, clrflgWritten, clrwdtWritten, iiadrWritten, statusWritten, iistsWritten, withIidat, busLetGo, busRisen, busAtIidat, iidatWritten, writtenTo, written as writtenOf, writeNumber, writeRegister};
 use chip::Bus;
 use chip::Chip;
+use registers::BT;
+use registers::CLRFLG;
+use registers::CLRWDT;
+use registers::HVCON;
+use registers::IIADR;
+use registers::IIDAT;
+use registers::IISTS;
+use registers::MDCON;
 use sync::Sync;
 
 // What a register's write does beside or instead of storing under the mask.
@@ -23,14 +31,14 @@ pub fn target_of(a: u8) -> Target
     ensures { λ r. ⌜ r ≡ target a ⌝ }
 {
     match a {
-        0x05 => Target::Mdcon,
-        0x06 => Target::Hvcon,
-        0x11 => Target::Clrflg,
-        0x12 => Target::Clrwdt,
-        0x13 => Target::Iiadr,
-        0x14 => Target::Iidat,
-        0x15 => Target::Iists,
-        0x16 => Target::Bt,
+        MDCON => Target::Mdcon,
+        HVCON => Target::Hvcon,
+        CLRFLG => Target::Clrflg,
+        CLRWDT => Target::Clrwdt,
+        IIADR => Target::Iiadr,
+        IIDAT => Target::Iidat,
+        IISTS => Target::Iists,
+        BT => Target::Bt,
         _ => Target::Stored,
     }
 }
@@ -70,19 +78,19 @@ fn mdcon_written(c: Chip, b: u8) -> Chip
     ensures { λ r. ⌜ r ≡ mdconWritten c b ⌝ }
 {
     let old = c.mdcon;
-    let new = updated(0x05, old, b);
+    let new = updated(MDCON, old, b);
     let counters = c.sync;
     let lines = c.bus;
     let mut n = c;
     n.mdcon = new;
     let after = sync_at_hsel(bits::bit(2, old), bits::bit(2, new), counters);
     n.sync = after;
-    let released = lines::bus_at_mode(
+    let wires = lines::bus_at_mode(
         bus::mode_of(lines.iists, old),
         bus::mode_of(lines.iists, new),
         lines,
     );
-    n.bus = released;
+    n.bus = wires;
     n
 }
 
@@ -113,7 +121,7 @@ fn iiadr_written(c: Chip, b: u8) -> Chip
     ensures { λ r. ⌜ r ≡ iiadrWritten c b ⌝ }
 {
     let mut n = c;
-    let value = updated(0x13, c.bus.iiadr, b);
+    let value = updated(IIADR, c.bus.iiadr, b);
     n.bus.iiadr = value;
     n
 }
@@ -121,7 +129,7 @@ fn iiadr_written(c: Chip, b: u8) -> Chip
 fn status_written(old: u8, b: u8) -> u8
     ensures { λ r. ⌜ r ≡ statusWritten old b ⌝ }
 {
-    updated(0x15, old, b) & (b | 0xcf)
+    updated(IISTS, old, b) & (b | 0xcf)
 }
 
 fn iists_written(c: Chip, b: u8) -> Chip
@@ -145,7 +153,7 @@ fn with_iidat(b: u8, lines: Bus) -> Bus
     ensures { λ r. ⌜ r ≡ withIidat b lines ⌝ }
 {
     let mut n = lines;
-    n.iidat = updated(0x14, n.iidat, b);
+    n.iidat = updated(IIDAT, n.iidat, b);
     n
 }
 
@@ -156,7 +164,7 @@ fn bus_let_go(b: u8, lines: Bus) -> Bus
     Bus {
         iists: lines.iists,
         iiadr: lines.iiadr,
-        iidat: updated(0x14, lines.iidat, b),
+        iidat: updated(IIDAT, lines.iidat, b),
         phase: bus::phase_let_go(bits::bit(2, lines.iists), b),
         shifter: shifter,
     }
@@ -213,7 +221,7 @@ fn hvcon_written(c: Chip, b: u8) -> Chip
     ensures { λ r. ⌜ r ≡ writtenTo Target.Hvcon c 0x06 b ⌝ }
 {
     let mut n = c;
-    n.polarity = updated(0x06, c.polarity, b);
+    n.polarity = updated(HVCON, c.polarity, b);
     n
 }
 
@@ -221,7 +229,7 @@ fn bt_written(c: Chip, b: u8) -> Chip
     ensures { λ r. ⌜ r ≡ writtenTo Target.Bt c 0x16 b ⌝ }
 {
     let mut n = c;
-    n.bt = updated(0x16, c.bt, b);
+    n.bt = updated(BT, c.bt, b);
     n
 }
 

@@ -1,7 +1,7 @@
 -- `chip::released` meets its contract.
 -- Assumes nothing.
-use mathlib.Core.Path.{refl}
 use Rattle.chip.specs.State.{released}
+use borrow.Author.Needs.{needs}
 use Rattle.chip.proofs.released.Statement.{statement}
 use Rattle.chip.proofs.released.Tie as tie
 
@@ -10,4 +10,5 @@ unfolding released
 released-spec =
     tie.close
     (tie.spec
-    (λ c. refl))
+    (λ c κs. search needs)
+    (λ c. simp (c .idle-bus .ensures)))

@@ -12,4 +12,5 @@ requests-spec =
     tie.close
     (tie.spec
     (λ c. search needs)
+    (λ c. search needs)
     (λ c. refl))

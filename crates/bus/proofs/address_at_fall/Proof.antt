@@ -1,0 +1,15 @@
+-- `bus::address_at_fall` meets its contract.
+-- Assumes nothing.
+use Rattle.bus.specs.Ddc2b.{phaseAtFall}
+use borrow.Author.Needs.{needs}
+use Rattle.bus.proofs.address_at_fall.Statement.{statement}
+use Rattle.bus.proofs.address_at_fall.Tie as tie
+
+pub address-at-fall-spec : {M : Type 1} → statement M
+unfolding phaseAtFall
+address-at-fall-spec =
+    tie.close
+    (tie.spec
+    (λ c κs. search needs)
+    (λ c. simp (c .if1 .taken))
+    (λ c. simp (c .acknowledges .ensures, c .before .if1 .left)))

@@ -1,0 +1,17 @@
+-- `capi::nt6861_run` meets its contract.
+-- Assumes nothing.
+use mathlib.Core.Path.{_≡_, ap, _∙_}
+use Prim.Native.Nat.{ℕ}
+use borrow.Author.Needs.{needs}
+use Rattle.run.specs.declared.Ran.{Ran}
+use Rattle.capi.proofs.nt6861_run.Statement.{statement}
+use Rattle.capi.proofs.nt6861_run.Tie as tie
+
+pub nt6861-run-spec : {M : Type 1} → statement M
+nt6861-run-spec =
+    tie.close
+    (tie.spec
+    (λ c κs. search needs)
+    (λ c κs. search needs)
+    (λ c. search needs)
+    (λ c. simp (← (c .before .before .before .before .fresh .ensures)) (ap (λ (r : Ran). r .number) (c .before .before .run .ensures .0), c .before .before .run .ensures .1)))

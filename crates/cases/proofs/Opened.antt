@@ -1,0 +1,26 @@
+-- Every definition that a step goes through, opened at once.
+use Prim.Native.Nat.{ℕ}
+use Rattle.bits.specs.Byte.{bit, merge, withBit}
+use Rattle.registers.specs.Table.{table, rowOf, resetValue, writeMask, readMask, isWritable, isReadable, resets}
+use Rattle.events.specs.Word.{event, noEvent, noPlace, badByte, decode}
+use Rattle.sync.specs.Count.{counted, overflowed, latched, zeroed, cycleNext}
+use Rattle.sync.specs.Sync.{stepLines, latchLines, clearLines, zeroLines, stepPeriods, latchPeriods, clearPeriods, onHsync, linesOnVsync, onVsync, intervalNext, linesOnPeriod, onPeriod, hselCleared, clearOverflow, zeroSync, wellSync, timerNext, timerOverflows, watchdogNext, watchdogFires}
+use Rattle.bus.specs.Ddc1.{loadsAtRise, shifterAtRise}
+use Rattle.bus.specs.Ddc2b.{matches, gathered, phaseAtRise, dataAtRise, matchesAtRise, statusAtRise, holdsAtFall, acknowledges, phaseAtFall}
+use Rattle.bus.specs.Lines.{mode, changesMode, pullsAtBit, pullsSda, pullsScl, sdaPulled, sclPulled}
+use Rattle.chip.specs.Form.{reservedMask, reservedAt, reservedApart, gatheredFits, phaseFits, isIdle, isEmpty, busFits, wellFormed}
+use Rattle.chip.specs.Reads.{port0, port1, port2, port3, hvcon, shown, reading}
+use Rattle.chip.specs.State.{released, requests, resetAt, resetChip, fresh}
+use Rattle.lines.specs.Bus.{busAtMode, busAtRise, sclRise, sclFall, leaveDdc1, onSclDdc1, onSclDdc2b, onScl, sclMoved, started, stopped, onSdaDdc2b, onSda, sdaMoved, busAtVsync, loadsAtVsync}
+use Rattle.writes.specs.Writes.{target, storedWritten, syncAtHsel, mdconWritten, clrflgWritten, clrwdtWritten, iiadrWritten, statusWritten, iistsWritten, busRisen, busAtIidat, iidatWritten, writtenTo, written, writeNumber, writeRegister}
+use Rattle.pins.specs.Pins.{pinKind, port0Moved, port1Moved, port2Moved, p16Moved, hsyncMoved, vsyncRise, vsyncMoved, onReset, resetMoved, pinMovedAs, pinMoved}
+use Rattle.clocks.specs.Clocks.{periodClock, timerRuns, timerStep, timerClock, watchdogClock, clockedAs, clocked, polarityFound}
+use Rattle.rates.specs.Report.{byPeriods, byInterval, byField, fieldReport, lineReport}
+use Rattle.report.specs.Report.{scanReport, rateReport}
+use Rattle.step.specs.Step.{next, numberGiven, byteGiven, watchdogReset, answered, advance, step}
+use Rattle.run.specs.Run.{ran, ranAnswers}
+
+-- a proof that names this on its `unfolding` line computes steps
+unfoldable pub opened : ℕ
+unfolding bit merge withBit table rowOf resetValue writeMask readMask isWritable isReadable resets event noEvent noPlace badByte decode counted overflowed latched zeroed cycleNext stepLines latchLines clearLines zeroLines stepPeriods latchPeriods clearPeriods onHsync linesOnVsync onVsync intervalNext linesOnPeriod onPeriod hselCleared clearOverflow zeroSync wellSync timerNext timerOverflows watchdogNext watchdogFires loadsAtRise shifterAtRise matches gathered phaseAtRise dataAtRise matchesAtRise statusAtRise holdsAtFall acknowledges phaseAtFall mode changesMode pullsAtBit pullsSda pullsScl sdaPulled sclPulled reservedMask reservedAt reservedApart gatheredFits phaseFits isIdle isEmpty busFits wellFormed port0 port1 port2 port3 hvcon shown reading released requests resetAt resetChip fresh busAtMode busAtRise sclRise sclFall leaveDdc1 onSclDdc1 onSclDdc2b onScl sclMoved started stopped onSdaDdc2b onSda sdaMoved busAtVsync loadsAtVsync target storedWritten syncAtHsel mdconWritten clrflgWritten clrwdtWritten iiadrWritten statusWritten iistsWritten busRisen busAtIidat iidatWritten writtenTo written writeNumber writeRegister pinKind port0Moved port1Moved port2Moved p16Moved hsyncMoved vsyncRise vsyncMoved onReset resetMoved pinMovedAs pinMoved periodClock timerRuns timerStep timerClock watchdogClock clockedAs clocked polarityFound next numberGiven byteGiven watchdogReset answered advance step ran ranAnswers byPeriods byInterval byField fieldReport lineReport scanReport rateReport
+opened = 0

@@ -1,0 +1,132 @@
+-- A base clock sets flag R where the base timer steps from FF, the 64th watchdog clock clears all flags, and no other clock or polarity moves one.
+-- Assumes nothing.
+use mathlib.Core.Path.{_≡_, refl, sym, _∙_}
+use mathlib.Core.Bool.{Bool, true, false, not, _&&_, _||_, Bool·beq}
+use Prim.Native.Nat.{ℕ, zero, suc}
+use native.Mathlib.Omega.{arith}
+use borrow.Author.Tests.{ltb-true, ltb-false, lt-ltb, le-ltb}
+use lib.Dec.{T, eqb, ltb}
+use lib.Bits.{bitOr, or-zero-r}
+use Rattle.bits.specs.Byte.{pick, bit}
+use Rattle.bits.proofs.Finite.{beq-eq}
+use Rattle.registers.specs.Names.{BTCON}
+use Rattle.registers.specs.Table.{rowOf, resetValue}
+use Rattle.events.specs.declared.Decoded.the-variants.{Clock, Polarity}
+use Rattle.events.specs.Word.{InRange}
+use Rattle.sync.specs.Sync.{timerOverflows, watchdogFires}
+use Rattle.chip.specs.declared.Chip.{Chip}
+use Rattle.chip.specs.State.{resetAt, resetChip, registerAt, withWatchdog, withPolarity}
+use Rattle.clocks.specs.Clocks.{periodClock, timerRuns, timerStep, timerClock, watchdogClock, clockedAs, clocked, polarityFound}
+use Rattle.step.specs.Step.{next}
+use Rattle.causes.specs.Causes.{Source, place, flag, raises, clears}
+use Rattle.causes.specs.Causes.Source.{SclFall, DataByte, AddressMatch, TimerOverflow, ExternalRise, VsyncRise}
+use Rattle.causes.proofs.Bools.{always, at-six}
+use Rattle.causes.proofs.Flags.{after, set-bit, zero-bit}
+
+-- not below the last value is above the one before it
+last-by : (n last : ℕ) (below : Bool) → ltb n (suc last) ≡ below → not below ≡ ltb last n
+last-by n last true e = sym (le-ltb last n (omega (arith, ltb-true n (suc last) e)))
+last-by n last false e = sym (lt-ltb last n (omega (arith, ltb-false n (suc last) e)))
+
+timer-last : (n : ℕ) → timerOverflows n ≡ ltb 0xfe n
+unfolding timerOverflows
+timer-last n = last-by n 0xfe (ltb n 0xff) refl
+
+pub watchdog-last : (n : ℕ) → watchdogFires n ≡ ltb 62 n
+unfolding watchdogFires
+watchdog-last n = last-by n 62 (ltb n 63) refl
+
+-- ---- base clocks
+
+timer-irqx : (reset runs : Bool) (c : Chip) → (pick reset (pick runs (timerStep c) c) c) .irqx ≡ bitOr (c .irqx) (pick (reset && (runs && ltb 0xfe (c .bt))) 0x04 0)
+unfolding timerStep
+timer-irqx true true c = rw (timer-last (c .bt))
+timer-irqx true false c = sym (or-zero-r (c .irqx))
+timer-irqx false runs c = sym (or-zero-r (c .irqx))
+
+-- it runs on clock k, by ENBT and TBS
+abbrev runsBy : Bool → Bool → Bool → Bool → Bool
+runsBy enbt tbs two one = pick enbt false (pick tbs two one)
+
+-- the clock that TBS selects
+selected : (tbs : Bool) (k : ℕ) → eqb k (pick tbs 2 1) ≡ pick tbs (eqb k 2) (eqb k 1)
+selected true k = refl
+selected false k = refl
+
+module _ (c : Chip) (k : ℕ) where
+  at-timer-levels : (f : Bool → Bool → Bool → Bool → Bool → Bool → Bool) →
+      T (always (λ a. always (λ b. always (λ c. always (λ d. always (λ e. always (f a b c d e)))))))
+      → T (f (c .reset) (bit 0 (registerAt c BTCON)) (bit 1 (registerAt c BTCON)) (eqb k 2) (eqb k 1) (ltb 0xfe (c .bt)))
+  at-timer-levels f t = at-six f t (c .reset) (bit 0 (registerAt c BTCON)) (bit 1 (registerAt c BTCON)) (eqb k 2) (eqb k 1) (ltb 0xfe (c .bt))
+
+  timer-bit : (s : Source) → bit (place s) (pick (c .reset && (timerRuns (registerAt c BTCON) k && ltb 0xfe (c .bt))) 0x04 0) ≡ raises s c (Clock k)
+  unfolding bit raises timerRuns
+  timer-bit SclFall = beq-eq _ _ (at-timer-levels (λ r e t two one o. Bool·beq (bit 5 (pick (r && (runsBy e t two one && o)) 0x04 0)) false) tt)
+  timer-bit DataByte = beq-eq _ _ (at-timer-levels (λ r e t two one o. Bool·beq (bit 4 (pick (r && (runsBy e t two one && o)) 0x04 0)) false) tt)
+  timer-bit AddressMatch = beq-eq _ _ (at-timer-levels (λ r e t two one o. Bool·beq (bit 3 (pick (r && (runsBy e t two one && o)) 0x04 0)) false) tt)
+  timer-bit TimerOverflow =
+      rw (selected (bit 1 (registerAt c BTCON)) k)
+      (beq-eq _ _ (at-timer-levels (λ r e t two one o. Bool·beq (bit 2 (pick (r && (runsBy e t two one && o)) 0x04 0)) (pick t two one && (r && (not e && o)))) tt))
+  timer-bit ExternalRise = beq-eq _ _ (at-timer-levels (λ r e t two one o. Bool·beq (bit 1 (pick (r && (runsBy e t two one && o)) 0x04 0)) false) tt)
+  timer-bit VsyncRise = beq-eq _ _ (at-timer-levels (λ r e t two one o. Bool·beq (bit 0 (pick (r && (runsBy e t two one && o)) 0x04 0)) false) tt)
+
+  at-timer : (s : Source) → flag s (pick (c .reset) (timerClock c k) c) ≡ (raises s c (Clock k) || flag s c)
+  unfolding timerClock
+  at-timer s = rw (timer-irqx (c .reset) (timerRuns (registerAt c BTCON) k) c) (set-bit s (c .irqx) _ _ (timer-bit s))
+
+-- ---- the other clocks
+
+-- a clock that is no base clock
+pub never-clock : (s : Source) (c : Chip) (k : ℕ) → eqb k 2 ≡ false → eqb k 1 ≡ false → raises s c (Clock k) ≡ false
+unfolding raises
+never-clock SclFall c k two one = refl
+never-clock DataByte c k two one = refl
+never-clock AddressMatch c k two one = refl
+never-clock TimerOverflow c k two one = rw (selected (bit 1 (registerAt c BTCON)) k, two, one) (neither (bit 1 (registerAt c BTCON)) _)
+  where
+    neither : (b x : Bool) → (pick b false false && x) ≡ false
+    neither true x = refl
+    neither false x = refl
+never-clock ExternalRise c k two one = refl
+never-clock VsyncRise c k two one = refl
+
+period-by : (reset : Bool) (c : Chip) → (pick reset (periodClock c) c) .irqx ≡ c .irqx
+unfolding periodClock
+period-by true c = refl
+period-by false c = refl
+
+watchdog-by : (reset fires : Bool) (s : Source) (c : Chip) (n : ℕ) →
+    flag s (pick reset (pick fires (resetChip c) (withWatchdog c n)) c) ≡ (not (reset && fires) && flag s c)
+unfolding resetChip resetAt resetValue rowOf
+watchdog-by true true s c n = zero-bit s
+watchdog-by true false s c n = refl
+watchdog-by false fires s c n = refl
+
+-- ---- all clocks
+
+pub at-clock : (s : Source) (c : Chip) (k : ℕ) → InRange (Clock k) → flag s (next c (Clock k)) ≡ after s c (Clock k)
+unfolding next clocked clockedAs clears watchdogClock
+at-clock s c zero h = rw (never-clock s c 0 refl refl, period-by (c .reset) c)
+at-clock s c (suc zero) h = at-timer c 1 s
+at-clock s c (suc (suc zero)) h = at-timer c 2 s
+at-clock s c (suc (suc (suc zero))) h =
+    watchdog-by (c .reset) (watchdogFires (c .watchdog)) s c _
+    ∙ rw (never-clock s c 3 refl refl, watchdog-last (c .watchdog))
+at-clock s c (suc (suc (suc (suc k)))) h = absurd (omega arith)
+
+never-polarity : (s : Source) (c : Chip) (vertical level : Bool) → raises s c (Polarity vertical level) ≡ false
+unfolding raises
+never-polarity SclFall c vertical level = refl
+never-polarity DataByte c vertical level = refl
+never-polarity AddressMatch c vertical level = refl
+never-polarity TimerOverflow c vertical level = refl
+never-polarity ExternalRise c vertical level = refl
+never-polarity VsyncRise c vertical level = refl
+
+polarity-by : (reset : Bool) (c : Chip) (n : ℕ) → (pick reset (withPolarity c n) c) .irqx ≡ c .irqx
+polarity-by true c n = refl
+polarity-by false c n = refl
+
+pub at-polarity : (s : Source) (c : Chip) (vertical level : Bool) → flag s (next c (Polarity vertical level)) ≡ after s c (Polarity vertical level)
+unfolding next polarityFound clears
+at-polarity s c vertical level = rw (never-polarity s c vertical level, polarity-by (c .reset) c)

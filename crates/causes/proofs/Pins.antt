@@ -1,0 +1,286 @@
+-- A pin event sets the flags of its edge and no others, and RESET going low alone clears flags.
+-- Assumes nothing.
+use mathlib.Core.Path.{_≡_, refl, sym}
+use mathlib.Core.Bool.{Bool, true, false, not, _&&_, _||_, Bool·beq}
+use Prim.Native.Nat.{ℕ, _<_}
+use lib.Dec.{T, eqb, eqb→eq}
+use lib.Bits.{bitOr, or-zero-r}
+use Rattle.bits.specs.Byte.{pick, bit}
+use Rattle.bits.proofs.Finite.{at-each, beq-eq}
+use Rattle.registers.specs.Table.{rowOf, resetValue}
+use Rattle.events.specs.declared.Decoded.the-variants.{Pin}
+use Rattle.events.specs.Word.{InRange}
+use Rattle.events.proofs.Refusal.{pin-lt}
+use Rattle.bus.specs.declared.Mode.{Mode}
+use Rattle.bus.specs.declared.Mode.the-variants.{Off, Ddc1, Ddc2b}
+use Rattle.bus.specs.declared.Edge.{Edge}
+use Rattle.bus.specs.declared.Edge.the-variants.{Flat, Rise, Fall}
+use Rattle.bus.specs.declared.Phase.{Phase}
+use Rattle.bus.specs.declared.Phase.the-variants.{Idle, Address, Ignoring, Receive, Transmit, Held}
+use Rattle.bus.specs.declared.Shifter.{Shifter}
+use Rattle.bus.specs.Lines.{edge, line, mode, modeBy, pullsSda, pullsScl, sclPulled}
+use Rattle.bus.specs.Ddc1.{loadsAtRise}
+use Rattle.bus.specs.Ddc2b.{matches, gathered, matchesAtRise, holdsAtFall}
+use Rattle.chip.specs.declared.Chip.{Chip}
+use Rattle.chip.specs.State.{resetAt, resetChip, modeOf, withReset, withSda}
+use Rattle.lines.specs.Bus.{activeMode, onScl, onSclDdc1, onSclDdc2b, sclRise, sclFall, leaveDdc1, sclMoved, onSda, onSdaDdc2b, started, stopped, sdaMoved, loadsAtVsync}
+use Rattle.pins.specs.declared.PinKind.{PinKind}
+use Rattle.pins.specs.declared.PinKind.the-variants.{Port0, Port1, P16, Port2, Sda, Scl, Hsynci, Vsynci, Reset}
+use Rattle.pins.specs.Pins.{pinKind, rises, port0Moved, port1Moved, port2Moved, p16Moved, hsyncMoved, vsyncLevel, vsyncMoved, vsyncRise, onReset, resetMoved, pinMovedAs, pinMoved}
+use Rattle.step.specs.Step.{next}
+use Rattle.causes.specs.Causes.{Source, place, flag, raises, clears, completesMatch, inNinthClock}
+use Rattle.causes.specs.Causes.Source.{SclFall, DataByte, AddressMatch, TimerOverflow, ExternalRise, VsyncRise}
+use Rattle.causes.proofs.Bools.{always, at-three, at-six, at-eight}
+use Rattle.causes.proofs.Flags.{after, set-bit, zero-bit}
+
+-- ---- P16
+
+module _ (c : Chip) (level : Bool) where
+  -- a law of the Bools that it depends on
+  at-p16-levels : (f : Bool → Bool → Bool → Bool) → T (always (λ a. always (λ b. always (f a b)))) → T (f (c .reset) (bit 6 (c .pins .port1)) level)
+  at-p16-levels f t = at-three f t (c .reset) (bit 6 (c .pins .port1)) level
+
+  p16-bit : (s : Source) → bit (place s) (pick (rises (c .reset) (bit 6 (c .pins .port1)) level) 0x02 0) ≡ raises s c (Pin 14 level)
+  unfolding bit raises
+  p16-bit SclFall = beq-eq _ _ (at-p16-levels (λ r o l. Bool·beq (bit 5 (pick (rises r o l) 0x02 0)) false) tt)
+  p16-bit DataByte = beq-eq _ _ (at-p16-levels (λ r o l. Bool·beq (bit 4 (pick (rises r o l) 0x02 0)) false) tt)
+  p16-bit AddressMatch = beq-eq _ _ (at-p16-levels (λ r o l. Bool·beq (bit 3 (pick (rises r o l) 0x02 0)) false) tt)
+  p16-bit TimerOverflow = beq-eq _ _ (at-p16-levels (λ r o l. Bool·beq (bit 2 (pick (rises r o l) 0x02 0)) false) tt)
+  p16-bit ExternalRise = beq-eq _ _ (at-p16-levels (λ r o l. Bool·beq (bit 1 (pick (rises r o l) 0x02 0)) (l && (r && not o))) tt)
+  p16-bit VsyncRise = beq-eq _ _ (at-p16-levels (λ r o l. Bool·beq (bit 0 (pick (rises r o l) 0x02 0)) false) tt)
+
+  at-p16 : (s : Source) → flag s (p16Moved c level) ≡ after s c (Pin 14 level)
+  unfolding p16Moved port1Moved clears
+  at-p16 s = set-bit s (c .irqx) _ _ (p16-bit s)
+
+-- ---- SCL
+
+-- the flags that an edge of the SCL line sets: `hit` completes an address of the chip, `ninth` ends a ninth clock
+abbrev sclFlags : Mode → Edge → Bool → Bool → ℕ
+sclFlags Off e hit ninth = 0
+sclFlags Ddc1 Flat hit ninth = 0
+sclFlags Ddc1 Rise hit ninth = 0
+sclFlags Ddc1 Fall hit ninth = 0x20
+sclFlags Ddc2b Flat hit ninth = 0
+sclFlags Ddc2b Rise hit ninth = pick hit 0x08 0
+sclFlags Ddc2b Fall hit ninth = bitOr 0x20 (pick ninth 0x10 0)
+
+hit-is : (own : ℕ) (sda : Bool) (p : Phase) → matchesAtRise own sda p ≡ completesMatch own sda p
+unfolding matchesAtRise
+hit-is own sda Idle = refl
+hit-is own sda (Address count bits acknowledged) = pick-and (eqb count 7) (matches own (gathered bits sda))
+  where
+    pick-and : (a b : Bool) → pick a b false ≡ (a && b)
+    pick-and true b = refl
+    pick-and false b = refl
+hit-is own sda Ignoring = refl
+hit-is own sda (Receive count bits acknowledged) = refl
+hit-is own sda (Transmit count byte) = refl
+hit-is own sda Held = refl
+
+ninth-is : (p : Phase) → holdsAtFall p ≡ inNinthClock p
+unfolding holdsAtFall
+ninth-is Idle = refl
+ninth-is (Address count bits acknowledged) = refl
+ninth-is Ignoring = refl
+ninth-is (Receive count bits acknowledged) = refl
+ninth-is (Transmit count byte) = refl
+ninth-is Held = refl
+
+abbrev hits : Chip → Bool
+hits c = completesMatch (c .bus .iiadr) (line (pullsSda (c .bus .phase)) (c .sda)) (c .bus .phase)
+
+scl-irqx : (m : Mode) (e : Edge) (c : Chip) → onScl m e c .irqx ≡ bitOr (c .irqx) (sclFlags m e (hits c) (inNinthClock (c .bus .phase)))
+unfolding onScl onSclDdc1 onSclDdc2b sclRise sclFall leaveDdc1
+scl-irqx Off e c = sym (or-zero-r (c .irqx))
+scl-irqx Ddc1 Flat c = sym (or-zero-r (c .irqx))
+scl-irqx Ddc1 Rise c = sym (or-zero-r (c .irqx))
+scl-irqx Ddc1 Fall c = refl
+scl-irqx Ddc2b Flat c = sym (or-zero-r (c .irqx))
+scl-irqx Ddc2b Rise c = rw (hit-is (c .bus .iiadr) (line (pullsSda (c .bus .phase)) (c .sda)) (c .bus .phase))
+scl-irqx Ddc2b Fall c = rw (ninth-is (c .bus .phase))
+
+abbrev pulledBy : Mode → Bool → Bool
+pulledBy Off held = false
+pulledBy Ddc1 held = false
+pulledBy Ddc2b held = held
+
+pulled-is : (m : Mode) (p : Phase) → sclPulled m p ≡ pulledBy m (pullsScl p)
+unfolding sclPulled
+pulled-is Off p = refl
+pulled-is Ddc1 p = refl
+pulled-is Ddc2b p = refl
+
+-- the same by RESET, ENDDC, MD1/2, whether the phase holds SCL, and the levels of SCL before and after
+abbrev sclFlagsBy : Bool → Bool → Bool → Bool → Bool → Bool → Bool → Bool → ℕ
+sclFlagsBy reset enddc md held old new hit ninth =
+    let m : Mode = pick reset (modeBy enddc md) Off in
+    sclFlags m (edge (line (pulledBy m held) old) (line (pulledBy m held) new)) hit ninth
+
+module _ (c : Chip) (level : Bool) where
+  at-scl-levels : (f : Bool → Bool → Bool → Bool → Bool → Bool → Bool → Bool → Bool) →
+      T (always (λ a. always (λ b. always (λ c. always (λ d. always (λ e. always (λ g. always (λ h. always (f a b c d e g h)))))))))
+      → T (f (c .reset) (bit 3 (c .bus .iists)) (bit 0 (c .mdcon)) (pullsScl (c .bus .phase)) (c .scl) level (hits c) (inNinthClock (c .bus .phase)))
+  at-scl-levels f t = at-eight f t (c .reset) (bit 3 (c .bus .iists)) (bit 0 (c .mdcon)) (pullsScl (c .bus .phase)) (c .scl) level (hits c) (inNinthClock (c .bus .phase))
+
+  scl-bit : (s : Source) →
+      bit (place s) (sclFlagsBy (c .reset) (bit 3 (c .bus .iists)) (bit 0 (c .mdcon)) (pullsScl (c .bus .phase)) (c .scl) level (hits c) (inNinthClock (c .bus .phase)))
+      ≡ raises s c (Pin 25 level)
+  unfolding bit raises
+  scl-bit SclFall = beq-eq _ _ (at-scl-levels (λ r e m h o l a n. Bool·beq (bit 5 (sclFlagsBy r e m h o l a n)) ((not l && (r && (o && not ((not e && not m) && h)))) && not e)) tt)
+  scl-bit DataByte = beq-eq _ _ (at-scl-levels (λ r e m h o l a n. Bool·beq (bit 4 (sclFlagsBy r e m h o l a n)) ((not l && (r && (o && not ((not e && not m) && h)))) && ((not e && not m) && n))) tt)
+  scl-bit AddressMatch = beq-eq _ _ (at-scl-levels (λ r e m h o l a n. Bool·beq (bit 3 (sclFlagsBy r e m h o l a n)) ((l && (r && (not o && not ((not e && not m) && h)))) && ((not e && not m) && a))) tt)
+  scl-bit TimerOverflow = beq-eq _ _ (at-scl-levels (λ r e m h o l a n. Bool·beq (bit 2 (sclFlagsBy r e m h o l a n)) false) tt)
+  scl-bit ExternalRise = beq-eq _ _ (at-scl-levels (λ r e m h o l a n. Bool·beq (bit 1 (sclFlagsBy r e m h o l a n)) false) tt)
+  scl-bit VsyncRise = beq-eq _ _ (at-scl-levels (λ r e m h o l a n. Bool·beq (bit 0 (sclFlagsBy r e m h o l a n)) false) tt)
+
+  at-scl : (s : Source) → flag s (sclMoved c level) ≡ after s c (Pin 25 level)
+  unfolding sclMoved mode clears
+  at-scl s = rw (pulled-is (activeMode c) (c .bus .phase), scl-irqx) (set-bit s (c .irqx) _ _ (scl-bit s))
+
+-- ---- VSYNCI
+
+-- the flags that a rise of VSYNCI sets: `none` says that no edges are left
+abbrev vsyncFlags : Bool → Mode → Bool → ℕ
+vsyncFlags false m none = 0
+vsyncFlags true Off none = 0x01
+vsyncFlags true Ddc1 none = bitOr 0x01 (pick none 0x10 0)
+vsyncFlags true Ddc2b none = 0x01
+
+vsync-irqx : (rise : Bool) (m : Mode) (s : Shifter) (x : ℕ) →
+    pick rise (bitOr x (bitOr 0x01 (pick (loadsAtVsync m s) 0x10 0))) x ≡ bitOr x (vsyncFlags rise m (eqb (s .edges) 0))
+unfolding loadsAtVsync loadsAtRise
+vsync-irqx false m s x = sym (or-zero-r x)
+vsync-irqx true Off s x = refl
+vsync-irqx true Ddc1 s x = refl
+vsync-irqx true Ddc2b s x = refl
+
+vsync-moved : (rise : Bool) (c : Chip) (level : Bool) →
+    (pick rise (vsyncRise (vsyncLevel c level)) (vsyncLevel c level)) .irqx
+    ≡ pick rise (bitOr (c .irqx) (bitOr 0x01 (pick (loadsAtVsync (modeOf c) (c .bus .shifter)) 0x10 0))) (c .irqx)
+unfolding vsyncRise
+vsync-moved true c level = refl
+vsync-moved false c level = refl
+
+module _ (c : Chip) (level : Bool) where
+  at-vsync-levels : (f : Bool → Bool → Bool → Bool → Bool → Bool → Bool) →
+      T (always (λ a. always (λ b. always (λ c. always (λ d. always (λ e. always (f a b c d e)))))))
+      → T (f (c .reset) (c .pins .vsynci) level (bit 3 (c .bus .iists)) (bit 0 (c .mdcon)) (eqb (c .bus .shifter .edges) 0))
+  at-vsync-levels f t = at-six f t (c .reset) (c .pins .vsynci) level (bit 3 (c .bus .iists)) (bit 0 (c .mdcon)) (eqb (c .bus .shifter .edges) 0)
+
+  vsync-bit : (s : Source) →
+      bit (place s) (vsyncFlags (rises (c .reset) (c .pins .vsynci) level) (modeBy (bit 3 (c .bus .iists)) (bit 0 (c .mdcon))) (eqb (c .bus .shifter .edges) 0))
+      ≡ raises s c (Pin 27 level)
+  unfolding bit raises
+  vsync-bit SclFall = beq-eq _ _ (at-vsync-levels (λ r o l e m n. Bool·beq (bit 5 (vsyncFlags (rises r o l) (modeBy e m) n)) false) tt)
+  vsync-bit DataByte = beq-eq _ _ (at-vsync-levels (λ r o l e m n. Bool·beq (bit 4 (vsyncFlags (rises r o l) (modeBy e m) n)) (((l && (r && not o)) && ((not e && m) && n)) || false)) tt)
+  vsync-bit AddressMatch = beq-eq _ _ (at-vsync-levels (λ r o l e m n. Bool·beq (bit 3 (vsyncFlags (rises r o l) (modeBy e m) n)) false) tt)
+  vsync-bit TimerOverflow = beq-eq _ _ (at-vsync-levels (λ r o l e m n. Bool·beq (bit 2 (vsyncFlags (rises r o l) (modeBy e m) n)) false) tt)
+  vsync-bit ExternalRise = beq-eq _ _ (at-vsync-levels (λ r o l e m n. Bool·beq (bit 1 (vsyncFlags (rises r o l) (modeBy e m) n)) false) tt)
+  vsync-bit VsyncRise = beq-eq _ _ (at-vsync-levels (λ r o l e m n. Bool·beq (bit 0 (vsyncFlags (rises r o l) (modeBy e m) n)) (l && (r && not o))) tt)
+
+  at-vsync : (s : Source) → flag s (vsyncMoved c level) ≡ after s c (Pin 27 level)
+  unfolding vsyncMoved mode clears
+  at-vsync s =
+      rw (vsync-moved (rises (c .reset) (c .pins .vsynci) level) c level, vsync-irqx (rises (c .reset) (c .pins .vsynci) level) (modeOf c) (c .bus .shifter) (c .irqx))
+      (set-bit s (c .irqx) _ _ (vsync-bit s))
+
+-- ---- RESET
+
+pub never-reset : (s : Source) (c : Chip) (level : Bool) → raises s c (Pin 28 level) ≡ false
+unfolding raises
+never-reset SclFall c level = refl
+never-reset DataByte c level = refl
+never-reset AddressMatch c level = refl
+never-reset TimerOverflow c level = refl
+never-reset ExternalRise c level = refl
+never-reset VsyncRise c level = refl
+
+reset-by : (s : Source) (c : Chip) (old level : Bool) → flag s (onReset (edge old level) (withReset c level)) ≡ (not (old && not level) && flag s c)
+unfolding onReset resetChip resetAt resetValue rowOf
+reset-by s c true true = refl
+reset-by s c true false = zero-bit s
+reset-by s c false true = refl
+reset-by s c false false = refl
+
+at-reset : (s : Source) (c : Chip) (level : Bool) → flag s (resetMoved c level) ≡ after s c (Pin 28 level)
+unfolding resetMoved clears
+at-reset s c level = rw (never-reset s c level) (reset-by s c (c .reset) level)
+
+-- ---- every other pin
+
+-- a pin whose edges set no flag
+abbrev isPlain : ℕ → Bool
+isPlain p = not (eqb p 14) && (not (eqb p 25) && (not (eqb p 27) && not (eqb p 28)))
+
+none-of : (a b c d : Bool) → T (not a && (not b && (not c && not d))) → (a ≡ false) × (b ≡ false) × (c ≡ false) × (d ≡ false)
+none-of false false false false t = (refl, refl, refl, refl)
+none-of false false false true t = absurd t
+none-of false false true d t = absurd t
+none-of false true c d t = absurd t
+none-of true b c d t = absurd t
+
+module _ (c : Chip) (p : ℕ) (level : Bool) (t : T (isPlain p)) where
+  plain : (eqb p 14 ≡ false) × (eqb p 25 ≡ false) × (eqb p 27 ≡ false) × (eqb p 28 ≡ false)
+  plain = none-of (eqb p 14) (eqb p 25) (eqb p 27) (eqb p 28) t
+
+  never-plain : (s : Source) → raises s c (Pin p level) ≡ false
+  unfolding raises
+  never-plain SclFall = rw (plain .1)
+  never-plain DataByte = rw (plain .2, plain .1)
+  never-plain AddressMatch = rw (plain .1)
+  never-plain TimerOverflow = refl
+  never-plain ExternalRise = rw (plain .0)
+  never-plain VsyncRise = rw (plain .2)
+
+  at-plain : (s : Source) → flag s c ≡ after s c (Pin p level)
+  unfolding clears
+  at-plain s = rw (never-plain s, plain .3)
+
+sda-irqx : (m : Mode) (high : Bool) (e : Edge) (c : Chip) → onSda m high e c .irqx ≡ c .irqx
+unfolding onSda onSdaDdc2b started stopped
+sda-irqx Off high e c = refl
+sda-irqx Ddc1 high e c = refl
+sda-irqx Ddc2b high Flat c = refl
+sda-irqx Ddc2b true Rise c = refl
+sda-irqx Ddc2b false Rise c = refl
+sda-irqx Ddc2b true Fall c = refl
+sda-irqx Ddc2b false Fall c = refl
+
+sda-moved : (c : Chip) (level : Bool) → sdaMoved c level .irqx ≡ c .irqx
+unfolding sdaMoved
+sda-moved c level = sda-irqx _ _ _ (withSda c level)
+
+-- ---- all pins
+
+-- the number of each kind of pin, or that it is a plain one
+abbrev hasNumber : PinKind → ℕ → Bool
+hasNumber Port0 p = isPlain p
+hasNumber Port1 p = isPlain p
+hasNumber P16 p = eqb p 14
+hasNumber Port2 p = isPlain p
+hasNumber Sda p = isPlain p
+hasNumber Scl p = eqb p 25
+hasNumber Hsynci p = isPlain p
+hasNumber Vsynci p = eqb p 27
+hasNumber Reset p = eqb p 28
+
+number-of : (p : ℕ) → p < 29 → T (hasNumber (pinKind p) p)
+unfolding pinKind
+number-of p h = at-each (λ p. hasNumber (pinKind p) p) 29 tt p h
+
+at-kind : (k : PinKind) (s : Source) (c : Chip) (p : ℕ) (level : Bool) → T (hasNumber k p) → flag s (pinMovedAs k c p level) ≡ after s c (Pin p level)
+unfolding pinMovedAs port0Moved port1Moved port2Moved hsyncMoved
+at-kind Port0 s c p level t = at-plain c p level t s
+at-kind Port1 s c p level t = at-plain c p level t s
+at-kind P16 s c p level t = rw (eqb→eq p 14 t) (at-p16 c level s)
+at-kind Port2 s c p level t = at-plain c p level t s
+at-kind Sda s c p level t = rw (sda-moved c level) (at-plain c p level t s)
+at-kind Scl s c p level t = rw (eqb→eq p 25 t) (at-scl c level s)
+at-kind Hsynci s c p level t = at-plain c p level t s
+at-kind Vsynci s c p level t = rw (eqb→eq p 27 t) (at-vsync c level s)
+at-kind Reset s c p level t = rw (eqb→eq p 28 t) (at-reset s c level)
+
+pub at-pin : (s : Source) (c : Chip) (p : ℕ) (level : Bool) → InRange (Pin p level) → flag s (next c (Pin p level)) ≡ after s c (Pin p level)
+unfolding next pinMoved
+at-pin s c p level h = at-kind (pinKind p) s c p level (number-of p (pin-lt p h))

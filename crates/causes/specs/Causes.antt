@@ -1,0 +1,147 @@
+-- The six interrupt sources: what sets each flag of IRQX and what clears it (document 01, "Flags, timer, watchdog, reset" and
+-- "The bus"), told by the event and the state before it alone.
+use Prim.Native.Nat.{ℕ}
+use mathlib.Core.Bool.{Bool, false, not, _&&_, _||_}
+use lib.Dec.{eqb, ltb}
+use Rattle.bits.specs.Byte.{pick, bit}
+use Rattle.registers.specs.Names.{IEX, CLRFLG, BTCON}
+use Rattle.events.specs.declared.Decoded.{Decoded}
+use Rattle.events.specs.declared.Decoded.the-variants.{Read, Write, Pin, Clock, Polarity, Refused}
+use Rattle.bus.specs.declared.Phase.{Phase}
+use Rattle.bus.specs.declared.Phase.the-variants.{Idle, Address, Ignoring, Receive, Transmit, Held}
+use Rattle.bus.specs.Lines.{line, pullsSda, pullsScl}
+use Rattle.bus.specs.Ddc2b.{matches, gathered}
+use Rattle.chip.specs.declared.Chip.{Chip}
+use Rattle.chip.specs.State.{registerAt}
+
+-- S, D, A, R, E, V, each by what sets it
+pub data Source : Type 0 where
+  SclFall DataByte AddressMatch TimerOverflow ExternalRise VsyncRise : Source
+
+-- "Registers", 10: bits 5..0 of IRQX, and of IEX and CLRFLG with it
+abbrev pub place : Source → ℕ
+place SclFall = 5
+place DataByte = 4
+place AddressMatch = 3
+place TimerOverflow = 2
+place ExternalRise = 1
+place VsyncRise = 0
+
+-- the source's flag in IRQX
+abbrev pub flag : Source → Chip → Bool
+flag s c = bit (place s) (c .irqx)
+
+-- its enable bit in IEX
+abbrev pub enabled : Source → Chip → Bool
+enabled s c = bit (place s) (registerAt c IEX)
+
+-- ---- events, by what they put
+
+-- the pin is given level 1
+abbrev pub putHigh : ℕ → Decoded → Bool
+putHigh p (Read a) = false
+putHigh p (Write a b) = false
+putHigh p (Pin q level) = eqb q p && level
+putHigh p (Clock k) = false
+putHigh p (Polarity vertical level) = false
+putHigh p (Refused n) = false
+
+-- the pin is given level 0
+abbrev pub putLow : ℕ → Decoded → Bool
+putLow p (Read a) = false
+putLow p (Write a b) = false
+putLow p (Pin q level) = eqb q p && not level
+putLow p (Clock k) = false
+putLow p (Polarity vertical level) = false
+putLow p (Refused n) = false
+
+-- a clock of this number
+abbrev pub isClock : ℕ → Decoded → Bool
+isClock k (Read a) = false
+isClock k (Write a b) = false
+isClock k (Pin p level) = false
+isClock k (Clock j) = eqb j k
+isClock k (Polarity vertical level) = false
+isClock k (Refused n) = false
+
+-- ---- the mode of DDC
+
+-- ENDDC, bit 3 of II STS, is 0
+abbrev pub ddcOn : Chip → Bool
+ddcOn c = not (bit 3 (c .bus .iists))
+
+-- on, with MD1/2, bit 0 of MDCON, at 1
+abbrev pub inDdc1 : Chip → Bool
+inDdc1 c = ddcOn c && bit 0 (c .mdcon)
+
+-- on, with MD1/2 at 0
+abbrev pub inDdc2b : Chip → Bool
+inDdc2b c = ddcOn c && not (bit 0 (c .mdcon))
+
+-- ---- edges that the chip acts on: none while RESET is low, none where the level is there already
+
+abbrev pub risesP16 : Chip → Decoded → Bool
+risesP16 c e = putHigh 14 e && (c .reset && not (bit 6 (c .pins .port1)))
+
+abbrev pub risesVsynci : Chip → Decoded → Bool
+risesVsynci c e = putHigh 27 e && (c .reset && not (c .pins .vsynci))
+
+-- the SCL line follows its outside level unless the chip holds it low, in DDC2B
+abbrev pub sclFree : Chip → Bool
+sclFree c = not (inDdc2b c && pullsScl (c .bus .phase))
+
+abbrev pub risesScl : Chip → Decoded → Bool
+risesScl c e = putHigh 25 e && (c .reset && (not (c .scl) && sclFree c))
+
+abbrev pub fallsScl : Chip → Decoded → Bool
+fallsScl c e = putLow 25 e && (c .reset && (c .scl && sclFree c))
+
+-- ---- where a byte on the bus stands
+
+-- seven bits of an address are gathered, and with the SDA line as the eighth it matches A0H or II ADR
+abbrev pub completesMatch : ℕ → Bool → Phase → Bool
+completesMatch own sda Idle = false
+completesMatch own sda (Address count bits acknowledged) = eqb count 7 && matches own (gathered bits sda)
+completesMatch own sda Ignoring = false
+completesMatch own sda (Receive count bits acknowledged) = false
+completesMatch own sda (Transmit count byte) = false
+completesMatch own sda Held = false
+
+-- the acknowledge of a byte was given, or taken at the end of a transmit: the next fall ends the ninth clock
+abbrev pub inNinthClock : Phase → Bool
+inNinthClock Idle = false
+inNinthClock (Address count bits acknowledged) = acknowledged
+inNinthClock Ignoring = false
+inNinthClock (Receive count bits acknowledged) = acknowledged
+inNinthClock (Transmit count byte) = eqb count 10
+inNinthClock Held = false
+
+-- ---- causes
+
+-- what sets each flag, whether enabled or not.
+-- S: a fall of the SCL line with DDC on.
+-- D: in DDC1 a rise of VSYNCI with no edges left; in DDC2B the fall that ends the ninth clock of a byte.
+-- A: in DDC2B the rise of the SCL line that completes an address of the chip.
+-- R: the base clock that TBS (BTCON bit 1) selects, with ENBT (bit 0) 0 and BT at FF.
+-- E: a rise of P16.
+-- V: a rise of VSYNCI
+unfoldable pub raises : Source → Chip → Decoded → Bool
+raises SclFall c e = fallsScl c e && ddcOn c
+raises DataByte c e =
+    (risesVsynci c e && (inDdc1 c && eqb (c .bus .shifter .edges) 0))
+    || (fallsScl c e && (inDdc2b c && inNinthClock (c .bus .phase)))
+raises AddressMatch c e =
+    risesScl c e && (inDdc2b c && completesMatch (c .bus .iiadr) (line (pullsSda (c .bus .phase)) (c .sda)) (c .bus .phase))
+raises TimerOverflow c e =
+    isClock (pick (bit 1 (registerAt c BTCON)) 2 1) e && (c .reset && (not (bit 0 (registerAt c BTCON)) && ltb 0xfe (c .bt)))
+raises ExternalRise c e = risesP16 c e
+raises VsyncRise c e = risesVsynci c e
+
+-- what clears a flag: a 1 in its bit of CLRFLG, RESET going low, and the 64th watchdog clock, which finds 63 counted
+unfoldable pub clears : Source → Chip → Decoded → Bool
+clears s c (Read a) = false
+clears s c (Write a b) = eqb a CLRFLG && (c .reset && bit (place s) b)
+clears s c (Pin p level) = eqb p 28 && (c .reset && not level)
+clears s c (Clock k) = eqb k 3 && (c .reset && ltb 62 (c .watchdog))
+clears s c (Polarity vertical level) = false
+clears s c (Refused n) = false

@@ -1,0 +1,1 @@
+// The causes of the six interrupt flags: statements and theorems, no code.

@@ -1,0 +1,416 @@
+-- What one event does to the two counters, where it zeroes neither, and to the levels of RESET and HSYNCI.
+-- Assumes nothing.
+use mathlib.Core.Path.{_≡_, refl, ap, _∙_}
+use mathlib.Core.Bool.{Bool, true, false, not, _&&_, _||_}
+use Prim.Native.Nat.{ℕ, zero, suc, _<_}
+use native.Mathlib.Omega.{arith}
+use borrow.Author.Tests.{ltb-false, lt-ltb}
+use lib.Dec.{T, eqb, ltb, eqb→eq}
+use Rattle.bits.specs.Byte.{pick, bit}
+use Rattle.bits.proofs.Finite.{at-each}
+use Rattle.bits.proofs.Bitwise.{bit-merge}
+use Rattle.registers.specs.Names.{MDCON, CLRFLG, BTCON}
+use Rattle.registers.specs.Table.{rowOf, writeMask}
+use Rattle.events.specs.declared.Decoded.{Decoded}
+use Rattle.events.specs.declared.Decoded.the-variants.{Read, Write, Pin, Clock, Polarity, Refused}
+use Rattle.events.specs.Word.{InRange}
+use Rattle.events.proofs.Refusal.{pin-lt}
+use Rattle.events.proofs.Level.{pick-by}
+use Rattle.sync.specs.declared.Sync.{Sync}
+use Rattle.sync.specs.declared.LineCounter.{LineCounter}
+use Rattle.sync.specs.declared.PeriodCounter.{PeriodCounter}
+use Rattle.sync.specs.Sync.{stepLines, stepPeriods, clearLines, clearPeriods, linesOnVsync, linesOnPeriod, onHsync, onVsync, onPeriod, hselCleared, clearOverflow, watchdogFires, watchdogNext}
+use Rattle.bus.specs.declared.Mode.{Mode}
+use Rattle.bus.specs.declared.Mode.the-variants.{Off, Ddc1, Ddc2b}
+use Rattle.bus.specs.declared.Edge.{Edge}
+use Rattle.bus.specs.declared.Edge.the-variants.{Flat, Rise, Fall}
+use Rattle.bus.specs.Lines.{edge}
+use Rattle.chip.specs.declared.Chip.{Chip}
+use Rattle.chip.specs.State.{hselOf, resetAt, resetChip, registerAt, withPolarity, withWatchdog, withReset, withScl, withSda}
+use Rattle.lines.specs.Bus.{onScl, onSclDdc1, onSclDdc2b, sclRise, sclFall, leaveDdc1, sclMoved, onSda, onSdaDdc2b, started, stopped, sdaMoved}
+use Rattle.writes.specs.Writes.{syncAtHsel, updated}
+use Rattle.pins.specs.declared.PinKind.{PinKind}
+use Rattle.pins.specs.declared.PinKind.the-variants.{Port0, Port1, P16, Port2, Sda, Scl, Hsynci, Vsynci, Reset}
+use Rattle.pins.specs.Pins.{pinKind, rises, port0Moved, port1Moved, port2Moved, p16Moved, hsyncMoved, vsyncLevel, vsyncMoved, vsyncRise, onReset, resetMoved, pinMovedAs, pinMoved}
+use Rattle.clocks.specs.Clocks.{periodClock, timerRuns, timerStep, timerClock, watchdogClock, clockedAs, clocked, polarityFound}
+use Rattle.step.specs.Step.{next}
+use Rattle.causes.proofs.Clocks.{watchdog-last}
+use Rattle.causes.specs.Causes.{putHigh, isClock}
+use Rattle.frame.proofs.Fields.{fields, by-write}
+use Rattle.counting.specs.Counting.{levelAfter, zeroesLines, zeroesPeriods}
+
+-- what an event does to the counters and to the levels that say what is counted
+pub record Effect (c after : Chip) (e : Decoded) : Type 0 where
+  pub lines : zeroesLines c e ≡ false → after .sync .lines ≡ pick (putHigh 26 e && (c .reset && not (c .pins .hsynci))) (stepLines (c .sync .lines)) (c .sync .lines)
+  pub periods : zeroesPeriods c e ≡ false → after .sync .periods ≡ pick (isClock 0 e && c .reset) (stepPeriods (c .sync .periods)) (c .sync .periods)
+  pub reset : after .reset ≡ levelAfter 28 e (c .reset)
+  pub hsynci : after .pins .hsynci ≡ levelAfter 26 e (c .pins .hsynci)
+
+-- ---- writes
+
+-- HSEL as it is written
+pub hsel-written : (old b : ℕ) → bit 2 (updated MDCON old b) ≡ bit 2 b
+unfolding writeMask rowOf bit
+hsel-written old b = bit-merge 2 0x0f old b (omega arith) (omega arith)
+
+hsel-lines : (old new : Bool) (s : Sync) → (not new && old) ≡ false → syncAtHsel old new s .lines ≡ s .lines
+unfolding syncAtHsel
+hsel-lines true true s h = refl
+hsel-lines true false s h = cc
+hsel-lines false new s h = refl
+
+hsel-periods : (old new : Bool) (s : Sync) → syncAtHsel old new s .periods ≡ s .periods
+unfolding syncAtHsel hselCleared
+hsel-periods true true s = refl
+hsel-periods true false s = refl
+hsel-periods false new s = refl
+
+clear-lines : (bit : Bool) (c : LineCounter) → bit ≡ false → clearLines bit c ≡ c
+unfolding clearLines
+clear-lines bit c h = rw h
+
+clear-periods : (bit : Bool) (c : PeriodCounter) → bit ≡ false → clearPeriods bit c ≡ c
+unfolding clearPeriods
+clear-periods bit c h = rw h
+
+neither : (x y : Bool) → (x || y) ≡ false → (x ≡ false) × (y ≡ false)
+neither true y h = (cc, cc)
+neither false y h = (refl, h)
+
+module _ (c : Chip) (a b : ℕ) (r : c .reset ≡ true) where
+  -- the two tests of a write that zeroes HCNT
+  mdcon-kept : zeroesLines c (Write a b) ≡ false → eqb a MDCON ≡ true → (not (bit 2 b) && hselOf c) ≡ false
+  unfolding zeroesLines
+  mdcon-kept h m =
+      let k = neither (eqb a CLRFLG && (c .reset && bit 7 b)) _ h .1 in
+      let j = neither ((eqb a MDCON && (c .reset && not (bit 2 b))) && hselOf c) _ k .0 in
+      rw (m, r) at j
+
+  clrflg-kept : zeroesLines c (Write a b) ≡ false → eqb a CLRFLG ≡ true → bit 7 b ≡ false
+  unfolding zeroesLines
+  clrflg-kept h m =
+      let k = neither (eqb a CLRFLG && (c .reset && bit 7 b)) _ h .0 in
+      rw (m, r) at k
+
+  write-lines : zeroesLines c (Write a b) ≡ false → fields c a b .sync .lines ≡ c .sync .lines
+  unfolding clearOverflow
+  write-lines h =
+      let P : Sync → Type 0 = λ (s : Sync). s .lines ≡ c .sync .lines in
+      pick-by P (eqb a MDCON)
+      (λ m. rw (hsel-written (c .mdcon) b) (hsel-lines (hselOf c) (bit 2 b) (c .sync) (mdcon-kept h m)))
+      (λ _. pick-by P (eqb a CLRFLG) (λ m. clear-lines (bit 7 b) (c .sync .lines) (clrflg-kept h m)) (λ _. refl))
+
+  periods-kept : zeroesPeriods c (Write a b) ≡ false → eqb a CLRFLG ≡ true → bit 6 b ≡ false
+  unfolding zeroesPeriods
+  periods-kept h m =
+      let k = neither (eqb a CLRFLG && (c .reset && bit 6 b)) _ h .0 in
+      rw (m, r) at k
+
+  write-periods : zeroesPeriods c (Write a b) ≡ false → fields c a b .sync .periods ≡ c .sync .periods
+  unfolding clearOverflow
+  write-periods h =
+      let P : Sync → Type 0 = λ (s : Sync). s .periods ≡ c .sync .periods in
+      pick-by P (eqb a MDCON)
+      (λ _. hsel-periods _ _ (c .sync))
+      (λ _. pick-by P (eqb a CLRFLG) (λ m. clear-periods (bit 6 b) (c .sync .periods) (periods-kept h m)) (λ _. refl))
+
+at-write : (c : Chip) (a b : ℕ) → Effect c (next c (Write a b)) (Write a b)
+at-write c a b =
+    by-write (λ (x : Chip). Effect c x (Write a b)) c a b
+    (λ r _ _. record { lines = write-lines c a b r; periods = write-periods c a b r; reset = refl; hsynci = refl })
+    (record { lines = λ _. refl; periods = λ _. refl; reset = refl; hsynci = refl })
+
+-- ---- pins
+
+-- a pin whose level is not one of RESET, HSYNCI and VSYNCI
+abbrev isPlain : ℕ → Bool
+isPlain p = not (eqb p 26) && (not (eqb p 27) && not (eqb p 28))
+
+none-of : (x y z : Bool) → T (not x && (not y && not z)) → (x ≡ false) × (y ≡ false) × (z ≡ false)
+none-of false false false t = (refl, refl, refl)
+none-of false false true t = absurd t
+none-of false true z t = absurd t
+none-of true y z t = absurd t
+
+plain-pin : (c after : Chip) (p : ℕ) (level : Bool) → T (isPlain p) →
+    after .sync ≡ c .sync → after .reset ≡ c .reset → after .pins .hsynci ≡ c .pins .hsynci → Effect c after (Pin p level)
+plain-pin c after p level t s r v =
+    let n = none-of (eqb p 26) (eqb p 27) (eqb p 28) t in
+    record {
+      lines = λ _. rw (n .0, s);
+      periods = λ _. rw s;
+      reset = rw (n .2, r);
+      hsynci = rw (n .0, v);
+    }
+
+-- the SCL and SDA lines touch neither
+record Untouched (c after : Chip) : Type 0 where
+  pub sync : after .sync ≡ c .sync
+  pub reset : after .reset ≡ c .reset
+  pub pins : after .pins ≡ c .pins
+
+scl-untouched : (m : Mode) (e : Edge) (c : Chip) → Untouched c (onScl m e c)
+unfolding onScl onSclDdc1 onSclDdc2b sclRise sclFall leaveDdc1
+scl-untouched Off e c = record { sync = refl; reset = refl; pins = refl }
+scl-untouched Ddc1 Flat c = record { sync = refl; reset = refl; pins = refl }
+scl-untouched Ddc1 Rise c = record { sync = refl; reset = refl; pins = refl }
+scl-untouched Ddc1 Fall c = record { sync = refl; reset = refl; pins = refl }
+scl-untouched Ddc2b Flat c = record { sync = refl; reset = refl; pins = refl }
+scl-untouched Ddc2b Rise c = record { sync = refl; reset = refl; pins = refl }
+scl-untouched Ddc2b Fall c = record { sync = refl; reset = refl; pins = refl }
+
+sda-untouched : (m : Mode) (high : Bool) (e : Edge) (c : Chip) → Untouched c (onSda m high e c)
+unfolding onSda onSdaDdc2b started stopped
+sda-untouched Off high e c = record { sync = refl; reset = refl; pins = refl }
+sda-untouched Ddc1 high e c = record { sync = refl; reset = refl; pins = refl }
+sda-untouched Ddc2b high Flat c = record { sync = refl; reset = refl; pins = refl }
+sda-untouched Ddc2b true Rise c = record { sync = refl; reset = refl; pins = refl }
+sda-untouched Ddc2b false Rise c = record { sync = refl; reset = refl; pins = refl }
+sda-untouched Ddc2b true Fall c = record { sync = refl; reset = refl; pins = refl }
+sda-untouched Ddc2b false Fall c = record { sync = refl; reset = refl; pins = refl }
+
+at-scl : (c : Chip) (p : ℕ) (level : Bool) → T (isPlain p) → Effect c (sclMoved c level) (Pin p level)
+unfolding sclMoved
+at-scl c p level t =
+    let u = scl-untouched _ _ (withScl c level) in
+    plain-pin c _ p level t (u .sync) (u .reset) (rw (u .pins))
+
+at-sda : (c : Chip) (p : ℕ) (level : Bool) → T (isPlain p) → Effect c (sdaMoved c level) (Pin p level)
+unfolding sdaMoved
+at-sda c p level t =
+    let u = sda-untouched _ _ _ (withSda c level) in
+    plain-pin c _ p level t (u .sync) (u .reset) (rw (u .pins))
+
+-- HSYNCI
+hsync-lines : (rise : Bool) (s : Sync) → (pick rise (onHsync s) s) .lines ≡ pick rise (stepLines (s .lines)) (s .lines)
+unfolding onHsync
+hsync-lines true s = refl
+hsync-lines false s = refl
+
+hsync-periods : (rise : Bool) (s : Sync) → (pick rise (onHsync s) s) .periods ≡ s .periods
+unfolding onHsync
+hsync-periods true s = refl
+hsync-periods false s = refl
+
+-- the two orders of the same test
+pub rise-is : (reset old level : Bool) → rises reset old level ≡ (level && (reset && not old))
+rise-is true true true = refl
+rise-is true true false = refl
+rise-is true false true = refl
+rise-is true false false = refl
+rise-is false old true = refl
+rise-is false old false = refl
+
+at-hsynci : (c : Chip) (level : Bool) → Effect c (hsyncMoved c level) (Pin 26 level)
+unfolding hsyncMoved
+at-hsynci c level =
+    record {
+      lines = λ _. rw (rise-is (c .reset) (c .pins .hsynci) level) (hsync-lines (level && (c .reset && not (c .pins .hsynci))) (c .sync));
+      periods = λ _. hsync-periods (rises (c .reset) (c .pins .hsynci) level) (c .sync);
+      reset = refl;
+      hsynci = refl;
+    }
+
+-- VSYNCI
+pub record VsyncMoves (rise : Bool) (c after : Chip) : Type 0 where
+  pub sync : after .sync ≡ pick rise (onVsync (hselOf c) (c .sync)) (c .sync)
+  pub reset : after .reset ≡ c .reset
+  pub hsynci : after .pins .hsynci ≡ c .pins .hsynci
+
+pub vsync-moves : (rise : Bool) (c : Chip) (level : Bool) → VsyncMoves rise c (pick rise (vsyncRise (vsyncLevel c level)) (vsyncLevel c level))
+unfolding vsyncRise
+vsync-moves true c level = record { sync = refl; reset = refl; hsynci = refl }
+vsync-moves false c level = record { sync = refl; reset = refl; hsynci = refl }
+
+vsync-lines : (rise hsel : Bool) (s : Sync) → (rise && hsel) ≡ false → (pick rise (onVsync hsel s) s) .lines ≡ s .lines
+unfolding onVsync linesOnVsync
+vsync-lines true true s h = cc
+vsync-lines true false s h = refl
+vsync-lines false hsel s h = refl
+
+vsync-periods : (rise : Bool) (hsel : Bool) (s : Sync) → rise ≡ false → (pick rise (onVsync hsel s) s) .periods ≡ s .periods
+vsync-periods rise hsel s h = rw h
+
+vsync-kept : (c : Chip) (level : Bool) → zeroesLines c (Pin 27 level) ≡ false → ((level && (c .reset && not (c .pins .vsynci))) && hselOf c) ≡ false
+unfolding zeroesLines
+vsync-kept c level h = neither ((level && (c .reset && not (c .pins .vsynci))) && hselOf c) false h .0
+
+at-vsynci : (c : Chip) (level : Bool) → Effect c (vsyncMoved c level) (Pin 27 level)
+unfolding vsyncMoved zeroesPeriods
+at-vsynci c level =
+    let m = vsync-moves (rises (c .reset) (c .pins .vsynci) level) c level in
+    let e = rise-is (c .reset) (c .pins .vsynci) level in
+    let rise : Bool = level && (c .reset && not (c .pins .vsynci)) in
+    record {
+      lines = λ h. ap (λ (s : Sync). s .lines) (m .sync) ∙ rw e (vsync-lines rise (hselOf c) (c .sync) (vsync-kept c level h));
+      periods = λ h. ap (λ (s : Sync). s .periods) (m .sync) ∙ rw e (vsync-periods rise (hselOf c) (c .sync) h);
+      reset = m .reset;
+      hsynci = m .hsynci;
+    }
+
+-- RESET
+record ResetMoves (old level : Bool) (c after : Chip) : Type 0 where
+  pub sync : (old && not level) ≡ false → after .sync ≡ c .sync
+  pub reset : after .reset ≡ level
+  pub hsynci : after .pins .hsynci ≡ c .pins .hsynci
+
+reset-moves : (old level : Bool) (c : Chip) → ResetMoves old level c (onReset (edge old level) (withReset c level))
+unfolding onReset resetChip resetAt
+reset-moves true true c = record { sync = λ _. refl; reset = refl; hsynci = refl }
+reset-moves true false c = record { sync = λ h. cc; reset = refl; hsynci = refl }
+reset-moves false true c = record { sync = λ _. refl; reset = refl; hsynci = refl }
+reset-moves false false c = record { sync = λ _. refl; reset = refl; hsynci = refl }
+
+at-reset : (c : Chip) (level : Bool) → Effect c (resetMoved c level) (Pin 28 level)
+unfolding resetMoved zeroesLines zeroesPeriods
+at-reset c level =
+    let m = reset-moves (c .reset) level c in
+    record {
+      lines = λ h. ap (λ (s : Sync). s .lines) (m .sync (neither (c .reset && not level) false h .0));
+      periods = λ h. ap (λ (s : Sync). s .periods) (m .sync (neither (c .reset && not level) false h .0));
+      reset = m .reset;
+      hsynci = m .hsynci;
+    }
+
+-- all pins
+abbrev hasNumber : PinKind → ℕ → Bool
+hasNumber Port0 p = isPlain p
+hasNumber Port1 p = isPlain p
+hasNumber P16 p = isPlain p
+hasNumber Port2 p = isPlain p
+hasNumber Sda p = isPlain p
+hasNumber Scl p = isPlain p
+hasNumber Hsynci p = eqb p 26
+hasNumber Vsynci p = eqb p 27
+hasNumber Reset p = eqb p 28
+
+number-of : (p : ℕ) → p < 29 → T (hasNumber (pinKind p) p)
+unfolding pinKind
+number-of p h = at-each (λ p. hasNumber (pinKind p) p) 29 tt p h
+
+at-kind : (k : PinKind) (c : Chip) (p : ℕ) (level : Bool) → T (hasNumber k p) → Effect c (pinMovedAs k c p level) (Pin p level)
+unfolding pinMovedAs port0Moved port1Moved port2Moved p16Moved
+at-kind Port0 c p level t = plain-pin c _ p level t refl refl refl
+at-kind Port1 c p level t = plain-pin c _ p level t refl refl refl
+at-kind P16 c p level t = plain-pin c _ p level t refl refl refl
+at-kind Port2 c p level t = plain-pin c _ p level t refl refl refl
+at-kind Sda c p level t = at-sda c p level t
+at-kind Scl c p level t = at-scl c p level t
+at-kind Hsynci c p level t = rw (eqb→eq p 26 t) (at-hsynci c level)
+at-kind Vsynci c p level t = rw (eqb→eq p 27 t) (at-vsynci c level)
+at-kind Reset c p level t = rw (eqb→eq p 28 t) (at-reset c level)
+
+at-pin : (c : Chip) (p : ℕ) (level : Bool) → InRange (Pin p level) → Effect c (next c (Pin p level)) (Pin p level)
+unfolding next pinMoved
+at-pin c p level h = at-kind (pinKind p) c p level (number-of p (pin-lt p h))
+
+-- ---- clocks
+
+-- 8 µs
+pub record PeriodMoves (high : Bool) (c after : Chip) : Type 0 where
+  pub sync : after .sync ≡ pick high (onPeriod (hselOf c) (c .sync)) (c .sync)
+  pub reset : after .reset ≡ c .reset
+  pub pins : after .pins ≡ c .pins
+
+pub period-moves : (reset : Bool) (c : Chip) → PeriodMoves reset c (pick reset (periodClock c) c)
+unfolding periodClock
+period-moves true c = record { sync = refl; reset = refl; pins = refl }
+period-moves false c = record { sync = refl; reset = refl; pins = refl }
+
+period-lines : (reset hsel : Bool) (s : Sync) → (reset && (not hsel && ltb 1022 (s .interval))) ≡ false → (pick reset (onPeriod hsel s) s) .lines ≡ s .lines
+unfolding onPeriod linesOnPeriod
+period-lines true true s h = refl
+period-lines true false s h = rw (lt-ltb (s .interval) 1023 (omega (arith, ltb-false 1022 (s .interval) h)))
+period-lines false hsel s h = refl
+
+period-periods : (reset hsel : Bool) (s : Sync) → (pick reset (onPeriod hsel s) s) .periods ≡ pick reset (stepPeriods (s .periods)) (s .periods)
+unfolding onPeriod
+period-periods true hsel s = refl
+period-periods false hsel s = refl
+
+at-period : (c : Chip) → Effect c (pick (c .reset) (periodClock c) c) (Clock 0)
+unfolding zeroesLines
+at-period c =
+    let m = period-moves (c .reset) c in
+    record {
+      lines = λ h. ap (λ (s : Sync). s .lines) (m .sync) ∙ period-lines (c .reset) (hselOf c) (c .sync) h;
+      periods = λ _. ap (λ (s : Sync). s .periods) (m .sync) ∙ period-periods (c .reset) (hselOf c) (c .sync);
+      reset = m .reset;
+      hsynci = rw (m .pins);
+    }
+
+-- base clocks
+timer-untouched : (reset runs : Bool) (c : Chip) → Untouched c (pick reset (pick runs (timerStep c) c) c)
+unfolding timerStep
+timer-untouched true true c = record { sync = refl; reset = refl; pins = refl }
+timer-untouched true false c = record { sync = refl; reset = refl; pins = refl }
+timer-untouched false runs c = record { sync = refl; reset = refl; pins = refl }
+
+at-timer : (c : Chip) (k : ℕ) → eqb k 0 ≡ false → Effect c (pick (c .reset) (timerClock c k) c) (Clock k)
+unfolding timerClock
+at-timer c k n =
+    let u = timer-untouched (c .reset) (timerRuns (registerAt c BTCON) k) c in
+    record {
+      lines = λ _. ap (λ (s : Sync). s .lines) (u .sync);
+      periods = λ _. rw n (ap (λ (s : Sync). s .periods) (u .sync));
+      reset = u .reset;
+      hsynci = rw (u .pins);
+    }
+
+-- watchdog
+record WatchdogMoves (high fires : Bool) (c after : Chip) : Type 0 where
+  pub sync : (high && fires) ≡ false → after .sync ≡ c .sync
+  pub reset : after .reset ≡ c .reset
+  pub pins : after .pins ≡ c .pins
+
+watchdog-moves : (reset fires : Bool) (c : Chip) (n : ℕ) → WatchdogMoves reset fires c (pick reset (pick fires (resetChip c) (withWatchdog c n)) c)
+unfolding resetChip resetAt
+watchdog-moves true true c n = record { sync = λ h. cc; reset = refl; pins = refl }
+watchdog-moves true false c n = record { sync = λ _. refl; reset = refl; pins = refl }
+watchdog-moves false fires c n = record { sync = λ _. refl; reset = refl; pins = refl }
+
+at-watchdog : (c : Chip) → Effect c (pick (c .reset) (watchdogClock c) c) (Clock 3)
+unfolding watchdogClock zeroesLines zeroesPeriods
+at-watchdog c =
+    let m = watchdog-moves (c .reset) (watchdogFires (c .watchdog)) c (watchdogNext (c .watchdog)) in
+    let none : (c .reset && ltb 62 (c .watchdog)) ≡ false → (c .reset && watchdogFires (c .watchdog)) ≡ false = λ h. rw (watchdog-last (c .watchdog)) h in
+    record {
+      lines = λ h. ap (λ (s : Sync). s .lines) (m .sync (none (neither (c .reset && ltb 62 (c .watchdog)) false h .0)));
+      periods = λ h. ap (λ (s : Sync). s .periods) (m .sync (none (neither (c .reset && ltb 62 (c .watchdog)) false h .0)));
+      reset = m .reset;
+      hsynci = rw (m .pins);
+    }
+
+at-clock : (c : Chip) (k : ℕ) → InRange (Clock k) → Effect c (next c (Clock k)) (Clock k)
+unfolding next clocked clockedAs
+at-clock c zero h = at-period c
+at-clock c (suc zero) h = at-timer c 1 refl
+at-clock c (suc (suc zero)) h = at-timer c 2 refl
+at-clock c (suc (suc (suc zero))) h = at-watchdog c
+at-clock c (suc (suc (suc (suc k)))) h = absurd (omega arith)
+
+-- ---- every event
+
+polarity-untouched : (reset : Bool) (c : Chip) (n : ℕ) → Untouched c (pick reset (withPolarity c n) c)
+polarity-untouched true c n = record { sync = refl; reset = refl; pins = refl }
+polarity-untouched false c n = record { sync = refl; reset = refl; pins = refl }
+
+at-polarity : (c : Chip) (vertical level : Bool) → Effect c (next c (Polarity vertical level)) (Polarity vertical level)
+unfolding next polarityFound
+at-polarity c vertical level =
+    let u = polarity-untouched (c .reset) c _ in
+    record {
+      lines = λ _. ap (λ (s : Sync). s .lines) (u .sync);
+      periods = λ _. ap (λ (s : Sync). s .periods) (u .sync);
+      reset = u .reset;
+      hsynci = rw (u .pins);
+    }
+
+pub effect : (c : Chip) (e : Decoded) → InRange e → Effect c (next c e) e
+unfolding next
+effect c (Read a) h = record { lines = λ _. refl; periods = λ _. refl; reset = refl; hsynci = refl }
+effect c (Write a b) h = at-write c a b
+effect c (Pin p level) h = at-pin c p level h
+effect c (Clock k) h = at-clock c k h
+effect c (Polarity vertical level) h = at-polarity c vertical level
+effect c (Refused n) h = record { lines = λ _. refl; periods = λ _. refl; reset = refl; hsynci = refl }

@@ -1,0 +1,4 @@
+pub mod Events
+pub mod Counting
+pub mod Zeroed
+pub mod Worked

@@ -1,0 +1,176 @@
+-- Each event that the tables name does zero its count, where no overflow stands: the tables leave no more of a run out than must be.
+-- Assumes nothing.
+use mathlib.Core.Path.{_≡_, refl, _∙_}
+use mathlib.Core.Bool.{Bool, true, false, not, _&&_, _||_}
+use mathlib.Core.Logic.{_⊎_, inl, inr, ⊎-elim}
+use Prim.Native.Nat.{ℕ}
+use native.Mathlib.Omega.{arith}
+use borrow.Author.Tests.{ltb-true, le-ltb, eqb-true, not-true}
+use lib.Dec.{eqb, ltb}
+use Rattle.bits.specs.Byte.{bit}
+use Rattle.registers.specs.Names.{MDCON, CLRFLG}
+use Rattle.registers.specs.Table.{rowOf, isWritable}
+use Rattle.events.specs.declared.Decoded.{Decoded}
+use Rattle.events.specs.declared.Decoded.the-variants.{Read, Write, Pin, Clock, Polarity, Refused}
+use Rattle.events.proofs.Level.{pick-by}
+use Rattle.sync.specs.declared.Sync.{Sync}
+use Rattle.sync.specs.declared.LineCounter.{LineCounter}
+use Rattle.sync.specs.declared.PeriodCounter.{PeriodCounter}
+use Rattle.sync.specs.Count.{zeroed}
+use Rattle.sync.specs.Sync.{clearLines, clearPeriods, zeroLines, latchLines, latchPeriods, linesOnVsync, linesOnPeriod, onVsync, onPeriod, hselCleared, clearOverflow, zeroSync, watchdogFires}
+use Rattle.bus.specs.Lines.{edge}
+use Rattle.chip.specs.declared.Chip.{Chip}
+use Rattle.chip.specs.State.{hselOf, resetAt, resetChip, withReset}
+use Rattle.writes.specs.Writes.{target, syncAtHsel, mdconWritten, clrflgWritten, writtenTo, written, writeRegister}
+use Rattle.pins.specs.Pins.{pinKind, rises, onReset, resetMoved, vsyncMoved, pinMovedAs, pinMoved}
+use Rattle.clocks.specs.Clocks.{watchdogClock, clockedAs, clocked}
+use Rattle.step.specs.Step.{next}
+use Rattle.causes.specs.Causes.{risesVsynci}
+use Rattle.causes.proofs.Clocks.{watchdog-last}
+use Rattle.counting.specs.Counting.{zeroesLines, zeroesPeriods}
+use Rattle.counting.proofs.Events.{hsel-written, rise-is, vsync-moves, period-moves}
+
+-- ---- tests taken apart
+
+either : (x y : Bool) → (x || y) ≡ true → (x ≡ true) ⊎ (y ≡ true)
+either true y h = inl refl
+either false y h = inr h
+
+both : (x y : Bool) → (x && y) ≡ true → (x ≡ true) × (y ≡ true)
+both true y h = (refl, h)
+both false y h = (cc, cc)
+
+clash : {A : Type 0} (t : Bool) → t ≡ true → t ≡ false → A
+clash t h k = absurd (let z : _≡_ {A = ℕ} 0 1 = cc in omega arith)
+
+-- ---- a reset zeroes both
+
+at-reset-pin : (c : Chip) (old level : Bool) → (old && not level) ≡ true → onReset (edge old level) (withReset c level) .sync ≡ zeroSync
+unfolding onReset resetChip resetAt
+at-reset-pin c true true h = cc
+at-reset-pin c true false h = refl
+at-reset-pin c false level h = cc
+
+reset-pin : (c : Chip) (p : ℕ) (level : Bool) → (eqb p 28 && (c .reset && not level)) ≡ true → next c (Pin p level) .sync ≡ zeroSync
+unfolding next pinMoved pinMovedAs pinKind resetMoved
+reset-pin c p level h =
+    let k = both (eqb p 28) (c .reset && not level) h in
+    rw (eqb-true p 28 (k .0)) (at-reset-pin c (c .reset) level (k .1))
+
+reset-clock : (c : Chip) (k : ℕ) → (eqb k 3 && (c .reset && ltb 62 (c .watchdog))) ≡ true → next c (Clock k) .sync ≡ zeroSync
+unfolding next clocked clockedAs watchdogClock resetChip resetAt
+reset-clock c k h =
+    let e = both (eqb k 3) (c .reset && ltb 62 (c .watchdog)) h in
+    let d = both (c .reset) (ltb 62 (c .watchdog)) (e .1) in
+    let P : Chip → Type 0 = λ (x : Chip). x .sync ≡ zeroSync in
+    rw (eqb-true k 3 (e .0)) (pick-by P (c .reset) (λ _. pick-by P (watchdogFires (c .watchdog)) (λ _. refl) (clash _ (watchdog-last (c .watchdog) ∙ d .1))) (clash _ (d .0)))
+
+-- ---- writes
+
+clear-lines : (t : Bool) (l : LineCounter) → t ≡ true → clearLines t l .count .0 ≡ 0
+unfolding clearLines
+clear-lines t l h = rw h
+
+clear-periods : (t : Bool) (p : PeriodCounter) → t ≡ true → clearPeriods t p .count .0 ≡ 0
+unfolding clearPeriods
+clear-periods t p h = rw h
+
+hsel-zero : (old new : Bool) (s : Sync) → old ≡ true → new ≡ false → syncAtHsel old new s .lines .count .0 ≡ 0
+unfolding syncAtHsel hselCleared zeroLines
+hsel-zero old new s h k = rw (h, k)
+
+clrflg-lines : (c : Chip) (a b : ℕ) → (eqb a CLRFLG && (c .reset && bit 7 b)) ≡ true → next c (Write a b) .sync .lines .count .0 ≡ 0
+unfolding next writeRegister isWritable rowOf written target writtenTo clrflgWritten clearOverflow
+clrflg-lines c a b h =
+    let k = both (eqb a CLRFLG) (c .reset && bit 7 b) h in
+    let d = both (c .reset) (bit 7 b) (k .1) in
+    rw (eqb-true a CLRFLG (k .0)) (pick-by (λ (x : Chip). x .sync .lines .count .0 ≡ 0) (c .reset) (λ _. clear-lines (bit 7 b) (c .sync .lines) (d .1)) (clash _ (d .0)))
+
+clrflg-periods : (c : Chip) (a b : ℕ) → (eqb a CLRFLG && (c .reset && bit 6 b)) ≡ true → next c (Write a b) .sync .periods .count .0 ≡ 0
+unfolding next writeRegister isWritable rowOf written target writtenTo clrflgWritten clearOverflow
+clrflg-periods c a b h =
+    let k = both (eqb a CLRFLG) (c .reset && bit 6 b) h in
+    let d = both (c .reset) (bit 6 b) (k .1) in
+    rw (eqb-true a CLRFLG (k .0)) (pick-by (λ (x : Chip). x .sync .periods .count .0 ≡ 0) (c .reset) (λ _. clear-periods (bit 6 b) (c .sync .periods) (d .1)) (clash _ (d .0)))
+
+mdcon-lines : (c : Chip) (a b : ℕ) → ((eqb a MDCON && (c .reset && not (bit 2 b))) && hselOf c) ≡ true → next c (Write a b) .sync .lines .count .0 ≡ 0
+unfolding next writeRegister isWritable rowOf written target writtenTo mdconWritten
+mdcon-lines c a b h =
+    let j = both (eqb a MDCON && (c .reset && not (bit 2 b))) (hselOf c) h in
+    let k = both (eqb a MDCON) (c .reset && not (bit 2 b)) (j .0) in
+    let d = both (c .reset) (not (bit 2 b)) (k .1) in
+    rw (eqb-true a MDCON (k .0))
+    (pick-by (λ (x : Chip). x .sync .lines .count .0 ≡ 0) (c .reset)
+    (λ _. hsel-zero (hselOf c) _ (c .sync) (j .1) (hsel-written (c .mdcon) b ∙ not-true (bit 2 b) (d .1)))
+    (clash _ (d .0)))
+
+-- ---- latching
+
+latch-lines : (l : LineCounter) → l .overflow ≡ false → latchLines l .count .0 ≡ 0
+unfolding latchLines zeroed
+latch-lines l o = rw o
+
+latch-periods : (p : PeriodCounter) → p .overflow ≡ false → latchPeriods p .count .0 ≡ 0
+unfolding latchPeriods zeroed
+latch-periods p o = rw o
+
+vsync-sync : (c : Chip) (p : ℕ) (level : Bool) → risesVsynci c (Pin p level) ≡ true → next c (Pin p level) .sync ≡ onVsync (hselOf c) (c .sync)
+unfolding next pinMoved pinMovedAs pinKind vsyncMoved
+vsync-sync c p level h =
+    let k = both (eqb p 27 && level) (c .reset && not (c .pins .vsynci)) h in
+    let e = both (eqb p 27) level (k .0) in
+    let rise : rises (c .reset) (c .pins .vsynci) level ≡ true = rise-is (c .reset) (c .pins .vsynci) level ∙ rw (e .1) (k .1) in
+    rw (eqb-true p 27 (e .0))
+    (vsync-moves (rises (c .reset) (c .pins .vsynci) level) c level .sync ∙ pick-by (λ (s : Sync). s ≡ onVsync (hselOf c) (c .sync)) (rises (c .reset) (c .pins .vsynci) level) (λ _. refl) (clash _ rise))
+
+vsync-lines : (c : Chip) (p : ℕ) (level : Bool) → c .sync .lines .overflow ≡ false → (risesVsynci c (Pin p level) && hselOf c) ≡ true →
+    next c (Pin p level) .sync .lines .count .0 ≡ 0
+unfolding onVsync linesOnVsync
+vsync-lines c p level o h =
+    let k = both (risesVsynci c (Pin p level)) (hselOf c) h in
+    rw (vsync-sync c p level (k .0)) (pick-by (λ (l : LineCounter). l .count .0 ≡ 0) (hselOf c) (λ _. latch-lines (c .sync .lines) o) (clash _ (k .1)))
+
+period-lines : (c : Chip) (k : ℕ) → c .sync .lines .overflow ≡ false →
+    (eqb k 0 && (c .reset && (not (hselOf c) && ltb 1022 (c .sync .interval)))) ≡ true → next c (Clock k) .sync .lines .count .0 ≡ 0
+unfolding next clocked clockedAs onPeriod linesOnPeriod
+period-lines c k o h =
+    let e = both (eqb k 0) (c .reset && (not (hselOf c) && ltb 1022 (c .sync .interval))) h in
+    let d = both (c .reset) (not (hselOf c) && ltb 1022 (c .sync .interval)) (e .1) in
+    let f = both (not (hselOf c)) (ltb 1022 (c .sync .interval)) (d .1) in
+    let most : ltb (c .sync .interval) 1023 ≡ false = le-ltb (c .sync .interval) 1023 (omega (arith, ltb-true 1022 (c .sync .interval) (f .1))) in
+    rw (eqb-true k 0 (e .0), period-moves (c .reset) c .sync)
+    (pick-by (λ (s : Sync). s .lines .count .0 ≡ 0) (c .reset)
+    (λ _. rw (not-true (hselOf c) (f .0), most) (latch-lines (c .sync .lines) o))
+    (clash _ (d .0)))
+
+-- ---- the theorems
+
+impossible : {A : Type 0} → false ≡ true → A
+impossible h = clash false h refl
+
+pub lines-zeroed : (c : Chip) (e : Decoded) → c .sync .lines .overflow ≡ false → zeroesLines c e ≡ true → next c e .sync .lines .count .0 ≡ 0
+unfolding zeroesLines zeroSync
+lines-zeroed c (Read a) o h = impossible h
+lines-zeroed c (Write a b) o h =
+    ⊎-elim (clrflg-lines c a b)
+    (λ k. ⊎-elim (mdcon-lines c a b) impossible (either ((eqb a MDCON && (c .reset && not (bit 2 b))) && hselOf c) false k))
+    (either (eqb a CLRFLG && (c .reset && bit 7 b)) _ h)
+lines-zeroed c (Pin p level) o h =
+    ⊎-elim (λ k. rw (reset-pin c p level k))
+    (λ k. ⊎-elim (vsync-lines c p level o) impossible (either (risesVsynci c (Pin p level) && hselOf c) false k))
+    (either (eqb p 28 && (c .reset && not level)) _ h)
+lines-zeroed c (Clock k) o h =
+    ⊎-elim (λ e. rw (reset-clock c k e)) (period-lines c k o) (either (eqb k 3 && (c .reset && ltb 62 (c .watchdog))) _ h)
+lines-zeroed c (Polarity vertical level) o h = impossible h
+lines-zeroed c (Refused n) o h = impossible h
+
+pub periods-zeroed : (c : Chip) (e : Decoded) → c .sync .periods .overflow ≡ false → zeroesPeriods c e ≡ true → next c e .sync .periods .count .0 ≡ 0
+unfolding zeroesPeriods zeroSync onVsync
+periods-zeroed c (Read a) o h = impossible h
+periods-zeroed c (Write a b) o h = ⊎-elim (clrflg-periods c a b) impossible (either (eqb a CLRFLG && (c .reset && bit 6 b)) false h)
+periods-zeroed c (Pin p level) o h =
+    ⊎-elim (λ k. rw (reset-pin c p level k)) (λ k. rw (vsync-sync c p level k) (latch-periods (c .sync .periods) o))
+    (either (eqb p 28 && (c .reset && not level)) _ h)
+periods-zeroed c (Clock k) o h = ⊎-elim (λ e. rw (reset-clock c k e)) impossible (either (eqb k 3 && (c .reset && ltb 62 (c .watchdog))) false h)
+periods-zeroed c (Polarity vertical level) o h = impossible h
+periods-zeroed c (Refused n) o h = impossible h

@@ -1,0 +1,81 @@
+-- Counting over a list of event words (document 01, "Counting sync"): what is counted, and what zeroes a count.
+use Prim.Native.Nat.{ℕ, _+_}
+use mathlib.Core.Bool.{Bool, true, false, not, _&&_, _||_}
+use mathlib.Core.List.{List, [], _∷_}
+use lib.Dec.{eqb, ltb}
+use Rattle.bits.specs.Byte.{pick, num, bit}
+use Rattle.registers.specs.Names.{MDCON, CLRFLG}
+use Rattle.events.specs.declared.Decoded.{Decoded}
+use Rattle.events.specs.declared.Decoded.the-variants.{Read, Write, Pin, Clock, Polarity, Refused}
+use Rattle.events.specs.Word.{decode}
+use Rattle.chip.specs.declared.Chip.{Chip}
+use Rattle.chip.specs.State.{hselOf}
+use Rattle.step.specs.Step.{next}
+use Rattle.causes.specs.Causes.{putHigh, isClock, risesVsynci}
+
+-- the chip after the words, in order
+abbrev pub advanced : Chip → List ℕ → Chip
+advanced c [] = c
+advanced c (w ∷ ws) = advanced (next c (decode w)) ws
+
+-- ---- what is counted, told by the words and the levels before them
+
+-- the level of a pin after an event
+abbrev pub levelAfter : ℕ → Decoded → Bool → Bool
+levelAfter p (Read a) old = old
+levelAfter p (Write a b) old = old
+levelAfter p (Pin q level) old = pick (eqb q p) level old
+levelAfter p (Clock k) old = old
+levelAfter p (Polarity vertical level) old = old
+levelAfter p (Refused n) old = old
+
+-- rises of HSYNCI (pin 26) while RESET (pin 28) is high
+abbrev pub hsyncRises : Bool → Bool → List ℕ → ℕ
+hsyncRises reset hsynci [] = 0
+hsyncRises reset hsynci (w ∷ ws) =
+    num (putHigh 26 (decode w) && (reset && not hsynci))
+    + hsyncRises (levelAfter 28 (decode w) reset) (levelAfter 26 (decode w) hsynci) ws
+
+-- 8 µs clocks (number 0) while RESET is high
+abbrev pub periodClocks : Bool → List ℕ → ℕ
+periodClocks reset [] = 0
+periodClocks reset (w ∷ ws) = num (isClock 0 (decode w) && reset) + periodClocks (levelAfter 28 (decode w) reset) ws
+
+-- ---- what zeroes a count
+
+-- the chip is reset: RESET goes low, or the 64th watchdog clock comes
+abbrev pub resets : Chip → Decoded → Bool
+resets c (Read a) = false
+resets c (Write a b) = false
+resets c (Pin p level) = eqb p 28 && (c .reset && not level)
+resets c (Clock k) = eqb k 3 && (c .reset && ltb 62 (c .watchdog))
+resets c (Polarity vertical level) = false
+resets c (Refused n) = false
+
+-- a register is written while RESET is high, with this byte's bit as given
+abbrev pub writes : ℕ → ℕ → Bool → Chip → Decoded → Bool
+writes register k value c (Read a) = false
+writes register k value c (Write a b) = eqb a register && (c .reset && pick value (bit k b) (not (bit k b)))
+writes register k value c (Pin p level) = false
+writes register k value c (Clock j) = false
+writes register k value c (Polarity vertical level) = false
+writes register k value c (Refused n) = false
+
+-- HCNT: a reset, a 1 in bit 7 of CLRFLG, HSEL written from 1 to 0, a rise of VSYNCI with HSEL 1, and with HSEL 0 the 1,024th
+-- 8 µs clock, which finds the interval at 1,023
+unfoldable pub zeroesLines : Chip → Decoded → Bool
+zeroesLines c e =
+    resets c e
+    || (writes CLRFLG 7 true c e
+    || ((writes MDCON 2 false c e && hselOf c)
+    || ((risesVsynci c e && hselOf c)
+    || (isClock 0 e && (c .reset && (not (hselOf c) && ltb 1022 (c .sync .interval)))))))
+
+-- VCNT: a reset, a 1 in bit 6 of CLRFLG, and a rise of VSYNCI
+unfoldable pub zeroesPeriods : Chip → Decoded → Bool
+zeroesPeriods c e = resets c e || (writes CLRFLG 6 true c e || risesVsynci c e)
+
+-- no word of the list zeroes the count
+abbrev pub never : (Chip → Decoded → Bool) → Chip → List ℕ → Bool
+never zeroes c [] = true
+never zeroes c (w ∷ ws) = not (zeroes c (decode w)) && never zeroes (next c (decode w)) ws

@@ -1,0 +1,152 @@
+-- A write to a register changes only the bits of its write mask, and puts those of the byte written there; in II STS it may also clear START and STOP.
+-- Assumes nothing.
+use mathlib.Core.Path.{_≡_, refl, sym, ap, _∙_}
+use mathlib.Core.Bool.{Bool, true, false, not}
+use mathlib.Core.Logic.{⊎-elim}
+use Prim.Native.Nat.{ℕ, _-_, _<_, _≤_}
+use native.Mathlib.Omega.{arith}
+use borrow.Author.Tests.{eqb-true}
+use lib.Dec.{T, eqb, eqb→eq}
+use lib.Bits.{bitAnd, bitOr, and-self, and-comm, and-zero-r}
+use lib.ListN.{length, getD, set}
+use lib.Seq.{getD-set-same, set-out}
+use Rattle.bits.specs.Byte.{pick, bit, merge}
+use Rattle.bits.proofs.Finite.{at-each, lt-or-le}
+use Rattle.bits.proofs.Distrib.{and-assoc}
+use Rattle.bits.proofs.Mask.{complement-and, merge-keeps, merge-takes, merge-mask}
+use Rattle.registers.specs.Names.{MDCON, HVCON, IRQX, CLRFLG, CLRWDT, IIADR, IIDAT, IISTS, BT}
+use Rattle.registers.specs.Table.{rowOf, writeMask, isWritable}
+use Rattle.registers.proofs.Rules.{writeMask-lt}
+use Rattle.events.specs.declared.Decoded.the-variants.{Write}
+use Rattle.events.proofs.Level.{pick-by}
+use Rattle.bus.specs.Lines.{pullsScl}
+use Rattle.bus.specs.Ddc2b.{dataAtRise, phaseLetGo}
+use Rattle.chip.specs.declared.Bus.{Bus}
+use Rattle.chip.specs.declared.Chip.{Chip}
+use Rattle.chip.specs.State.{registerAt}
+use Rattle.lines.specs.Bus.{busAtRise}
+use Rattle.writes.specs.declared.Target.{Target}
+use Rattle.writes.specs.declared.Target.the-variants.{Stored, Mdcon, Hvcon, Clrflg, Clrwdt, Iiadr, Iidat, Iists, Bt}
+use Rattle.writes.specs.Writes.{target, updated, busLetGo, busRisen, withIidat, busAtIidat, statusWritten, writeRegister}
+use Rattle.step.specs.Step.{next}
+use Rattle.frame.specs.Frame.{actsElsewhere, keptByte, changeable}
+use Rattle.frame.proofs.Fields.{fields, hasAddress, address-of, plain, written-fields, by-write}
+use Rattle.frame.proofs.Frame.{mode-keeps}
+
+-- ---- bytes
+
+-- a write under a mask keeps the bits outside it
+outside : (mask old new : ℕ) → mask < 256 → bitAnd (merge mask old new) (255 - mask) ≡ bitAnd old (255 - mask)
+outside mask old new h = merge-keeps mask (255 - mask) old new (and-self (255 - mask)) (and-comm mask (255 - mask) ∙ complement-and mask h)
+
+-- II STS: bits 7, 6 and RXAK stay
+status-outside : (old b : ℕ) → b < 256 → bitAnd (statusWritten old b) 0xc2 ≡ bitAnd old 0xc2
+unfolding statusWritten writeMask rowOf
+status-outside old b h =
+    let e : bitAnd (bitOr b 0xcf) 0xc2 ≡ 0xc2 = eqb→eq _ _ (at-each (λ b. eqb (bitAnd (bitOr b 0xcf) 0xc2) 0xc2) 256 tt b h) in
+    and-assoc (updated IISTS old b) (bitOr b 0xcf) 0xc2 ∙ ap (λ (m : ℕ). bitAnd (updated IISTS old b) m) e ∙ merge-keeps 0x0d 0xc2 old b refl refl
+
+-- ENDDC, TRX and TXAK are taken
+status-inside : (old b : ℕ) → b < 256 → bitAnd (statusWritten old b) 0x0d ≡ bitAnd b 0x0d
+unfolding statusWritten writeMask rowOf
+status-inside old b h =
+    let e : bitAnd (bitOr b 0xcf) 0x0d ≡ 0x0d = eqb→eq _ _ (at-each (λ b. eqb (bitAnd (bitOr b 0xcf) 0x0d) 0x0d) 256 tt b h) in
+    and-assoc (updated IISTS old b) (bitOr b 0xcf) 0x0d ∙ ap (λ (m : ℕ). bitAnd (updated IISTS old b) m) e ∙ merge-takes 0x0d 0x0d old b refl refl
+
+-- a write to II DAT is stored, whether it lets SCL go or not
+data-first : (trx sda : Bool) (byte stored : ℕ) → dataAtRise sda (phaseLetGo trx byte) stored ≡ stored
+unfolding dataAtRise
+data-first true sda byte stored = refl
+data-first false sda byte stored = refl
+
+data-by : (held scl sda : Bool) (b : ℕ) (x : Bus) → (pick held (busRisen scl sda (busLetGo b x)) (withIidat b x)) .iidat ≡ updated IIDAT (x .iidat) b
+unfolding busRisen busAtRise
+data-by true true sda b x = data-first (bit 2 (x .iists)) _ b _
+data-by true false sda b x = refl
+data-by false scl sda b x = refl
+
+data-stored : (scl sda : Bool) (b : ℕ) (x : Bus) → busAtIidat scl sda b x .iidat ≡ updated IIDAT (x .iidat) b
+unfolding busAtIidat
+data-stored scl sda b x = data-by (pullsScl (x .phase)) scl sda b x
+
+-- ---- the bits that stay
+
+-- one choice on both sides
+kept-by : (t : Bool) (m x y v w : ℕ) → bitAnd x m ≡ bitAnd v m → bitAnd y m ≡ bitAnd w m → bitAnd (pick t x y) m ≡ bitAnd (pick t v w) m
+kept-by true m x y v w p q = p
+kept-by false m x y v w p q = q
+
+module _ (c : Chip) (a b : ℕ) (hb : b < 256) where
+  place-kept : bitAnd (getD (set (c .registers) a (updated a (registerAt c a) b)) a 0) (255 - writeMask a) ≡ bitAnd (registerAt c a) (255 - writeMask a)
+  place-kept =
+      ⊎-elim
+      (λ (h : a < length (c .registers)). rw (getD-set-same (c .registers) a (updated a (registerAt c a) b) 0 h) (outside (writeMask a) (registerAt c a) b (writeMask-lt a)))
+      (λ (h : length (c .registers) ≤ a). rw (set-out (c .registers) a (updated a (registerAt c a) b) h))
+      (lt-or-le a (length (c .registers)))
+
+  plain-kept : T (not (actsElsewhere a)) → bitAnd (keptByte (fields c a b) a) (255 - changeable a) ≡ bitAnd (keptByte c a) (255 - changeable a)
+  unfolding keptByte changeable
+  plain-kept t =
+      let p = plain a t in
+      rw (p .mdcon, p .hvcon, p .clrflg, p .clrwdt, p .iiadr, p .iidat, p .iists, p .bt)
+      (kept-by (eqb a IRQX) (255 - writeMask a) (c .irqx) _ (c .irqx) (registerAt c a) refl place-kept)
+
+  kept-to : (t : Target) → T (hasAddress t a) → bitAnd (keptByte (fields c a b) a) (255 - changeable a) ≡ bitAnd (keptByte c a) (255 - changeable a)
+  unfolding keptByte changeable
+  kept-to Stored t = plain-kept t
+  kept-to Mdcon t = rw (eqb→eq a MDCON t) (outside (writeMask MDCON) (c .mdcon) b (writeMask-lt MDCON))
+  kept-to Hvcon t = rw (eqb→eq a HVCON t) (outside (writeMask HVCON) (c .polarity) b (writeMask-lt HVCON))
+  kept-to Clrflg t = rw (eqb→eq a CLRFLG t)
+  kept-to Clrwdt t = rw (eqb→eq a CLRWDT t)
+  kept-to Iiadr t = rw (eqb→eq a IIADR t) (outside (writeMask IIADR) (c .bus .iiadr) b (writeMask-lt IIADR))
+  kept-to Iidat t = rw (eqb→eq a IIDAT t, data-stored (c .scl) (c .sda) b (c .bus)) (outside (writeMask IIDAT) (c .bus .iidat) b (writeMask-lt IIDAT))
+  kept-to Iists t = rw (eqb→eq a IISTS t, mode-keeps _ _ _ .iists) (status-outside (c .bus .iists) b hb)
+  kept-to Bt t = rw (eqb→eq a BT t) (outside (writeMask BT) (c .bt) b (writeMask-lt BT))
+
+-- a write to any register, taken or refused
+pub kept-bits : (c : Chip) (a b : ℕ) → b < 256 → bitAnd (keptByte (next c (Write a b)) a) (255 - changeable a) ≡ bitAnd (keptByte c a) (255 - changeable a)
+kept-bits c a b hb =
+    by-write (λ (x : Chip). bitAnd (keptByte x a) (255 - changeable a) ≡ bitAnd (keptByte c a) (255 - changeable a)) c a b
+    (λ _ h _. kept-to c a b hb (target a) (address-of a h))
+    refl
+
+-- ---- the bits that are taken
+
+module _ (c : Chip) (a b : ℕ) (hb : b < 256) (size : length (c .registers) ≡ 38) (ha : a < 38) where
+  place-taken : bitAnd (getD (set (c .registers) a (updated a (registerAt c a) b)) a 0) (writeMask a) ≡ bitAnd b (writeMask a)
+  place-taken =
+      let h : a < length (c .registers) = omega arith in
+      rw (getD-set-same (c .registers) a (updated a (registerAt c a) b) 0 h) (merge-mask (writeMask a) (registerAt c a) b (writeMask-lt a))
+
+  plain-taken : T (not (actsElsewhere a)) → isWritable a ≡ true → bitAnd (keptByte (fields c a b) a) (writeMask a) ≡ bitAnd b (writeMask a)
+  unfolding keptByte isWritable rowOf
+  plain-taken t w =
+      let p = plain a t in
+      rw (p .mdcon, p .hvcon, p .clrflg, p .clrwdt, p .iiadr, p .iidat, p .iists, p .bt)
+      (pick-by (λ (x : ℕ). bitAnd x (writeMask a) ≡ bitAnd b (writeMask a)) (eqb a IRQX)
+      (λ e. let z : _≡_ {A = Bool} false true = rw (eqb-true a IRQX e) at w in cc)
+      (λ _. place-taken))
+
+  taken-to : (t : Target) → T (hasAddress t a) → isWritable a ≡ true → bitAnd (keptByte (fields c a b) a) (writeMask a) ≡ bitAnd b (writeMask a)
+  unfolding keptByte writeMask rowOf
+  taken-to Stored t w = plain-taken t w
+  taken-to Mdcon t w = rw (eqb→eq a MDCON t) (merge-mask (writeMask MDCON) (c .mdcon) b (writeMask-lt MDCON))
+  taken-to Hvcon t w = rw (eqb→eq a HVCON t) (merge-mask (writeMask HVCON) (c .polarity) b (writeMask-lt HVCON))
+  taken-to Clrflg t w = rw (eqb→eq a CLRFLG t) (and-zero-r (registerAt c CLRFLG) ∙ sym (and-zero-r b))
+  taken-to Clrwdt t w = rw (eqb→eq a CLRWDT t) (and-zero-r (registerAt c CLRWDT) ∙ sym (and-zero-r b))
+  taken-to Iiadr t w = rw (eqb→eq a IIADR t) (merge-mask (writeMask IIADR) (c .bus .iiadr) b (writeMask-lt IIADR))
+  taken-to Iidat t w = rw (eqb→eq a IIDAT t, data-stored (c .scl) (c .sda) b (c .bus)) (merge-mask (writeMask IIDAT) (c .bus .iidat) b (writeMask-lt IIDAT))
+  taken-to Iists t w = rw (eqb→eq a IISTS t, mode-keeps _ _ _ .iists) (status-inside (c .bus .iists) b hb)
+  taken-to Bt t w = rw (eqb→eq a BT t) (merge-mask (writeMask BT) (c .bt) b (writeMask-lt BT))
+
+-- a write that is taken, at a state whose array has its 38 places, as all of the code's have
+pub taken-bits : (c : Chip) (a b : ℕ) → b < 256 → length (c .registers) ≡ 38 → a < 38 → c .reset ≡ true → isWritable a ≡ true →
+    bitAnd (keptByte (next c (Write a b)) a) (writeMask a) ≡ bitAnd b (writeMask a)
+unfolding next writeRegister
+taken-bits c a b hb size ha r w =
+    let P : Chip → Type 0 = λ (x : Chip). bitAnd (keptByte x a) (writeMask a) ≡ bitAnd b (writeMask a) in
+    pick-by P (c .reset)
+    (λ _. pick-by P (isWritable a)
+    (λ _. rw (written-fields c a b ha) (taken-to c a b hb size ha (target a) (address-of a ha) w))
+    (λ e. cc))
+    (λ e. cc)

@@ -1,0 +1,1 @@
+// What a register write alters and what it leaves: statements and theorems, no code.

@@ -1,0 +1,11 @@
+pub mod Formed
+pub mod Ranges
+pub mod Bus
+pub mod Reset
+pub mod Lines
+pub mod Pins
+pub mod Clocks
+pub mod Stored
+pub mod Writes
+pub mod WellFormed
+pub mod Numbers

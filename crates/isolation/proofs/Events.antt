@@ -1,0 +1,168 @@
+-- One event at related chips: they stay related, and the answers agree but for the byte of II DAT.
+use Prim.Native.Nat.{ℕ, _/_, _<_}
+use mathlib.Core.Path.{_≡_, refl, ap, sym}
+use mathlib.Core.Bool.{Bool, true, false, not, _&&_, _||_, Bool·beq, or-false, true≢false}
+use native.Mathlib.Omega.{arith}
+use lib.Dec.{eqb}
+use lib.Bits.{bitAnd}
+use borrow.Author.Tests.{eqb-true}
+use Rattle.bits.specs.Byte.{pick}
+use Rattle.bits.proofs.Finite.{beq-eq, true-T}
+use Rattle.bits.proofs.Mask.{and-lt-byte}
+use Rattle.registers.specs.Names.{IIDAT}
+use Rattle.registers.specs.Table.{readMask, isReadable}
+use Rattle.registers.proofs.Rules.{readMask-lt}
+use Rattle.events.specs.declared.Decoded.{Decoded}
+use Rattle.events.specs.declared.Decoded.the-variants.{Read, Write, Pin, Clock, Polarity, Refused}
+use Rattle.events.specs.Word.{decode, answerWord, InRange}
+use Rattle.events.proofs.Refusal.{decode-in-range}
+use Rattle.chip.specs.declared.Chip.{Chip}
+use Rattle.chip.specs.declared.Reading.{Reading}
+use Rattle.chip.specs.State.{requests}
+use Rattle.chip.specs.Reads.{port0, port1, port2, port3, hvcon, shown, reading, readingOf}
+use Rattle.writes.specs.Writes.{writeNumber}
+use Rattle.pins.specs.Pins.{pinKind, pinMovedAs, pinMoved}
+use Rattle.step.specs.Step.{next, numberGiven, byteGiven, watchdogReset, wasReset, answered}
+use Rattle.isolation.specs.Foreign.{Observer, observe, permitted, touchesSda, untouched, sameButSda, equalAtHigh, comparedAnswer}
+use Rattle.isolation.proofs.Related.{Related, related, enddc-low}
+use Rattle.isolation.proofs.Pins.{pin-related, sda-low-related, sda-equal-related}
+use Rattle.isolation.proofs.Writes.{write-related, clock-related, polarity-related, both-left, both-right}
+
+-- ---- two events, one for each run
+
+-- the same event where SDA is not touched; SDA touched in both while SCL is low; SDA put to one level, equal before
+pub data Paired (o o′ : Observer) : Decoded → Decoded → Type 0 where
+  same : {e : Decoded} → InRange e → touchesSda e ≡ false → Paired o o′ e e
+  low : (l l′ : Bool) → o .scl ≡ false → Paired o o′ (Pin 24 l) (Pin 24 l′)
+  equal : (l : Bool) → o .sda ≡ o′ .sda → Paired o o′ (Pin 24 l) (Pin 24 l)
+
+-- an event that touches SDA
+pub data Touches : Decoded → Type 0 where
+  touches : (l : Bool) → Touches (Pin 24 l)
+
+pub touches-of : (e : Decoded) → touchesSda e ≡ true → Touches e
+touches-of (Read a) h = absurd (true≢false (sym h))
+touches-of (Write a b) h = absurd (true≢false (sym h))
+touches-of (Pin p l) h = rw (eqb-true p 24 h) (touches l)
+touches-of (Clock k) h = absurd (true≢false (sym h))
+touches-of (Polarity v l) h = absurd (true≢false (sym h))
+touches-of (Refused n) h = absurd (true≢false (sym h))
+
+low-of : (scl : Bool) → not (scl && true) ≡ true → scl ≡ false
+low-of true h = absurd (true≢false (sym h))
+low-of false h = refl
+
+low-paired : {o o′ : Observer} {e f : Decoded} → Touches e → Touches f → not (o .scl && touchesSda e) ≡ true → Paired o o′ e f
+low-paired {o} (touches l) (touches l′) h = low l l′ (low-of (o .scl) h)
+
+-- a word touches SDA while SCL is low, or SDA's levels are equal
+equal-paired : {o o′ : Observer} {e : Decoded} → Touches e → (quiet : Bool) → not (o .scl && touchesSda e) ≡ quiet → (quiet || Bool·beq (o .sda) (o′ .sda)) ≡ true → Paired o o′ e e
+equal-paired t true u h = low-paired t t u
+equal-paired {o} {o′} (touches l) false u h = equal l (beq-eq (o .sda) (o′ .sda) (true-T _ h))
+
+word-paired : {o o′ : Observer} (e : Decoded) (sda : Bool) → InRange e → touchesSda e ≡ sda → (not (o .scl && touchesSda e) || Bool·beq (o .sda) (o′ .sda)) ≡ true → Paired o o′ e e
+word-paired e false r t h = same r t
+word-paired e true r t h = equal-paired (touches-of e t) _ refl h
+
+words-paired : (o o′ : Observer) (w v : ℕ) (t : Bool) → eqb w v ≡ t → (t || (touchesSda (decode w) && touchesSda (decode v))) ≡ true
+    → (untouched o (decode w) || (t && Bool·beq (o .sda) (o′ .sda))) ≡ true → Paired o o′ (decode w) (decode v)
+unfolding untouched
+words-paired o o′ w v true e s h = rw (← eqb-true w v e) (word-paired (decode w) _ (decode-in-range w) refl h)
+words-paired o o′ w v false e s h =
+    low-paired (touches-of (decode w) (both-left (touchesSda (decode w)) (touchesSda (decode v)) s)) (touches-of (decode v) (both-right (touchesSda (decode w)) (touchesSda (decode v)) s))
+    (rw or-false at h)
+
+pub paired : (o o′ : Observer) (w v : ℕ) → sameButSda w v ≡ true → equalAtHigh o o′ w v ≡ true → Paired o o′ (decode w) (decode v)
+paired o o′ w v s h = words-paired o o′ w v (eqb w v) refl s h
+
+-- ---- the chips
+
+same-related : {c d : Chip} {o o′ : Observer} → Related c d o o′ → (e : Decoded) → InRange e → touchesSda e ≡ false → permitted o e ≡ true → permitted o′ e ≡ true
+    → Related (next c e) (next d e) (observe o e) (observe o′ e)
+unfolding next observe
+same-related r (Read a) i t h h′ = r
+same-related r (Write a b) i t h h′ = write-related r a b h
+same-related r (Pin p l) i t h h′ = pin-related r p l i t h h′
+same-related r (Clock k) i t h h′ = clock-related r k h
+same-related r (Polarity v l) i t h h′ = polarity-related r v l
+same-related r (Refused n) i t h h′ = r
+
+pub event-related : {c d : Chip} {o o′ : Observer} → Related c d o o′ → {e f : Decoded} → Paired o o′ e f → permitted o e ≡ true → permitted o′ f ≡ true
+    → Related (next c e) (next d f) (observe o e) (observe o′ f)
+unfolding next pinMoved pinMovedAs pinKind
+event-related r (same {e} i t) h h′ = same-related r e i t h h′
+event-related r (low l l′ s) h h′ = sda-low-related r l l′ s
+event-related r (equal l x) h h′ = sda-equal-related r l x
+
+-- ---- the answers
+
+pub reset-equal : {c d : Chip} {o o′ : Observer} → Related c d o o′ → c .reset ≡ d .reset
+reset-equal (related g z s x x′ y y′ k o) = refl
+
+pub requests-equal : {c d : Chip} {o o′ : Observer} → Related c d o o′ → requests c ≡ requests d
+unfolding requests
+requests-equal (related g z s x x′ y y′ k o) = refl
+
+pub was-reset-equal : {c d : Chip} {o o′ : Observer} → Related c d o o′ → (e : Decoded) → wasReset c e ≡ wasReset d e
+unfolding wasReset
+was-reset-equal (related g z s x x′ y y′ k o) (Read a) = refl
+was-reset-equal (related g z s x x′ y y′ k o) (Write a b) = refl
+was-reset-equal (related g z s x x′ y y′ k o) (Pin p l) = refl
+was-reset-equal (related g z s x x′ y y′ k o) (Clock m) = refl
+was-reset-equal (related g z s x x′ y y′ k o) (Polarity v l) = refl
+was-reset-equal (related g z s x x′ y y′ k o) (Refused n) = refl
+
+pub write-number-equal : {c d : Chip} {o o′ : Observer} → Related c d o o′ → (a : ℕ) → writeNumber c a ≡ writeNumber d a
+unfolding writeNumber
+write-number-equal (related g z s x x′ y y′ k o) a = refl
+
+-- a register other than II DAT reads the same; PT3 does not show SDA while DDC is on
+pub reading-equal : {c d : Chip} {o o′ : Observer} → Related c d o o′ → (a : ℕ) → eqb a IIDAT ≡ false → reading c a ≡ reading d a
+unfolding reading shown port0 port1 port2 port3 hvcon
+reading-equal (related g z s x x′ y y′ k o) a h = rw (h, enddc-low o)
+
+number-of-reading : (z t : Bool) (n m : ℕ) → pick z (pick t (readingOf 0 n) (readingOf 5 0)) (readingOf 4 0) .number ≡ pick z (pick t (readingOf 0 m) (readingOf 5 0)) (readingOf 4 0) .number
+number-of-reading false t n m = refl
+number-of-reading true false n m = refl
+number-of-reading true true n m = refl
+
+pub reading-number-equal : {c d : Chip} {o o′ : Observer} → Related c d o o′ → (a : ℕ) → reading c a .number ≡ reading d a .number
+unfolding reading
+reading-number-equal (related g z s x x′ y y′ k o) a = number-of-reading z (isReadable a) _ _
+
+byte-of-reading : (z t : Bool) (n mask : ℕ) → mask < 256 → pick z (pick t (readingOf 0 (bitAnd n mask)) (readingOf 5 0)) (readingOf 4 0) .byte < 256
+byte-of-reading false t n mask h = omega arith
+byte-of-reading true false n mask h = omega arith
+byte-of-reading true true n mask h = and-lt-byte n mask h
+
+reading-byte-lt : (c : Chip) (a : ℕ) → reading c a .byte < 256
+unfolding reading
+reading-byte-lt c a = byte-of-reading (c .reset) (isReadable a) (shown c a) (readMask a) (readMask-lt a)
+
+-- two answers to a read, their bytes apart
+read-answers : (t : Bool) (n n′ r r′ y y′ : ℕ) → n ≡ n′ → r ≡ r′ → y < 256 → y′ < 256 → (t ≡ false → y ≡ y′)
+    → pick t (answerWord n false r y / 256) (answerWord n false r y) ≡ pick t (answerWord n′ false r′ y′ / 256) (answerWord n′ false r′ y′)
+read-answers true n n′ r r′ y y′ en er h h′ e = omega arith
+read-answers false n n′ r r′ y y′ en er h h′ e = rw (en, er, e refl)
+
+same-answers : {c d : Chip} {o o′ : Observer} → Related c d o o′ → (e : Decoded) → requests (next c e) ≡ requests (next d e)
+    → comparedAnswer e (answered c e) ≡ comparedAnswer e (answered d e)
+unfolding answered numberGiven byteGiven watchdogReset
+same-answers {c} {d} r (Read a) q =
+    read-answers (eqb a IIDAT) (reading c a .number) (reading d a .number) (requests (next c (Read a))) (requests (next d (Read a))) (reading c a .byte) (reading d a .byte)
+    (reading-number-equal r a) q (reading-byte-lt c a) (reading-byte-lt d a) (λ h. ap (λ (t : Reading). t .byte) (reading-equal r a h))
+same-answers r (Write a b) q = rw (write-number-equal r a, q)
+same-answers r (Pin p l) q = rw q
+same-answers (related g z s x x′ y y′ k o) (Clock m) q = rw q
+same-answers r (Polarity v l) q = rw q
+same-answers r (Refused n) q = rw q
+
+sda-answers : (c d : Chip) (l l′ : Bool) → requests (next c (Pin 24 l)) ≡ requests (next d (Pin 24 l′)) → answered c (Pin 24 l) ≡ answered d (Pin 24 l′)
+unfolding answered numberGiven byteGiven watchdogReset
+sda-answers c d l l′ q = rw q
+
+pub event-answers : {c d : Chip} {o o′ : Observer} → Related c d o o′ → {e f : Decoded} → Paired o o′ e f → permitted o e ≡ true → permitted o′ f ≡ true
+    → comparedAnswer e (answered c e) ≡ comparedAnswer f (answered d f)
+event-answers r (same {e} i t) h h′ = same-answers r e (requests-equal (event-related r (same i t) h h′))
+event-answers {c} {d} r (low l l′ s) h h′ = sda-answers c d l l′ (requests-equal (event-related r (low l l′ s) h h′))
+event-answers {c} {d} r (equal l x) h h′ = sda-answers c d l l (requests-equal (event-related r (equal l x) h h′))

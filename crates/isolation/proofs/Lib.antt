@@ -1,0 +1,8 @@
+pub mod Bits
+pub mod Related
+pub mod Pins
+pub mod Writes
+pub mod Events
+pub mod Runs
+pub mod Theorems
+pub mod Worked

@@ -1,0 +1,95 @@
+-- Transfers that are not for this chip (document 01, "How tight each statement is"), by the step and by the list call.
+use Prim.Native.Nat.{ℕ}
+use mathlib.Core.Path.{_≡_, refl, ap, sym, _∙_}
+use mathlib.Core.List.{List, [], _∷_, _++_}
+use mathlib.Core.Bool.{Bool, true, false}
+use native.Mathlib.Omega.{arith}
+use lib.Dec.{ltb}
+use lib.ListN.{length, drop}
+use Rattle.bits.specs.Byte.{pick}
+use Rattle.events.specs.Word.{decode}
+use Rattle.bus.specs.declared.Mode.the-variants.{Ddc2b}
+use Rattle.bus.specs.declared.Phase.{Phase}
+use Rattle.bus.specs.Ddc2b.{startPhase}
+use Rattle.chip.specs.declared.Chip.{Chip}
+use Rattle.chip.specs.State.{modeOf}
+use Rattle.chip.specs.Form.{wellFormed}
+use Rattle.step.specs.Step.{advance}
+use Rattle.run.specs.Run.{advanced, advancedAnswers, ranTo, ran, ranAnswers}
+use Rattle.isolation.specs.Foreign.{Trace, since, Observer, observerOf, observe, untouched, throughout, equalThroughout, comparedAnswer, comparedAnswers, comparedState, OneTransfer, SeveralTransfers, RunsAgree, CallsAgree, Begun, start-seen, bus-idle}
+use Rattle.isolation.proofs.Related.{Apart, idle, address, Related, related}
+use Rattle.isolation.proofs.Writes.{both-left, both-right}
+use Rattle.isolation.proofs.Runs.{advanced-agree, run-agree}
+
+-- ---- the first state
+
+apart : {q : Phase} {t : Trace} → Begun q t → Apart q q t t
+apart start-seen = address [] [] refl refl
+apart bus-idle = idle
+
+pub self-related : (c : Chip) → modeOf c ≡ Ddc2b → {t : Trace} → Begun (c .bus .phase) t → Related c c (observerOf c t) (observerOf c t)
+self-related c h b = related c (c .reset) (c .scl) (c .sda) (c .sda) (c .bus .iidat) (c .bus .iidat) (apart b) (record { ddc2b = h; address-bits = refl })
+
+-- ---- by the step
+
+-- any number of transfers, from a START just seen or an idle bus; the state may be ill formed
+pub several-transfers : (c : Chip) → modeOf c ≡ Ddc2b → {t : Trace} → Begun (c .bus .phase) t → (ws vs : List ℕ) → SeveralTransfers (observerOf c t) (observerOf c t) ws vs
+    → RunsAgree c ws vs
+several-transfers c h b ws vs p = run-agree (self-related c h b) ws vs p
+
+-- SDA left alone while SCL is high is SDA moved equally there
+untouched-equal : (o o′ : Observer) (ws vs : List ℕ) → throughout untouched o ws ≡ true → equalThroughout o o′ ws vs ≡ true
+untouched-equal o o′ [] vs h = refl
+untouched-equal o o′ (w ∷ ws) [] h = refl
+untouched-equal o o′ (w ∷ ws) (v ∷ vs) h =
+    rw (both-left (untouched o (decode w)) _ h) (untouched-equal (observe o (decode w)) (observe o′ (decode v)) ws vs (both-right (untouched o (decode w)) _ h))
+
+several-of : {o : Observer} {ws vs : List ℕ} → OneTransfer o ws vs → SeveralTransfers o o ws vs
+several-of {o} {ws} {vs} p = record { words = p .words; left = p .left; right = p .right; sda = untouched-equal o o ws vs (p .sda) }
+
+started-at : {q : Phase} → q ≡ startPhase → Begun q (since [])
+started-at h = rw h start-seen
+
+-- a START just seen, and SDA left alone while SCL is high; SCL and RESET may have any level at the start
+pub one-transfer : (c : Chip) → modeOf c ≡ Ddc2b → c .bus .phase ≡ startPhase → (ws vs : List ℕ) → OneTransfer (observerOf c (since [])) ws vs
+    → RunsAgree c ws vs
+one-transfer c h b ws vs p = several-transfers c h (started-at b) ws vs (several-of p)
+
+-- ---- by the list call
+
+-- answer places past the words are not compared
+compared-append : (c : Chip) (ws xs : List ℕ) → comparedAnswers ws (advancedAnswers c ws ++ xs) ≡ comparedAnswers ws (advancedAnswers c ws)
+compared-append c [] xs = refl
+compared-append c (w ∷ ws) xs = ap (λ (l : List ℕ). comparedAnswer (decode w) (advance c (decode w) .answer) ∷ l) (compared-append (advance c (decode w) .chip) ws xs)
+
+-- a list call that returns 0 leaves the run's state and answers
+record Called (c d : Chip) (ws xs : List ℕ) : Type 0 where
+  state : d ≡ advanced c ws
+  answer : comparedAnswers ws xs ≡ comparedAnswers ws (advancedAnswers c ws)
+
+called-by : (c : Chip) (ws xs : List ℕ) (well short : Bool)
+    → pick well (pick short (ranTo c 7) (ranTo (advanced c ws) 0)) (ranTo c 8) .number ≡ 0
+    → Called c (pick well (pick short (ranTo c 7) (ranTo (advanced c ws) 0)) (ranTo c 8) .chip) ws (pick well (pick short xs (advancedAnswers c ws ++ drop (length ws) xs)) xs)
+called-by c ws xs true true h = absurd (omega arith)
+called-by c ws xs true false h = record { state = refl; answer = compared-append c ws (drop (length ws) xs) }
+called-by c ws xs false short h = absurd (omega arith)
+
+called : (c : Chip) (ws xs : List ℕ) → ran c ws xs .number ≡ 0 → Called c (ran c ws xs .chip) ws (ranAnswers c ws xs)
+unfolding ran ranAnswers
+called c ws xs h = called-by c ws xs (wellFormed c) (ltb (length xs) (length ws)) h
+
+-- two list calls that return 0, with the answer places xs and ys
+pub several-transfers-called : (c : Chip) → modeOf c ≡ Ddc2b → {t : Trace} → Begun (c .bus .phase) t → (ws vs xs ys : List ℕ) → SeveralTransfers (observerOf c t) (observerOf c t) ws vs
+    → ran c ws xs .number ≡ 0 → ran c vs ys .number ≡ 0 → CallsAgree c ws vs xs ys
+several-transfers-called c h b ws vs xs ys p n n′ =
+    let one = called c ws xs n in
+    let other = called c vs ys n′ in
+    let run = advanced-agree (self-related c h b) ws vs p in
+    record {
+      answers-agree = one .answer ∙ run .answers-agree ∙ sym (other .answer);
+      states-agree = ap comparedState (one .state) ∙ run .states-agree ∙ sym (ap comparedState (other .state));
+    }
+
+pub one-transfer-called : (c : Chip) → modeOf c ≡ Ddc2b → c .bus .phase ≡ startPhase → (ws vs xs ys : List ℕ) → OneTransfer (observerOf c (since [])) ws vs
+    → ran c ws xs .number ≡ 0 → ran c vs ys .number ≡ 0 → CallsAgree c ws vs xs ys
+one-transfer-called c h b ws vs xs ys p n n′ = several-transfers-called c h (started-at b) ws vs xs ys (several-of p) n n′

@@ -1,0 +1,134 @@
+-- Related chips stay related at a write, a clock and a polarity (document 01, "Registers" and "Flags, timer, watchdog, reset").
+use Prim.Native.Nat.{ℕ, _+_}
+use mathlib.Core.Path.{_≡_, refl, sym, _∙_}
+use mathlib.Core.Bool.{Bool, true, false, not, _&&_, true≢false}
+use lib.Dec.{eqb, ltb}
+use borrow.Author.Tests.{eqb-true, not-true, not-false}
+use Rattle.bits.specs.Byte.{pick, bit}
+use Rattle.registers.specs.Names.{BTCON, MDCON, HVCON, CLRFLG, CLRWDT, IIADR, IIDAT, IISTS, BT}
+use Rattle.registers.specs.Table.{isWritable}
+use Rattle.events.specs.declared.Decoded.the-variants.{Write, Clock}
+use Rattle.bus.specs.declared.Phase.{Phase}
+use Rattle.bus.specs.Lines.{changesMode}
+use Rattle.chip.specs.declared.Chip.{Chip}
+use Rattle.chip.specs.State.{busOf, registerAt, withBus, withMdcon, withSync, withPolarity, withBt, withWatchdog, withReset}
+use Rattle.sync.specs.Count.{cycleNext}
+use Rattle.sync.specs.Sync.{watchdogNext, watchdogFires}
+use Rattle.lines.specs.Bus.{busAtMode}
+use Rattle.writes.specs.declared.Target.the-variants.{Stored}
+use Rattle.writes.specs.Writes.{target, updated, storedWritten, syncAtHsel, mdconWritten, clrflgWritten, clrwdtWritten, iiadrWritten, statusWritten, iistsWritten, busAtIidat, iidatWritten, writtenTo, written, writeRegister}
+use Rattle.clocks.specs.Clocks.{periodClock, timerRuns, timerStep, timerClock, watchdogClock, clockedAs, clocked, polarityFound}
+use Rattle.isolation.specs.Foreign.{Trace, Observer, observe, permitted, turnsOff, asksDdc1}
+use Rattle.isolation.proofs.Bits.{address-written, md-written, enddc-written}
+use Rattle.isolation.proofs.Related.{frame, observer, Apart, KeptBy, Related, related, left-released, right-released, kept-status, kept-mdcon}
+
+-- ---- writes
+
+-- a register by its address
+data Known : ℕ → Type 0 where
+  mdcon : Known MDCON
+  hvcon : Known HVCON
+  clrflg : Known CLRFLG
+  clrwdt : Known CLRWDT
+  iiadr : Known IIADR
+  iidat : Known IIDAT
+  iists : Known IISTS
+  bt : Known BT
+  stored : (a : ℕ) → target a ≡ Stored → eqb a IIADR ≡ false → eqb a CLRWDT ≡ false → Known a
+
+known-at : (a n : ℕ) (t : Bool) → eqb a n ≡ t → Known n → (eqb a n ≡ false → Known a) → Known a
+known-at a n true e k f = rw (eqb-true a n e) k
+known-at a n false e k f = f e
+
+known : (a : ℕ) → Known a
+unfolding target
+known a =
+    known-at a MDCON _ refl mdcon (λ md. known-at a HVCON _ refl hvcon (λ hv. known-at a CLRFLG _ refl clrflg (λ cf. known-at a CLRWDT _ refl clrwdt (λ cw.
+    known-at a IIADR _ refl iiadr (λ ad. known-at a IIDAT _ refl iidat (λ da. known-at a IISTS _ refl iists (λ st. known-at a BT _ refl bt (λ b.
+    stored a (rw (md, hv, cf, cw, ad, da, st, b)) ad cw))))))))
+
+-- a write that is taken; one to II DAT only stores, since SCL is not held
+written-related : (g : Chip) (s x x′ : Bool) (y y′ : ℕ) {n : ℕ} {q q′ : Phase} {t t′ : Trace} → Apart q q′ t t′ → KeptBy g n → {a : ℕ} → Known a → (b : ℕ)
+    → turnsOff a b ≡ false → asksDdc1 a b ≡ false
+    → Related (written (frame g true s x q y) a b) (written (frame g true s x′ q′ y′) a b)
+    (observer true s x (pick (eqb a IIADR) b n) (pick (eqb a CLRWDT && eqb b 0x55) 0 (g .watchdog)) t)
+    (observer true s x′ (pick (eqb a IIADR) b n) (pick (eqb a CLRWDT && eqb b 0x55) 0 (g .watchdog)) t′)
+unfolding written target writtenTo storedWritten mdconWritten clrflgWritten clrwdtWritten iiadrWritten iistsWritten iidatWritten busAtIidat busAtMode changesMode
+written-related g s x x′ y y′ k o mdcon b off md =
+    let new : ℕ = updated MDCON (g .mdcon) b in
+    let kept = kept-mdcon new (md-written (g .mdcon) b ∙ md) o in
+    rw (o .ddc2b, kept .ddc2b) (related (withSync (withMdcon g new) (syncAtHsel (bit 2 (g .mdcon)) (bit 2 new) (g .sync))) true s x x′ y y′ k kept)
+written-related g s x x′ y y′ k o hvcon b off md = related (withPolarity g (updated HVCON (g .polarity) b)) true s x x′ y y′ k o
+written-related g s x x′ y y′ k o clrflg b off md = related (clrflgWritten g b) true s x x′ y y′ k o
+written-related g s x x′ y y′ k o clrwdt b off md = related (clrwdtWritten g b) true s x x′ y y′ k o
+written-related g s x x′ y y′ k o iiadr b off md =
+    related (iiadrWritten g b) true s x x′ y y′ k (record { ddc2b = o .ddc2b; address-bits = address-written (g .bus .iiadr) b })
+written-related g s x x′ y y′ k o iidat b off md =
+    rw (left-released k .scl-free, right-released k .scl-free) (related g true s x x′ (updated IIDAT y b) (updated IIDAT y′ b) k o)
+written-related g s x x′ y y′ k o iists b off md =
+    let new : ℕ = statusWritten (g .bus .iists) b in
+    let kept = kept-status new (enddc-written (g .bus .iists) b off) o in
+    rw (o .ddc2b, kept .ddc2b) (related (withBus g (busOf new (g .bus .iiadr) 0 (g .bus .phase) (g .bus .shifter))) true s x x′ y y′ k kept)
+written-related g s x x′ y y′ k o bt b off md = related (withBt g (updated BT (g .bt) b)) true s x x′ y y′ k o
+written-related g s x x′ y y′ k o (stored a h ad cw) b off md = rw (h, ad, cw) (related (storedWritten g a b) true s x x′ y y′ k o)
+
+pub both-left : (s t : Bool) → (s && t) ≡ true → s ≡ true
+both-left true t h = refl
+both-left false t h = absurd (true≢false (sym h))
+
+pub both-right : (s t : Bool) → (s && t) ≡ true → t ≡ true
+both-right true t h = h
+both-right false t h = absurd (true≢false (sym h))
+
+-- a write, taken or refused
+write-by-reset : (g : Chip) (z w s x x′ : Bool) (y y′ : ℕ) {n : ℕ} {q q′ : Phase} {t t′ : Trace} → Apart q q′ t t′ → KeptBy g n → (a b : ℕ)
+    → (not ((z && w) && turnsOff a b) && not ((z && w) && asksDdc1 a b)) ≡ true
+    → Related (pick z (pick w (written (frame g z s x q y) a b) (frame g z s x q y)) (frame g z s x q y)) (pick z (pick w (written (frame g z s x′ q′ y′) a b) (frame g z s x′ q′ y′)) (frame g z s x′ q′ y′))
+    (observer z s x (pick ((z && w) && eqb a IIADR) b n) (pick ((z && w) && (eqb a CLRWDT && eqb b 0x55)) 0 (g .watchdog)) t)
+    (observer z s x′ (pick ((z && w) && eqb a IIADR) b n) (pick ((z && w) && (eqb a CLRWDT && eqb b 0x55)) 0 (g .watchdog)) t′)
+write-by-reset g false w s x x′ y y′ k o a b h = related g false s x x′ y y′ k o
+write-by-reset g true false s x x′ y y′ k o a b h = related g true s x x′ y y′ k o
+write-by-reset g true true s x x′ y y′ k o a b h =
+    written-related g s x x′ y y′ k o (known a) b (not-true _ (both-left (not (turnsOff a b)) (not (asksDdc1 a b)) h)) (not-true _ (both-right (not (turnsOff a b)) (not (asksDdc1 a b)) h))
+
+pub write-related : {c d : Chip} {o o′ : Observer} → Related c d o o′ → (a b : ℕ) → permitted o (Write a b) ≡ true
+    → Related (writeRegister c a b) (writeRegister d a b) (observe o (Write a b)) (observe o′ (Write a b))
+unfolding writeRegister observe permitted
+write-related (related g z s x x′ y y′ k o) a b h = write-by-reset g z (isWritable a) s x x′ y y′ k o a b h
+
+-- ---- clocks
+
+-- the watchdog clock, short of the 64th
+watchdog-related : {c d : Chip} {o o′ : Observer} → Related c d o o′ → permitted o (Clock 3) ≡ true → Related (clocked c 3) (clocked d 3) (observe o (Clock 3)) (observe o′ (Clock 3))
+unfolding clocked clockedAs watchdogClock watchdogFires watchdogNext cycleNext observe permitted
+watchdog-related (related g false s x x′ y y′ k o) h = related g false s x x′ y y′ k o
+watchdog-related (related g true s x x′ y y′ k o) h =
+    let few : ltb (g .watchdog) 63 ≡ true = not-false _ (not-true _ h) in
+    rw few (related (withWatchdog g (g .watchdog + 1)) true s x x′ y y′ k o)
+
+-- the clock of 8 µs, or a base clock
+other-clock-related : {c d : Chip} {o o′ : Observer} → Related c d o o′ → (period runs : Bool)
+    → Related (pick period (periodClock c) (pick runs (timerStep c) c)) (pick period (periodClock d) (pick runs (timerStep d) d)) o o′
+unfolding periodClock timerStep
+other-clock-related (related g z s x x′ y y′ k o) true runs = related (periodClock g) z s x x′ y y′ k o
+other-clock-related (related g z s x x′ y y′ k o) false true = related (timerStep g) z s x x′ y y′ k o
+other-clock-related (related g z s x x′ y y′ k o) false false = related g z s x x′ y y′ k o
+
+clock-by-number : {c d : Chip} {o o′ : Observer} → Related c d o o′ → (clock : ℕ) (watchdog : Bool) → eqb clock 3 ≡ watchdog → permitted o (Clock clock) ≡ true
+    → Related (clocked c clock) (clocked d clock) (observe o (Clock clock)) (observe o′ (Clock clock))
+unfolding clocked clockedAs timerClock observe
+clock-by-number r clock true e h = rw (eqb-true clock 3 e) (watchdog-related r (rw (eqb-true clock 3 e) at h))
+clock-by-number (related g false s x x′ y y′ k o) clock false e h = related g false s x x′ y y′ k o
+clock-by-number (related g true s x x′ y y′ k o) clock false e h =
+    rw e (other-clock-related (related g true s x x′ y y′ k o) (eqb clock 0) (timerRuns (registerAt g BTCON) clock))
+
+pub clock-related : {c d : Chip} {o o′ : Observer} → Related c d o o′ → (clock : ℕ) → permitted o (Clock clock) ≡ true
+    → Related (clocked c clock) (clocked d clock) (observe o (Clock clock)) (observe o′ (Clock clock))
+clock-related r clock h = clock-by-number r clock (eqb clock 3) refl h
+
+-- ---- polarity
+
+pub polarity-related : {c d : Chip} {o o′ : Observer} → Related c d o o′ → (vertical l : Bool) → Related (polarityFound c vertical l) (polarityFound d vertical l) o o′
+unfolding polarityFound
+polarity-related (related g false s x x′ y y′ k o) vertical l = related g false s x x′ y y′ k o
+polarity-related (related g true s x x′ y y′ k o) vertical l = related (polarityFound (withReset g true) vertical l) true s x x′ y y′ k o

@@ -1,0 +1,42 @@
+// Reads little-endian event words from standard input until its end, and prints each answer as
+// eight upper-case hex digits and a newline, from a fresh chip.
+use chip::Chip;
+use libc::STDIN_FILENO;
+use libc::STDOUT_FILENO;
+
+struct Turn {
+    chip: Chip,
+    more: bool,
+}
+
+// Reads a block, answers it, and tells whether to go on. `read_full` fills the buffer, whose length is a multiple of four,
+// unless the input ends or fails, so that only the last block ends within a word. The text has 9 bytes for each 4.
+fn answer_block(c: Chip) -> Turn {
+    let mut input = io::large_buffer();
+    let n = io::read_full(STDIN_FILENO, &mut input);
+    let mut out = [0u8; 147456];
+    let answered = text::answer_block(c, &input[..n], &mut out);
+    let count = answered.count;
+    let is_written = io::write_all(STDOUT_FILENO, &out[..count]);
+    let next = answered.chip;
+    Turn {
+        chip: next,
+        more: is_written & (n == 65536),
+    }
+}
+
+// A proved loop has to end, and nothing says that the input does, so the loop counts its turns down, from a number that no
+// run uses up.
+fn main() {
+    let mut c = chip::fresh();
+    let mut turns = u64::MAX;
+    while turns > 0 {
+        let t = answer_block(c);
+        if t.more {
+            c = t.chip;
+            turns -= 1;
+        } else {
+            return;
+        }
+    }
+}

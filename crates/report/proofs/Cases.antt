@@ -1,0 +1,52 @@
+-- What the case of a report says holds of the chip reported on.
+use mathlib.Core.Path.{_≡_, refl}
+use mathlib.Core.Bool.{Bool, true, false}
+use Rattle.bits.specs.Byte.{pick}
+use Rattle.sync.specs.Sync.{wellSync}
+use Rattle.rates.specs.declared.Rate.{Rate}
+use Rattle.rates.specs.declared.Rate.the-variants.{IllFormed, NothingLatched, Overflow, FieldRate, LineRate}
+use Rattle.rates.specs.Report.{FieldCase, LineCase}
+use Rattle.rates.proofs.Cases.{field-case, line-case}
+use Rattle.chip.specs.declared.Chip.{Chip}
+use Rattle.chip.specs.State.{hselOf}
+use Rattle.chip.specs.Form.{wellFormed}
+use Rattle.report.specs.declared.Scan.{Scan}
+use Rattle.report.specs.declared.Scan.the-variants.{Field, Line}
+use Rattle.report.specs.Report.{scanReport, rateReport, ScanCase, RateCase}
+
+-- a chip whose counters are out of range is ill formed
+out-of-range : (c : Chip) → wellSync (c .sync) ≡ false → wellFormed c ≡ false
+unfolding wellFormed
+out-of-range c e = simp e
+
+scan-case : (c : Chip) (scan : Scan) → ScanCase c scan (scanReport c scan)
+unfolding ScanCase scanReport
+scan-case c Field = field-case (c .sync)
+scan-case c Line = line-case (c .sync) (hselOf c)
+
+scan-ill-formed : (c : Chip) (scan : Scan) → ScanCase c scan IllFormed → wellFormed c ≡ false
+unfolding ScanCase FieldCase LineCase
+scan-ill-formed c Field e = out-of-range c e
+scan-ill-formed c Line e = out-of-range c e
+
+-- at a well formed chip the rate's own case says it all
+formed-case : (c : Chip) (scan : Scan) (r : Rate) → wellFormed c ≡ true → ScanCase c scan r → RateCase c scan r
+unfolding RateCase
+formed-case c scan IllFormed h e = scan-ill-formed c scan e
+formed-case c scan NothingLatched h e = (h, e)
+formed-case c scan Overflow h e = (h, e)
+formed-case c scan (FieldRate x) h e = (h, e)
+formed-case c scan (LineRate x) h e = (h, e)
+
+rate-by : (c : Chip) (scan : Scan) (formed : Bool) → wellFormed c ≡ formed → RateCase c scan (pick formed (scanReport c scan) IllFormed)
+unfolding RateCase
+rate-by c scan true h = formed-case c scan (scanReport c scan) h (scan-case c scan)
+rate-by c scan false h = h
+
+pub rate-case : (c : Chip) (scan : Scan) → RateCase c scan (rateReport c scan)
+unfolding rateReport
+rate-case c scan = rate-by c scan (wellFormed c) refl
+
+-- a rate that is the report, with what its case says
+pub rate-says : (c : Chip) (scan : Scan) (r : Rate) → r ≡ rateReport c scan → (r ≡ rateReport c scan) × RateCase c scan r
+rate-says c scan r e = (e, rw e (rate-case c scan))

@@ -1,0 +1,73 @@
+-- `run::run_all` meets its contract. The loop's invariant is `Done`.
+-- Assumes nothing.
+use mathlib.Core.Path.{_≡_, refl}
+use Prim.Native.Nat.{_≤_, _-_}
+use native.Mathlib.Omega.{arith}
+use borrow.Author.Needs.{needs}
+use lib.ListN.{length}
+use Rattle.run.proofs.Runs.{Done, more, all}
+use Rattle.run.proofs.run_all.Statement.{statement}
+use Rattle.run.proofs.run_all.Tie as tie
+
+abbrev Inv-loop : tie.InvT-loop
+Inv-loop words answers₀ s₀ i₀ answers s i = Done words answers₀ s₀ answers s i
+
+abbrev μ-loop : tie.MeasureT-loop
+μ-loop words answers₀ s₀ i₀ answers s i = length words - i
+
+loop-holds : tie.Need-loop-holds Inv-loop μ-loop
+loop-holds c = record { within = search needs; same = refl; state = refl; written = refl; rest = refl }
+
+mul-decode : tie.Need-mul-decode Inv-loop μ-loop
+mul-decode c = search needs
+
+shared-slice-read-decode : tie.Need-shared-slice-read-decode Inv-loop μ-loop
+shared-slice-read-decode c = search needs
+
+decode-requires : tie.Need-decode-requires Inv-loop μ-loop
+decode-requires c κs = search needs
+
+advance-requires : tie.Need-advance-requires Inv-loop μ-loop
+advance-requires c κs = search needs
+
+mul-answers : tie.Need-mul-answers Inv-loop μ-loop
+mul-answers c = search needs
+
+slice-write-answers : tie.Need-slice-write-answers Inv-loop μ-loop
+slice-write-answers c = omega arith
+
+add-i : tie.Need-add-i Inv-loop μ-loop
+add-i c = omega arith
+
+loop-less : tie.Need-loop-less Inv-loop μ-loop
+loop-less c = omega arith
+
+loop-again : tie.Need-loop-again Inv-loop μ-loop
+loop-again c =
+    let l = c .before .before .before .before .before in
+    more _ _ _ _ _ _ (l .loop .inv) (c .before .before .before .before .loop-test .taken) (l .before .before .before .pre) _ (c .before .before .decode .ensures .0) _ (c .before .advance .ensures)
+
+same-length : tie.Need-same-length Inv-loop μ-loop
+same-length c = c .before .loop .inv .same
+
+returns : tie.Need-returns Inv-loop μ-loop
+returns c = all _ _ _ _ _ _ (c .before .loop .inv) (c .loop-test .left) (c .before .before .before .before .pre)
+
+pub run-all-spec : {M : Type 1} → statement M
+run-all-spec =
+    tie.close
+    (tie.spec
+    Inv-loop
+    μ-loop
+    loop-holds
+    mul-decode
+    shared-slice-read-decode
+    decode-requires
+    advance-requires
+    mul-answers
+    slice-write-answers
+    add-i
+    loop-less
+    loop-again
+    same-length
+    returns)

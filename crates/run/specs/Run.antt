@@ -1,0 +1,52 @@
+-- A list of words given to the chip (document 01, "Numbers given back" and "How tight each statement is").
+use Prim.Native.Nat.{ℕ}
+use mathlib.Core.List.{List, [], _∷_, _++_}
+use lib.Dec.{ltb}
+use lib.ListN.{length, drop}
+use Rattle.bits.specs.Byte.{pick}
+use Rattle.events.specs.Word.{decode}
+use Rattle.chip.specs.declared.Chip.{Chip}
+use Rattle.chip.specs.Form.{wellFormed}
+use Rattle.step.specs.Step.{step, advance}
+use Rattle.run.specs.declared.Ran.{Ran}
+
+-- ---- a run: the step folded over the words
+
+-- the chip after a list of words, and the answers to them, by the step
+abbrev pub after : Chip → List ℕ → Chip
+after c [] = c
+after c (w ∷ ws) = after (step c w .chip) ws
+
+abbrev pub answers : Chip → List ℕ → List ℕ
+answers c [] = []
+answers c (w ∷ ws) = step c w .answer ∷ answers (step c w .chip) ws
+
+-- the same without a test of the state at each word
+abbrev pub advanced : Chip → List ℕ → Chip
+advanced c [] = c
+advanced c (w ∷ ws) = advanced (advance c (decode w) .chip) ws
+
+abbrev pub advancedAnswers : Chip → List ℕ → List ℕ
+advancedAnswers c [] = []
+advancedAnswers c (w ∷ ws) = advance c (decode w) .answer ∷ advancedAnswers (advance c (decode w) .chip) ws
+
+-- ---- the list call
+
+abbrev pub ranTo : Chip → ℕ → Ran
+ranTo c number = record { chip = c; number = number }
+
+-- what it gives back: 8 at an ill formed state, then 7 where there are fewer answer places than words, else 0 and the chip
+-- after the words
+unfoldable pub ran : Chip → List ℕ → List ℕ → Ran
+ran c words places =
+    pick (wellFormed c)
+    (pick (ltb (length places) (length words)) (ranTo c 7) (ranTo (advanced c words) 0))
+    (ranTo c 8)
+
+-- what it leaves in the answer places: an answer for each word and, past them, what was there; nothing is written where it is
+-- refused
+unfoldable pub ranAnswers : Chip → List ℕ → List ℕ → List ℕ
+ranAnswers c words places =
+    pick (wellFormed c)
+    (pick (ltb (length places) (length words)) places (advancedAnswers c words ++ drop (length words) places))
+    places

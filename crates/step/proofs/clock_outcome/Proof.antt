@@ -1,0 +1,15 @@
+-- `step::clock_outcome` meets its contract.
+-- Assumes nothing.
+use Rattle.step.specs.Step.{outcome, next, numberGiven, byteGiven, watchdogReset, wasReset}
+use borrow.Author.Needs.{needs}
+use Rattle.step.proofs.clock_outcome.Statement.{statement}
+use Rattle.step.proofs.clock_outcome.Tie as tie
+
+pub clock-outcome-spec : {M : Type 1} → statement M
+unfolding byteGiven next numberGiven outcome wasReset watchdogReset
+clock-outcome-spec =
+    tie.close
+    (tie.spec
+    (λ c κs. search needs)
+    (λ c κs. search needs)
+    (λ c. simp (c .clocked .ensures, c .before .before .watchdog-fires .ensures)))

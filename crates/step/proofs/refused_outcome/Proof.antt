@@ -1,0 +1,13 @@
+-- `step::refused_outcome` meets its contract.
+-- Assumes nothing.
+use mathlib.Core.Path.{refl}
+use Rattle.step.specs.Step.{outcome, next, numberGiven, byteGiven, watchdogReset, wasReset}
+use Rattle.step.proofs.refused_outcome.Statement.{statement}
+use Rattle.step.proofs.refused_outcome.Tie as tie
+
+pub refused-outcome-spec : {M : Type 1} → statement M
+unfolding byteGiven next numberGiven outcome wasReset watchdogReset
+refused-outcome-spec =
+    tie.close
+    (tie.spec
+    (λ c. refl))

@@ -1,0 +1,4 @@
+pub mod Place
+pub mod Words
+pub mod Lines
+pub mod Stream

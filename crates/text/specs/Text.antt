@@ -1,0 +1,81 @@
+-- What `replay` prints for a stream of bytes (document 01, "Replay program and cases").
+use Prim.Native.Nat.{ℕ, _+_, _*_, _/_, _%_}
+use mathlib.Core.Bool.{false}
+use mathlib.Core.List.{List, [], _∷_, _++_}
+use lib.Dec.{eqb, ltb}
+use lib.ListN.{length, drop}
+use Rattle.bits.specs.Byte.{pick}
+use Rattle.events.specs.Word.{answerWord}
+use Rattle.chip.specs.declared.Chip.{Chip}
+use Rattle.chip.specs.State.{requests}
+use Rattle.run.specs.Run.{advanced, advancedAnswers}
+use Rattle.text.specs.declared.Answered.{Answered}
+
+-- ---- from bytes to words
+
+-- four bytes make a word, the lowest first
+abbrev pub wordOf : ℕ → ℕ → ℕ → ℕ → ℕ
+wordOf a b c d = a + b * 256 + c * 65536 + d * 16777216
+
+-- the whole words of a stream; one to three bytes at its end make none
+unfoldable pub wordsOf : List ℕ → List ℕ
+wordsOf [] = []
+wordsOf (a ∷ []) = []
+wordsOf (a ∷ b ∷ []) = []
+wordsOf (a ∷ b ∷ c ∷ []) = []
+wordsOf (a ∷ b ∷ c ∷ d ∷ rest) = wordOf a b c d ∷ wordsOf rest
+
+-- ---- from answers to text
+
+-- the ASCII code of a digit below 16: `0` to `9`, then `A` to `F`
+abbrev pub hexDigit : ℕ → ℕ
+hexDigit d = pick (ltb d 10) (48 + d) (55 + d)
+
+-- eight digits, the highest first, and a newline
+unfoldable pub hexLine : ℕ → List ℕ
+hexLine a =
+    hexDigit (a / 268435456)
+    ∷ hexDigit (a / 16777216 % 16)
+    ∷ hexDigit (a / 1048576 % 16)
+    ∷ hexDigit (a / 65536 % 16)
+    ∷ hexDigit (a / 4096 % 16)
+    ∷ hexDigit (a / 256 % 16)
+    ∷ hexDigit (a / 16 % 16)
+    ∷ hexDigit (a % 16)
+    ∷ 10
+    ∷ []
+
+-- a line for each answer
+unfoldable pub hexLines : List ℕ → List ℕ
+hexLines [] = []
+hexLines (a ∷ rest) = hexLine a ++ hexLines rest
+
+-- ---- the stream
+
+-- the answer to bytes left over: number 1, with the request lines of the state
+abbrev pub leftOverAnswer : Chip → ℕ
+leftOverAnswer c = answerWord 1 false (requests c) 0
+
+-- its line, where the stream does not end with a whole word
+unfoldable pub leftOver : Chip → List ℕ → List ℕ
+leftOver c bytes = pick (eqb (length bytes % 4) 0) [] (hexLine (leftOverAnswer c))
+
+-- the text for a stream from a chip: a line for each whole word's answer, and one for bytes left over
+unfoldable pub replayText : Chip → List ℕ → List ℕ
+replayText c bytes = hexLines (advancedAnswers c (wordsOf bytes)) ++ leftOver (advanced c (wordsOf bytes)) bytes
+
+-- ---- a block of the stream, and the places for its text
+
+-- what is given back: the chip after the whole words and the length of the text; the chip as it was and 0 where the text does not fit
+unfoldable pub answered : Chip → List ℕ → List ℕ → Answered
+answered c bytes places =
+    pick (ltb (length places) (length (replayText c bytes)))
+    (record { chip = c; count = 0 })
+    (record { chip = advanced c (wordsOf bytes); count = length (replayText c bytes) })
+
+-- what is left in the places: the text and, past it, what was there; nothing is written where the text does not fit
+unfoldable pub answeredText : Chip → List ℕ → List ℕ → List ℕ
+answeredText c bytes places =
+    pick (ltb (length places) (length (replayText c bytes)))
+    places
+    (replayText c bytes ++ drop (length (replayText c bytes)) places)

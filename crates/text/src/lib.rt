@@ -1,0 +1,117 @@
+// From the bytes of event words to the text of the answers (document 01, "Replay program and cases").
+ghost use mathlib.Core.Path.{_≡_};
+ghost use Prim.Native.Nat.{_+_, _*_, _/_, _≤_, _<_};
+ghost use mathlib.Core.List.{_++_};
+ghost use lib.ListN.{length, take, drop, getD};
+ghost use Rattle.run.specs.Run.{advanced, advancedAnswers};
+ghost use Rattle.text.specs.Text.{hexDigit, hexLine, hexLines, wordsOf, leftOverAnswer, answered, answeredText};
+use chip::Chip;
+
+// What a block gives: the chip after its words, and the bytes of text written.
+pub struct Answered {
+    pub chip: Chip,
+    pub count: usize,
+}
+
+// An upper-case hex digit.
+fn hex_digit(n: u32) -> u8
+    requires { ⌜ n < 16 ⌝ }
+    ensures { λ r. ⌜ r ≡ hexDigit n ⌝ }
+{
+    if n < 10 { 48 + n as u8 } else { 55 + n as u8 }
+}
+
+// Eight hex digits and a newline.
+pub fn hex_line(a: u32) -> [u8; 9]
+    ensures { λ r. ⌜ r ≡ hexLine a ⌝ }
+{
+    [
+        hex_digit(a / 268435456),
+        hex_digit(a / 16777216 % 16),
+        hex_digit(a / 1048576 % 16),
+        hex_digit(a / 65536 % 16),
+        hex_digit(a / 4096 % 16),
+        hex_digit(a / 256 % 16),
+        hex_digit(a / 16 % 16),
+        hex_digit(a % 16),
+        10,
+    ]
+}
+
+// The line of an answer, at an index of the text.
+fn put_line(text: &mut [u8], at: usize, a: u32)
+    requires { ⌜ at + 9 ≤ length (now text) ⌝ }
+    ensures { λ _. ⌜ now (text .exit) ≡ take at (now (text .entry)) ++ (hexLine a ++ drop (at + 9) (now (text .entry))) ⌝ }
+{
+    let line = hex_line(a);
+    bytes::copy(&line, &mut text[at..]);
+}
+
+fn widened(x: u8) -> u32
+    ensures { λ r. ⌜ (r ≡ x) × (r < 256) ⌝ }
+{
+    x as u32
+}
+
+// The word with this index.
+fn word_at(bytes: &[u8], i: usize) -> u32
+    requires { ⌜ i < length (now bytes) / 4 ⌝ }
+    ensures { λ r. ⌜ r ≡ getD (wordsOf (now (bytes .entry))) i 0 ⌝ }
+{
+    let at = 4 * i;
+    let a = widened(bytes[at]);
+    let b = widened(bytes[at + 1]);
+    let c = widened(bytes[at + 2]);
+    let d = widened(bytes[at + 3]);
+    a + b * 256 + c * 65536 + d * 16777216
+}
+
+// Every whole word to the chip, and the lines of the answers to the start of the text.
+fn answer_words(start: Chip, bytes: &[u8], text: &mut [u8]) -> Chip
+    requires { ⌜ 9 * (length (now bytes) / 4) ≤ length (now text) ⌝ }
+    ensures { λ r. ⌜ (r ≡ advanced start (wordsOf (now (bytes .entry)))) × (now (text .exit) ≡ hexLines (advancedAnswers start (wordsOf (now (bytes .entry)))) ++ drop (9 * (length (now (bytes .entry)) / 4)) (now (text .entry))) ⌝ }
+{
+    let mut c = start;
+    let mut i = 0;
+    while i < bytes.len() / 4 {
+        let r = step::advance(c, events::decode(word_at(bytes, i)));
+        put_line(text, 9 * i, r.answer);
+        c = r.chip;
+        i += 1;
+    }
+    c
+}
+
+// The answer to bytes that make no whole word.
+fn left_over_answer(c: Chip) -> u32
+    ensures { λ r. ⌜ r ≡ leftOverAnswer c ⌝ }
+{
+    events::answer(1, false, chip::requests(c), 0)
+}
+
+// A block of the stream: the text of its answers to the start of `text`, or nothing where that is too short. Only the last
+// block of a stream may end within a word.
+pub fn answer_block(start: Chip, bytes: &[u8], text: &mut [u8]) -> Answered
+    ensures { λ r. ⌜ (r ≡ answered start (now (bytes .entry)) (now (text .entry))) × (now (text .exit) ≡ answeredText start (now (bytes .entry)) (now (text .entry))) ⌝ }
+{
+    let whole = bytes.len() / 4;
+    let rest = bytes.len() % 4;
+    if text.len() / 9 < whole + (rest + 3) / 4 {
+        return Answered {
+            chip: start,
+            count: 0,
+        };
+    }
+    let c = answer_words(start, bytes, text);
+    if rest == 0 {
+        return Answered {
+            chip: c,
+            count: 9 * whole,
+        };
+    }
+    put_line(text, 9 * whole, left_over_answer(c));
+    Answered {
+        chip: c,
+        count: 9 * whole + 9,
+    }
+}

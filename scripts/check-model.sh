@@ -1,0 +1,18 @@
+#!/usr/bin/env bash
+# Compares replay, as `rt ci` built it, with the independent model: generated words of several seeds, each with bytes left over.
+# A difference prints seed, place, word and both answers.
+set -euo pipefail
+cd "$(dirname "$0")/.."
+work=$(mktemp -d)
+trap 'rm -rf "$work"' EXIT
+rustc -O --edition 2021 -o "$work/model" model/main.rs
+rustc -O --edition 2021 --test -o "$work/tests" model/main.rs
+"$work/tests" --quiet > "$work/tests.log" 2>&1 || { cat "$work/tests.log"; exit 1; }
+seed=${SEED:-1}
+count=${COUNT:-500000}
+for tail in 0 1 2 3; do
+    "$work/model" words "$seed" "$count" "$tail" > "$work/words"
+    target/bin/replay < "$work/words" > "$work/answers"
+    "$work/model" compare "$seed" "$count" "$work/answers" "$tail"
+    seed=$((seed + 1))
+done
