@@ -20,6 +20,16 @@ pub and-right : (a b : Bool) → T (a && b) → T b
 and-right true b t = t
 and-right false b t = absurd t
 
+-- both sides of an and that is true
+pub both : (a b : Bool) → (a && b) ≡ true → (a ≡ true) × (b ≡ true)
+both true b h = (refl, h)
+both false b h = (h, cc)
+
+-- both sides of an or that is false
+pub neither : (a b : Bool) → (a || b) ≡ false → (a ≡ false) × (b ≡ false)
+neither true b h = (h, cc)
+neither false b h = (refl, h)
+
 -- where one side of an or is false, the other holds
 pub or-right : (a b : Bool) → a ≡ false → T (a || b) → T b
 or-right a b e t = rw e at t

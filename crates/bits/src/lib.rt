@@ -1,7 +1,7 @@
 // Bytes, their bits, and a write under a mask.
 ghost use mathlib.Core.Path.{_≡_};
 ghost use Prim.Native.Nat.{_%_};
-ghost use Rattle.bits.specs.Byte.{bit as bitOf, merge as mergeOf, withBit, num as numOf};
+ghost use Rattle.bits.specs.Byte.{bit as bitOf, merge as mergeOf, withBit, num as numOf, pick};
 
 // The bits of `mask` from `new`, the others from `old`.
 // Wrong answers: old and new exchanged; a written 0 that leaves the old 1.
@@ -34,4 +34,12 @@ pub fn num(v: bool) -> u8
     ensures { λ r. ⌜ r ≡ numOf v ⌝ }
 {
     if v { 1 } else { 0 }
+}
+
+// A weight where its bit is 1, else 0.
+// Wrong answers: 1, the bit without its weight; the weight where the bit is 0.
+pub fn weight_if(v: bool, w: u8) -> u8
+    ensures { λ r. ⌜ r ≡ pick v w 0 ⌝ }
+{
+    if v { w } else { 0 }
 }

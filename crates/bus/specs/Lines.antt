@@ -1,6 +1,6 @@
 -- The two lines of the bus, and what the chip does to them (document 01, "The bus").
-use Prim.Native.Nat.{ℕ, _-_, _/_, _%_}
-use mathlib.Core.Bool.{Bool, true, false, not, _||_}
+use Prim.Native.Nat.{ℕ, _-_, _%_}
+use mathlib.Core.Bool.{Bool, true, false, not}
 use lib.Dec.{eqb, ltb}
 use Rattle.bits.specs.Byte.{pick, bit}
 use Rattle.bus.specs.declared.Mode.{Mode}

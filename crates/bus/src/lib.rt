@@ -47,6 +47,7 @@ pub struct Shifter {
 }
 
 // The edge from one level to the next.
+// Wrong answers: rise and fall exchanged; a rise where the level was 1 already.
 pub fn edge_between(old: bool, new: bool) -> Edge
     ensures { λ r. ⌜ r ≡ edge old new ⌝ }
 {
@@ -58,6 +59,7 @@ pub fn edge_between(old: bool, new: bool) -> Edge
 }
 
 // The mode by ENDDC (II STS bit 3) and MD1/2 (MDCON bit 0).
+// Wrong answers: DDC on where ENDDC is 1; DDC2B where MD1/2 is 1.
 pub fn mode_of(status: u8, mdcon: u8) -> Mode
     ensures { λ r. ⌜ r ≡ mode status mdcon ⌝ }
 {
@@ -82,6 +84,7 @@ fn mode_number(mode: Mode) -> u8
 }
 
 // The two modes differ.
+// Wrong answers: false from DDC1 to DDC2B; true where the same mode is set again.
 pub fn changes_mode(old: Mode, new: Mode) -> bool
     ensures { λ r. ⌜ r ≡ changesMode old new ⌝ }
 {
@@ -89,6 +92,7 @@ pub fn changes_mode(old: Mode, new: Mode) -> bool
 }
 
 // The level of a line: wired-AND of the outside and the chip.
+// Wrong answers: 1 where the chip pulls and the outside is 1; 1 wherever the chip does not pull.
 pub fn line_level(pulled: bool, level: bool) -> bool
     ensures { λ r. ⌜ r ≡ line pulled level ⌝ }
 {
@@ -96,6 +100,7 @@ pub fn line_level(pulled: bool, level: bool) -> bool
 }
 
 // A transmit pulls SDA at this count.
+// Wrong answers: the lowest bit first; pulled where the bit is 1.
 pub fn pulls_at_bit(count: u8, byte: u8) -> bool
     ensures { λ r. ⌜ r ≡ pullsAtBit count byte ⌝ }
 {
@@ -107,6 +112,7 @@ pub fn pulls_at_bit(count: u8, byte: u8) -> bool
 }
 
 // The phase pulls SDA.
+// Wrong answers: pulled while the bits of an address are gathered; released where a transmit puts a 0.
 pub fn pulls_sda(phase: Phase) -> bool
     ensures { λ r. ⌜ r ≡ pullsSda phase ⌝ }
 {
@@ -129,6 +135,7 @@ pub fn pulls_sda(phase: Phase) -> bool
 }
 
 // The phase pulls SCL.
+// Wrong answers: false while held; true for the acknowledge.
 pub fn pulls_scl(phase: Phase) -> bool
     ensures { λ r. ⌜ r ≡ pullsScl phase ⌝ }
 {
@@ -151,6 +158,7 @@ pub fn pulls_scl(phase: Phase) -> bool
 }
 
 // SDA is pulled, in a mode with its phase and shift register.
+// Wrong answers: true where the top bit of DDC1 is 1; the phase looked at with DDC off.
 pub fn sda_pulled(mode: Mode, phase: Phase, s: Shifter) -> bool
     ensures { λ r. ⌜ r ≡ sdaPulled mode phase s ⌝ }
 {
@@ -162,6 +170,7 @@ pub fn sda_pulled(mode: Mode, phase: Phase, s: Shifter) -> bool
 }
 
 // SCL is pulled, in a mode with its phase.
+// Wrong answers: false while held in DDC2B; the phase looked at in DDC1.
 pub fn scl_pulled(mode: Mode, phase: Phase) -> bool
     ensures { λ r. ⌜ r ≡ sclPulled mode phase ⌝ }
 {
@@ -173,6 +182,7 @@ pub fn scl_pulled(mode: Mode, phase: Phase) -> bool
 }
 
 // A rise of VSYNCI loads the shift register.
+// Wrong answers: true on the first rise, nine edges being left; true at one edge left.
 pub fn loads_at_rise(s: Shifter) -> bool
     ensures { λ r. ⌜ r ≡ loadsAtRise s ⌝ }
 {
@@ -180,6 +190,7 @@ pub fn loads_at_rise(s: Shifter) -> bool
 }
 
 // The shift register after a rise of VSYNCI.
+// Wrong answers: seven edges left by a load, so without the null bit; a zero shifted in.
 pub fn shifter_at_rise(byte: u8, s: Shifter) -> Shifter
     ensures { λ r. ⌜ r ≡ shifterAtRise byte s ⌝ }
 {
@@ -198,6 +209,7 @@ pub fn shifter_at_rise(byte: u8, s: Shifter) -> Shifter
 }
 
 // An address is the chip's own by A0H or by II ADR, the direction bit left aside.
+// Wrong answers: A2H taken for A0H; the direction bit compared.
 pub fn matches(own: u8, byte: u8) -> bool
     ensures { λ r. ⌜ r ≡ matchesOf own byte ⌝ }
 {
@@ -205,6 +217,7 @@ pub fn matches(own: u8, byte: u8) -> bool
 }
 
 // The bits gathered with SDA entering lowest.
+// Wrong answers: SDA gathered inverted; SDA entering highest.
 pub fn gathered(bits: u8, sda: bool) -> u8
     ensures { λ r. ⌜ r ≡ gatheredBits bits sda ⌝ }
 {
@@ -282,6 +295,7 @@ fn transmit_at_rise(own: u8, sda: bool, count: u8, byte: u8) -> Phase
 }
 
 // The phase after a rise of the SCL line, at the SDA line's level.
+// Wrong answers: an address decided at the seventh rise; a foreign address kept in the address phase.
 pub fn phase_at_rise(own: u8, sda: bool, phase: Phase) -> Phase
     ensures { λ r. ⌜ r ≡ phaseAtRise own sda phase ⌝ }
 {
@@ -303,7 +317,8 @@ pub fn phase_at_rise(own: u8, sda: bool, phase: Phase) -> Phase
     }
 }
 
-// II DAT after it.
+// II DAT after a rise of the SCL line: the byte whose eighth bit this is, else as it was.
+// Wrong answers: the bits so far at each rise; II DAT kept for a foreign address.
 pub fn data_at_rise(sda: bool, phase: Phase, byte: u8) -> u8
     ensures { λ r. ⌜ r ≡ dataAtRise sda phase byte ⌝ }
 {
@@ -338,6 +353,7 @@ pub fn data_at_rise(sda: bool, phase: Phase, byte: u8) -> u8
 }
 
 // A rise of the SCL line completes an address that matches.
+// Wrong answers: true for a foreign address, since II DAT has changed; true at the seventh rise.
 pub fn matches_at_rise(own: u8, sda: bool, phase: Phase) -> bool
     ensures { λ r. ⌜ r ≡ matchesAtRise own sda phase ⌝ }
 {
@@ -366,6 +382,7 @@ pub fn matches_at_rise(own: u8, sda: bool, phase: Phase) -> bool
 }
 
 // II STS after a rise of the SCL line: RXAK is taken.
+// Wrong answers: SDA taken at the rise of each bit put out; RXAK taken inverted.
 pub fn status_at_rise(sda: bool, phase: Phase, status: u8) -> u8
     ensures { λ r. ⌜ r ≡ statusAtRise sda phase status ⌝ }
 {
@@ -394,6 +411,7 @@ pub fn status_at_rise(sda: bool, phase: Phase, status: u8) -> u8
 }
 
 // A fall of the SCL line takes hold of SCL.
+// Wrong answers: true at the fall that pulls SDA; true while a transmit awaits its acknowledge.
 pub fn holds_at_fall(phase: Phase) -> bool
     ensures { λ r. ⌜ r ≡ holdsAtFall phase ⌝ }
 {
@@ -415,7 +433,8 @@ pub fn holds_at_fall(phase: Phase) -> bool
     }
 }
 
-// The acknowledge at the eighth fall.
+// The fall after eight bits pulls SDA for the acknowledge.
+// Wrong answers: true after seven bits; true at each fall.
 pub fn acknowledges(count: u8) -> bool
     ensures { λ r. ⌜ r ≡ acknowledgesOf count ⌝ }
 {
@@ -470,6 +489,7 @@ fn transmit_at_fall(count: u8, byte: u8) -> Phase
 }
 
 // The phase after a fall of the SCL line.
+// Wrong answers: SDA pulled at the seventh fall; a transmit held while its acknowledge is awaited.
 pub fn phase_at_fall(phase: Phase) -> Phase
     ensures { λ r. ⌜ r ≡ phaseAtFall phase ⌝ }
 {
@@ -492,6 +512,7 @@ pub fn phase_at_fall(phase: Phase) -> Phase
 }
 
 // The phase once SCL is let go.
+// Wrong answers: a transmit where TRX is 0; a transmit that begins with bit 6.
 pub fn phase_let_go(trx: bool, byte: u8) -> Phase
     ensures { λ r. ⌜ r ≡ phaseLetGo trx byte ⌝ }
 {

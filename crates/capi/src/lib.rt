@@ -5,6 +5,7 @@ ghost use Rattle.run.specs.Run.{ran, ranAnswers};
 
 // Gives the words to a fresh chip, writes their answers, and returns 0; or returns 7 and writes nothing where there are fewer
 // answer places than words.
+// Wrong answers: answers written where 7 is returned; the chip of the call before gone on with.
 #[no_mangle]
 pub extern "C" fn nt6861_run(words: &[u32], answers: &mut [u32]) -> u8
     ensures { λ r. ⌜ (r ≡ ran fresh (now (words .entry)) (now (answers .entry)) .number) × (now (answers .exit) ≡ ranAnswers fresh (now (words .entry)) (now (answers .entry))) ⌝ }

@@ -12,30 +12,10 @@ use Rattle.events.proofs.Refusal.{decode-in-range}
 use Rattle.chip.specs.declared.Chip.{Chip}
 use Rattle.step.specs.Step.{next}
 use Rattle.causes.specs.Causes.{Source, flag, raises, clears}
-use Rattle.causes.specs.Causes.Source.{SclFall, DataByte, AddressMatch, TimerOverflow, ExternalRise, VsyncRise}
-use Rattle.causes.proofs.Flags.{after}
-use Rattle.causes.proofs.Writes.{at-write, never as never-write}
-use Rattle.causes.proofs.Pins.{at-pin, never-reset}
-use Rattle.causes.proofs.Clocks.{at-clock, at-polarity, never-clock}
-
--- a word without an event, or a read
-never-read : (s : Source) (c : Chip) (a : ℕ) → raises s c (Read a) ≡ false
-unfolding raises
-never-read SclFall c a = refl
-never-read DataByte c a = refl
-never-read AddressMatch c a = refl
-never-read TimerOverflow c a = refl
-never-read ExternalRise c a = refl
-never-read VsyncRise c a = refl
-
-never-refused : (s : Source) (c : Chip) (n : ℕ) → raises s c (Refused n) ≡ false
-unfolding raises
-never-refused SclFall c n = refl
-never-refused DataByte c n = refl
-never-refused AddressMatch c n = refl
-never-refused TimerOverflow c n = refl
-never-refused ExternalRise c n = refl
-never-refused VsyncRise c n = refl
+use Rattle.causes.proofs.Flags.{after, never-read, never-write, never-reset, never-clock, never-refused}
+use Rattle.causes.proofs.Writes.{at-write}
+use Rattle.causes.proofs.Pins.{at-pin}
+use Rattle.causes.proofs.Clocks.{at-clock, at-polarity}
 
 at-event : (s : Source) (c : Chip) (e : Decoded) → InRange e → flag s (next c e) ≡ after s c e
 unfolding next clears

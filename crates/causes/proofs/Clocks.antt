@@ -21,7 +21,7 @@ use Rattle.step.specs.Step.{next}
 use Rattle.causes.specs.Causes.{Source, place, flag, raises, clears}
 use Rattle.causes.specs.Causes.Source.{SclFall, DataByte, AddressMatch, TimerOverflow, ExternalRise, VsyncRise}
 use Rattle.causes.proofs.Bools.{always, at-six}
-use Rattle.causes.proofs.Flags.{after, set-bit, zero-bit}
+use Rattle.causes.proofs.Flags.{after, never-clock, never-polarity, set-bit, zero-bit}
 
 -- not below the last value is above the one before it
 last-by : (n last : ℕ) (below : Bool) → ltb n (suc last) ≡ below → not below ≡ ltb last n
@@ -61,34 +61,20 @@ module _ (c : Chip) (k : ℕ) where
 
   timer-bit : (s : Source) → bit (place s) (pick (c .reset && (timerRuns (registerAt c BTCON) k && ltb 0xfe (c .bt))) 0x04 0) ≡ raises s c (Clock k)
   unfolding bit raises timerRuns
-  timer-bit SclFall = beq-eq _ _ (at-timer-levels (λ r e t two one o. Bool·beq (bit 5 (pick (r && (runsBy e t two one && o)) 0x04 0)) false) tt)
-  timer-bit DataByte = beq-eq _ _ (at-timer-levels (λ r e t two one o. Bool·beq (bit 4 (pick (r && (runsBy e t two one && o)) 0x04 0)) false) tt)
-  timer-bit AddressMatch = beq-eq _ _ (at-timer-levels (λ r e t two one o. Bool·beq (bit 3 (pick (r && (runsBy e t two one && o)) 0x04 0)) false) tt)
+  timer-bit SclFall = beq-eq _ _ (at-timer-levels (λ r e t two one o. Bool·beq (bit (place SclFall) (pick (r && (runsBy e t two one && o)) 0x04 0)) false) tt)
+  timer-bit DataByte = beq-eq _ _ (at-timer-levels (λ r e t two one o. Bool·beq (bit (place DataByte) (pick (r && (runsBy e t two one && o)) 0x04 0)) false) tt)
+  timer-bit AddressMatch = beq-eq _ _ (at-timer-levels (λ r e t two one o. Bool·beq (bit (place AddressMatch) (pick (r && (runsBy e t two one && o)) 0x04 0)) false) tt)
   timer-bit TimerOverflow =
       rw (selected (bit 1 (registerAt c BTCON)) k)
-      (beq-eq _ _ (at-timer-levels (λ r e t two one o. Bool·beq (bit 2 (pick (r && (runsBy e t two one && o)) 0x04 0)) (pick t two one && (r && (not e && o)))) tt))
-  timer-bit ExternalRise = beq-eq _ _ (at-timer-levels (λ r e t two one o. Bool·beq (bit 1 (pick (r && (runsBy e t two one && o)) 0x04 0)) false) tt)
-  timer-bit VsyncRise = beq-eq _ _ (at-timer-levels (λ r e t two one o. Bool·beq (bit 0 (pick (r && (runsBy e t two one && o)) 0x04 0)) false) tt)
+      (beq-eq _ _ (at-timer-levels (λ r e t two one o. Bool·beq (bit (place TimerOverflow) (pick (r && (runsBy e t two one && o)) 0x04 0)) (pick t two one && (r && (not e && o)))) tt))
+  timer-bit ExternalRise = beq-eq _ _ (at-timer-levels (λ r e t two one o. Bool·beq (bit (place ExternalRise) (pick (r && (runsBy e t two one && o)) 0x04 0)) false) tt)
+  timer-bit VsyncRise = beq-eq _ _ (at-timer-levels (λ r e t two one o. Bool·beq (bit (place VsyncRise) (pick (r && (runsBy e t two one && o)) 0x04 0)) false) tt)
 
   at-timer : (s : Source) → flag s (pick (c .reset) (timerClock c k) c) ≡ (raises s c (Clock k) || flag s c)
   unfolding timerClock
   at-timer s = rw (timer-irqx (c .reset) (timerRuns (registerAt c BTCON) k) c) (set-bit s (c .irqx) _ _ (timer-bit s))
 
 -- ---- the other clocks
-
--- a clock that is no base clock
-pub never-clock : (s : Source) (c : Chip) (k : ℕ) → eqb k 2 ≡ false → eqb k 1 ≡ false → raises s c (Clock k) ≡ false
-unfolding raises
-never-clock SclFall c k two one = refl
-never-clock DataByte c k two one = refl
-never-clock AddressMatch c k two one = refl
-never-clock TimerOverflow c k two one = rw (selected (bit 1 (registerAt c BTCON)) k, two, one) (neither (bit 1 (registerAt c BTCON)) _)
-  where
-    neither : (b x : Bool) → (pick b false false && x) ≡ false
-    neither true x = refl
-    neither false x = refl
-never-clock ExternalRise c k two one = refl
-never-clock VsyncRise c k two one = refl
 
 period-by : (reset : Bool) (c : Chip) → (pick reset (periodClock c) c) .irqx ≡ c .irqx
 unfolding periodClock
@@ -113,15 +99,6 @@ at-clock s c (suc (suc (suc zero))) h =
     watchdog-by (c .reset) (watchdogFires (c .watchdog)) s c _
     ∙ rw (never-clock s c 3 refl refl, watchdog-last (c .watchdog))
 at-clock s c (suc (suc (suc (suc k)))) h = absurd (omega arith)
-
-never-polarity : (s : Source) (c : Chip) (vertical level : Bool) → raises s c (Polarity vertical level) ≡ false
-unfolding raises
-never-polarity SclFall c vertical level = refl
-never-polarity DataByte c vertical level = refl
-never-polarity AddressMatch c vertical level = refl
-never-polarity TimerOverflow c vertical level = refl
-never-polarity ExternalRise c vertical level = refl
-never-polarity VsyncRise c vertical level = refl
 
 polarity-by : (reset : Bool) (c : Chip) (n : ℕ) → (pick reset (withPolarity c n) c) .irqx ≡ c .irqx
 polarity-by true c n = refl

@@ -31,7 +31,7 @@ use Rattle.step.specs.Step.{next}
 use Rattle.causes.specs.Causes.{Source, place, flag, raises, clears, completesMatch, inNinthClock}
 use Rattle.causes.specs.Causes.Source.{SclFall, DataByte, AddressMatch, TimerOverflow, ExternalRise, VsyncRise}
 use Rattle.causes.proofs.Bools.{always, at-three, at-six, at-eight}
-use Rattle.causes.proofs.Flags.{after, set-bit, zero-bit}
+use Rattle.causes.proofs.Flags.{after, never, never-reset, set-bit, zero-bit}
 
 -- ---- P16
 
@@ -42,12 +42,12 @@ module _ (c : Chip) (level : Bool) where
 
   p16-bit : (s : Source) → bit (place s) (pick (rises (c .reset) (bit 6 (c .pins .port1)) level) 0x02 0) ≡ raises s c (Pin 14 level)
   unfolding bit raises
-  p16-bit SclFall = beq-eq _ _ (at-p16-levels (λ r o l. Bool·beq (bit 5 (pick (rises r o l) 0x02 0)) false) tt)
-  p16-bit DataByte = beq-eq _ _ (at-p16-levels (λ r o l. Bool·beq (bit 4 (pick (rises r o l) 0x02 0)) false) tt)
-  p16-bit AddressMatch = beq-eq _ _ (at-p16-levels (λ r o l. Bool·beq (bit 3 (pick (rises r o l) 0x02 0)) false) tt)
-  p16-bit TimerOverflow = beq-eq _ _ (at-p16-levels (λ r o l. Bool·beq (bit 2 (pick (rises r o l) 0x02 0)) false) tt)
-  p16-bit ExternalRise = beq-eq _ _ (at-p16-levels (λ r o l. Bool·beq (bit 1 (pick (rises r o l) 0x02 0)) (l && (r && not o))) tt)
-  p16-bit VsyncRise = beq-eq _ _ (at-p16-levels (λ r o l. Bool·beq (bit 0 (pick (rises r o l) 0x02 0)) false) tt)
+  p16-bit SclFall = beq-eq _ _ (at-p16-levels (λ r o l. Bool·beq (bit (place SclFall) (pick (rises r o l) 0x02 0)) false) tt)
+  p16-bit DataByte = beq-eq _ _ (at-p16-levels (λ r o l. Bool·beq (bit (place DataByte) (pick (rises r o l) 0x02 0)) false) tt)
+  p16-bit AddressMatch = beq-eq _ _ (at-p16-levels (λ r o l. Bool·beq (bit (place AddressMatch) (pick (rises r o l) 0x02 0)) false) tt)
+  p16-bit TimerOverflow = beq-eq _ _ (at-p16-levels (λ r o l. Bool·beq (bit (place TimerOverflow) (pick (rises r o l) 0x02 0)) false) tt)
+  p16-bit ExternalRise = beq-eq _ _ (at-p16-levels (λ r o l. Bool·beq (bit (place ExternalRise) (pick (rises r o l) 0x02 0)) (l && (r && not o))) tt)
+  p16-bit VsyncRise = beq-eq _ _ (at-p16-levels (λ r o l. Bool·beq (bit (place VsyncRise) (pick (rises r o l) 0x02 0)) false) tt)
 
   at-p16 : (s : Source) → flag s (p16Moved c level) ≡ after s c (Pin 14 level)
   unfolding p16Moved port1Moved clears
@@ -127,12 +127,12 @@ module _ (c : Chip) (level : Bool) where
       bit (place s) (sclFlagsBy (c .reset) (bit 3 (c .bus .iists)) (bit 0 (c .mdcon)) (pullsScl (c .bus .phase)) (c .scl) level (hits c) (inNinthClock (c .bus .phase)))
       ≡ raises s c (Pin 25 level)
   unfolding bit raises
-  scl-bit SclFall = beq-eq _ _ (at-scl-levels (λ r e m h o l a n. Bool·beq (bit 5 (sclFlagsBy r e m h o l a n)) ((not l && (r && (o && not ((not e && not m) && h)))) && not e)) tt)
-  scl-bit DataByte = beq-eq _ _ (at-scl-levels (λ r e m h o l a n. Bool·beq (bit 4 (sclFlagsBy r e m h o l a n)) ((not l && (r && (o && not ((not e && not m) && h)))) && ((not e && not m) && n))) tt)
-  scl-bit AddressMatch = beq-eq _ _ (at-scl-levels (λ r e m h o l a n. Bool·beq (bit 3 (sclFlagsBy r e m h o l a n)) ((l && (r && (not o && not ((not e && not m) && h)))) && ((not e && not m) && a))) tt)
-  scl-bit TimerOverflow = beq-eq _ _ (at-scl-levels (λ r e m h o l a n. Bool·beq (bit 2 (sclFlagsBy r e m h o l a n)) false) tt)
-  scl-bit ExternalRise = beq-eq _ _ (at-scl-levels (λ r e m h o l a n. Bool·beq (bit 1 (sclFlagsBy r e m h o l a n)) false) tt)
-  scl-bit VsyncRise = beq-eq _ _ (at-scl-levels (λ r e m h o l a n. Bool·beq (bit 0 (sclFlagsBy r e m h o l a n)) false) tt)
+  scl-bit SclFall = beq-eq _ _ (at-scl-levels (λ r e m h o l a n. Bool·beq (bit (place SclFall) (sclFlagsBy r e m h o l a n)) ((not l && (r && (o && not ((not e && not m) && h)))) && not e)) tt)
+  scl-bit DataByte = beq-eq _ _ (at-scl-levels (λ r e m h o l a n. Bool·beq (bit (place DataByte) (sclFlagsBy r e m h o l a n)) ((not l && (r && (o && not ((not e && not m) && h)))) && ((not e && not m) && n))) tt)
+  scl-bit AddressMatch = beq-eq _ _ (at-scl-levels (λ r e m h o l a n. Bool·beq (bit (place AddressMatch) (sclFlagsBy r e m h o l a n)) ((l && (r && (not o && not ((not e && not m) && h)))) && ((not e && not m) && a))) tt)
+  scl-bit TimerOverflow = beq-eq _ _ (at-scl-levels (λ r e m h o l a n. Bool·beq (bit (place TimerOverflow) (sclFlagsBy r e m h o l a n)) false) tt)
+  scl-bit ExternalRise = beq-eq _ _ (at-scl-levels (λ r e m h o l a n. Bool·beq (bit (place ExternalRise) (sclFlagsBy r e m h o l a n)) false) tt)
+  scl-bit VsyncRise = beq-eq _ _ (at-scl-levels (λ r e m h o l a n. Bool·beq (bit (place VsyncRise) (sclFlagsBy r e m h o l a n)) false) tt)
 
   at-scl : (s : Source) → flag s (sclMoved c level) ≡ after s c (Pin 25 level)
   unfolding sclMoved mode clears
@@ -172,12 +172,12 @@ module _ (c : Chip) (level : Bool) where
       bit (place s) (vsyncFlags (rises (c .reset) (c .pins .vsynci) level) (modeBy (bit 3 (c .bus .iists)) (bit 0 (c .mdcon))) (eqb (c .bus .shifter .edges) 0))
       ≡ raises s c (Pin 27 level)
   unfolding bit raises
-  vsync-bit SclFall = beq-eq _ _ (at-vsync-levels (λ r o l e m n. Bool·beq (bit 5 (vsyncFlags (rises r o l) (modeBy e m) n)) false) tt)
-  vsync-bit DataByte = beq-eq _ _ (at-vsync-levels (λ r o l e m n. Bool·beq (bit 4 (vsyncFlags (rises r o l) (modeBy e m) n)) (((l && (r && not o)) && ((not e && m) && n)) || false)) tt)
-  vsync-bit AddressMatch = beq-eq _ _ (at-vsync-levels (λ r o l e m n. Bool·beq (bit 3 (vsyncFlags (rises r o l) (modeBy e m) n)) false) tt)
-  vsync-bit TimerOverflow = beq-eq _ _ (at-vsync-levels (λ r o l e m n. Bool·beq (bit 2 (vsyncFlags (rises r o l) (modeBy e m) n)) false) tt)
-  vsync-bit ExternalRise = beq-eq _ _ (at-vsync-levels (λ r o l e m n. Bool·beq (bit 1 (vsyncFlags (rises r o l) (modeBy e m) n)) false) tt)
-  vsync-bit VsyncRise = beq-eq _ _ (at-vsync-levels (λ r o l e m n. Bool·beq (bit 0 (vsyncFlags (rises r o l) (modeBy e m) n)) (l && (r && not o))) tt)
+  vsync-bit SclFall = beq-eq _ _ (at-vsync-levels (λ r o l e m n. Bool·beq (bit (place SclFall) (vsyncFlags (rises r o l) (modeBy e m) n)) false) tt)
+  vsync-bit DataByte = beq-eq _ _ (at-vsync-levels (λ r o l e m n. Bool·beq (bit (place DataByte) (vsyncFlags (rises r o l) (modeBy e m) n)) (((l && (r && not o)) && ((not e && m) && n)) || false)) tt)
+  vsync-bit AddressMatch = beq-eq _ _ (at-vsync-levels (λ r o l e m n. Bool·beq (bit (place AddressMatch) (vsyncFlags (rises r o l) (modeBy e m) n)) false) tt)
+  vsync-bit TimerOverflow = beq-eq _ _ (at-vsync-levels (λ r o l e m n. Bool·beq (bit (place TimerOverflow) (vsyncFlags (rises r o l) (modeBy e m) n)) false) tt)
+  vsync-bit ExternalRise = beq-eq _ _ (at-vsync-levels (λ r o l e m n. Bool·beq (bit (place ExternalRise) (vsyncFlags (rises r o l) (modeBy e m) n)) false) tt)
+  vsync-bit VsyncRise = beq-eq _ _ (at-vsync-levels (λ r o l e m n. Bool·beq (bit (place VsyncRise) (vsyncFlags (rises r o l) (modeBy e m) n)) (l && (r && not o))) tt)
 
   at-vsync : (s : Source) → flag s (vsyncMoved c level) ≡ after s c (Pin 27 level)
   unfolding vsyncMoved mode clears
@@ -186,15 +186,6 @@ module _ (c : Chip) (level : Bool) where
       (set-bit s (c .irqx) _ _ (vsync-bit s))
 
 -- ---- RESET
-
-pub never-reset : (s : Source) (c : Chip) (level : Bool) → raises s c (Pin 28 level) ≡ false
-unfolding raises
-never-reset SclFall c level = refl
-never-reset DataByte c level = refl
-never-reset AddressMatch c level = refl
-never-reset TimerOverflow c level = refl
-never-reset ExternalRise c level = refl
-never-reset VsyncRise c level = refl
 
 reset-by : (s : Source) (c : Chip) (old level : Bool) → flag s (onReset (edge old level) (withReset c level)) ≡ (not (old && not level) && flag s c)
 unfolding onReset resetChip resetAt resetValue rowOf
@@ -225,13 +216,7 @@ module _ (c : Chip) (p : ℕ) (level : Bool) (t : T (isPlain p)) where
   plain = none-of (eqb p 14) (eqb p 25) (eqb p 27) (eqb p 28) t
 
   never-plain : (s : Source) → raises s c (Pin p level) ≡ false
-  unfolding raises
-  never-plain SclFall = rw (plain .1)
-  never-plain DataByte = rw (plain .2, plain .1)
-  never-plain AddressMatch = rw (plain .1)
-  never-plain TimerOverflow = refl
-  never-plain ExternalRise = rw (plain .0)
-  never-plain VsyncRise = rw (plain .2)
+  never-plain s = never s c (Pin p level) (record { external = rw (plain .0); rise = rw (plain .1); fall = rw (plain .1); vsync = rw (plain .2); one = refl; two = refl })
 
   at-plain : (s : Source) → flag s c ≡ after s c (Pin p level)
   unfolding clears

@@ -4,21 +4,16 @@ use mathlib.Core.Path.{_≡_, refl, _∙_}
 use mathlib.Core.Bool.{Bool, true, false, _&&_}
 use Prim.Native.Nat.{ℕ, _+_, _/_, _%_, _^_, _<_}
 use native.Mathlib.Omega.{arith}
-use lib.Bits.{bitAnd}
 use Rattle.bits.specs.Byte.{pick, bit}
 use Rattle.bits.proofs.Bitwise.{bit-and}
-use Rattle.bits.proofs.Mask.{and-lt-byte}
 use Rattle.registers.specs.Names.{IEX}
-use Rattle.registers.specs.Table.{readMask, isReadable}
-use Rattle.registers.proofs.Rules.{readMask-lt}
 use Rattle.events.specs.declared.Decoded.{Decoded}
-use Rattle.events.specs.declared.Decoded.the-variants.{Read, Write, Pin, Clock, Polarity, Refused}
 use Rattle.events.specs.Word.{decode, answerWord}
 use Rattle.chip.specs.declared.Chip.{Chip}
 use Rattle.chip.specs.State.{requests as requestsOf, registerAt}
-use Rattle.chip.specs.Reads.{reading, readingOf, shown}
 use Rattle.chip.specs.Form.{wellFormed}
 use Rattle.step.specs.declared.Stepped.{Stepped}
+use Rattle.step.proofs.Byte.{byte-lt}
 use Rattle.step.specs.Step.{next, numberGiven, byteGiven, watchdogReset, answered, advance, step}
 use Rattle.causes.specs.Causes.{Source, place, flag, enabled}
 use Rattle.causes.specs.Causes.Source.{SclFall, DataByte, AddressMatch, TimerOverflow, ExternalRise, VsyncRise}
@@ -30,22 +25,6 @@ unfolding requestsOf
 requests s c = bit-and (place s) (c .irqx) (registerAt c IEX)
 
 -- ---- the same on the answer word
-
--- a byte read is a byte
-reading-lt : (reset readable : Bool) (x mask : ℕ) → mask < 256 →
-    (pick reset (pick readable (readingOf 0 (bitAnd x mask)) (readingOf 5 0)) (readingOf 4 0)) .byte < 256
-reading-lt true true x mask h = and-lt-byte x mask h
-reading-lt true false x mask h = omega arith
-reading-lt false readable x mask h = omega arith
-
-pub byte-lt : (c : Chip) (e : Decoded) → byteGiven c e < 256
-unfolding byteGiven reading
-byte-lt c (Read a) = reading-lt (c .reset) (isReadable a) (shown c a) (readMask a) (readMask-lt a)
-byte-lt c (Write a b) = omega arith
-byte-lt c (Pin p level) = omega arith
-byte-lt c (Clock k) = omega arith
-byte-lt c (Polarity vertical level) = omega arith
-byte-lt c (Refused n) = omega arith
 
 -- bits 15..8 of an answer word are the requests
 module _ (number : ℕ) (watchdog : Bool) (requests byte : ℕ) (h : byte < 256) where

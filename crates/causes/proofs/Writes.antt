@@ -16,9 +16,8 @@ use Rattle.writes.specs.declared.Target.{Target}
 use Rattle.writes.specs.declared.Target.the-variants.{Stored, Mdcon, Hvcon, Clrflg, Clrwdt, Iiadr, Iidat, Iists, Bt}
 use Rattle.writes.specs.Writes.{target, storedWritten, mdconWritten, clrflgWritten, clrwdtWritten, iiadrWritten, iidatWritten, iistsWritten, writtenTo, written, writeRegister}
 use Rattle.step.specs.Step.{next}
-use Rattle.causes.specs.Causes.{Source, place, flag, raises, clears}
-use Rattle.causes.specs.Causes.Source.{SclFall, DataByte, AddressMatch, TimerOverflow, ExternalRise, VsyncRise}
-use Rattle.causes.proofs.Flags.{after, clear-bit}
+use Rattle.causes.specs.Causes.{Source, place, flag, clears}
+use Rattle.causes.proofs.Flags.{after, never-write, clear-bit}
 
 abbrev isClrflg : Target → Bool
 isClrflg Stored = false
@@ -55,15 +54,6 @@ clrflg-at : (a : ℕ) → a < 38 → (isWritable a && isClrflg (target a)) ≡ e
 unfolding isWritable rowOf target
 clrflg-at a h = beq-eq _ _ (at-each (λ a. Bool·beq (isWritable a && isClrflg (target a)) (eqb a CLRFLG)) 38 tt a h)
 
-pub never : (s : Source) (c : Chip) (a b : ℕ) → raises s c (Write a b) ≡ false
-unfolding raises
-never SclFall c a b = refl
-never DataByte c a b = refl
-never AddressMatch c a b = refl
-never TimerOverflow c a b = refl
-never ExternalRise c a b = refl
-never VsyncRise c a b = refl
-
 moved : (reset found bit flag : Bool) → (not ((reset && found) && bit) && flag) ≡ (not (found && (reset && bit)) && flag)
 moved true true bit flag = refl
 moved true false bit flag = refl
@@ -73,5 +63,5 @@ moved false false bit flag = refl
 pub at-write : (s : Source) (c : Chip) (a b : ℕ) → InRange (Write a b) → flag s (next c (Write a b)) ≡ after s c (Write a b)
 unfolding next writeRegister written clears
 at-write s c a b h =
-    rw (never s c a b, irqx-by (c .reset) (isWritable a) (target a) c a b, clrflg-at a (h .0), clear-bit s (c .irqx) b (c .reset && eqb a CLRFLG) (h .1))
+    rw (never-write s c a b, irqx-by (c .reset) (isWritable a) (target a) c a b, clrflg-at a (h .0), clear-bit s (c .irqx) b (c .reset && eqb a CLRFLG) (h .1))
     (moved (c .reset) (eqb a CLRFLG) (bit (place s) b) (flag s c))

@@ -1,12 +1,13 @@
 -- Well formed states (document 01, "Numbers given back", the paragraph on well formed): its clauses, with places of the state
 -- that hold nothing fixed, and no more.
-use Prim.Native.Nat.{ℕ, zero, suc, _-_, _^_}
-use mathlib.Core.Bool.{Bool, true, false, not, _&&_, _||_}
+use Prim.Native.Nat.{ℕ, _-_, _^_}
+use mathlib.Core.Bool.{Bool, true, false, _&&_, _||_}
 use mathlib.Core.List.{List}
 use lib.Bits.{bitAnd}
 use lib.Dec.{eqb, ltb}
 use lib.ListN.{getD}
 use Rattle.bits.specs.Byte.{pick, bit}
+use Rattle.bits.specs.Finite.{allBelow}
 use Rattle.registers.specs.Names.{MDCON, HVCON, CLRWDT, BTCON}
 use Rattle.registers.specs.Table.{resetValue, writeMask}
 use Rattle.sync.specs.Sync.{wellSync}
@@ -17,11 +18,6 @@ use Rattle.bus.specs.declared.Phase.the-variants.{Idle, Address, Ignoring, Rece
 use Rattle.bus.specs.declared.Shifter.{Shifter}
 use Rattle.chip.specs.declared.Chip.{Chip}
 use Rattle.chip.specs.State.{modeOf}
-
--- the test holds at each number below n
-abbrev pub allBelow : (ℕ → Bool) → ℕ → Bool
-allBelow f zero = true
-allBelow f (suc n) = pick (f n) (allBelow f n) false
 
 -- ---- reserved bits at reset value: those that neither a write nor the chip can move
 

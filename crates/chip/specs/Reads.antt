@@ -1,6 +1,6 @@
 -- What a read shows (document 01, "Registers" and "Ports").
 use Prim.Native.Nat.{ℕ, _+_, _-_, _*_, _/_, _%_}
-use mathlib.Core.Bool.{Bool, true, false}
+use mathlib.Core.Bool.{Bool}
 use lib.Bits.{bitAnd, bitOr}
 use lib.Dec.{eqb}
 use Rattle.bits.specs.Byte.{pick, bit, merge}
@@ -12,8 +12,7 @@ use Rattle.chip.specs.State.{registerAt}
 
 -- a bit's weight where it is 1
 abbrev pub weight : Bool → ℕ → ℕ
-weight true w = w
-weight false w = 0
+weight v w = pick v w 0
 
 -- "Ports": a pin reads 1 where neither its latch nor the outside is 0; one that is given away does not look outside
 abbrev pub portRead : ℕ → ℕ → ℕ → ℕ

@@ -1,9 +1,10 @@
 // The chip: its state, a fresh and a reset one, what a read shows, and which states are well formed.
 ghost use mathlib.Core.Path.{_≡_};
 ghost use Prim.Native.Nat.{_<_};
+ghost use Rattle.bits.specs.Finite.{allBelow};
 ghost use Rattle.chip.specs.State.{idleBus, released as releasedOf, requests as requestsOf, resetAt, resetChip, fresh as freshOf, modeOf, hselOf, registerAt};
-ghost use Rattle.chip.specs.Reads.{weight as weightOf, portRead, given0 as givenOf0, given1 as givenOf1, port0 as portOf0, port1 as portOf1, port2 as portOf2, port3 as portOf3, hvcon as hvconOf, shown as shownOf, readingOf, reading};
-ghost use Rattle.chip.specs.Form.{allBelow, keptApart, reservedMask, reservedAt, reservedApart, gatheredFits, phaseFits, isIdle, isEmpty, busFits, wellFormed};
+ghost use Rattle.chip.specs.Reads.{portRead, given0 as givenOf0, given1 as givenOf1, port0 as portOf0, port1 as portOf1, port2 as portOf2, port3 as portOf3, hvcon as hvconOf, shown as shownOf, readingOf, reading};
+ghost use Rattle.chip.specs.Form.{keptApart, reservedMask, reservedAt, reservedApart, gatheredFits, phaseFits, isIdle, isEmpty, busFits, wellFormed};
 use bus::Mode;
 use bus::Phase;
 use bus::Shifter;
@@ -87,26 +88,32 @@ fn idle_bus(iists: u8, iiadr: u8, iidat: u8) -> Bus
     }
 }
 
-// Lines released.
+// The bus after a change of mode: lines released, no transfer, ones in the shift register, nine edges left.
+// Wrong answers: eight edges left, so a byte without the null bit; II DAT cleared.
 pub fn released(b: Bus) -> Bus
     ensures { λ r. ⌜ r ≡ releasedOf b ⌝ }
 {
     idle_bus(b.iists, b.iiadr, b.iidat)
 }
 
+// The mode of DDC at a chip.
+// Wrong answers: DDC on where ENDDC is 1; S/C read for MD1/2.
 pub fn mode_of(c: Chip) -> Mode
     ensures { λ r. ⌜ r ≡ modeOf c ⌝ }
 {
     bus::mode_of(c.bus.iists, c.mdcon)
 }
 
+// HSEL of a chip, bit 2 of MDCON.
+// Wrong answers: S/C, the bit below; HSEL inverted.
 pub fn hsel(c: Chip) -> bool
     ensures { λ r. ⌜ r ≡ hselOf c ⌝ }
 {
     bits::bit(2, c.mdcon)
 }
 
-// The request lines.
+// The request lines: the flags of IRQX that IEX enables.
+// Wrong answers: a request where flag or enable is set; all flags, enabled or not.
 pub fn requests(c: Chip) -> u8
     ensures { λ r. ⌜ r ≡ requestsOf c ⌝ }
 {
@@ -115,6 +122,7 @@ pub fn requests(c: Chip) -> u8
 }
 
 // Every part at its reset value, at these outside levels.
+// Wrong answers: the sync pins of HVCON, 20H of 2FH, stored with its polarities; zeros in the shift register.
 pub fn reset_at(pins: Pins, sda: bool, scl: bool, reset: bool) -> Chip
     ensures { λ r. ⌜ r ≡ resetAt pins sda scl reset ⌝ }
 {
@@ -139,6 +147,7 @@ pub fn reset_at(pins: Pins, sda: bool, scl: bool, reset: bool) -> Chip
 }
 
 // A reset keeps the outside levels.
+// Wrong answers: all outside levels put to 1; the latches kept.
 pub fn reset_chip(c: Chip) -> Chip
     ensures { λ r. ⌜ r ≡ resetChip c ⌝ }
 {
@@ -147,6 +156,7 @@ pub fn reset_chip(c: Chip) -> Chip
 }
 
 // A fresh chip: reset values, and all outside levels 1.
+// Wrong answers: RESET low; a bit 7 at port 1.
 pub fn fresh() -> Chip
     ensures { λ r. ⌜ r ≡ freshOf ⌝ }
 {
@@ -161,19 +171,13 @@ pub fn fresh() -> Chip
 }
 
 // The byte in a place of the array, 0 past it.
+// Wrong answers: the last place for one past the array; the byte under the read mask.
 pub fn register_at(c: Chip, a: u8) -> u8
     ensures { λ r. ⌜ r ≡ registerAt c a ⌝ }
 {
     let registers = c.registers;
     let i = a as usize;
     if i < 38 { registers[i] } else { 0 }
-}
-
-// A bit's weight where it is 1.
-fn weight(v: bool, w: u8) -> u8
-    ensures { λ r. ⌜ r ≡ weightOf v w ⌝ }
-{
-    if v { w } else { 0 }
 }
 
 fn port_read(latch: u8, level: u8, given: u8) -> u8
@@ -233,7 +237,7 @@ fn port3(c: Chip) -> u8
     let registers = c.registers;
     let latch = registers[PT3 as usize];
     if bits::bit(3, c.bus.iists) {
-        latch & (weight(c.scl, 2) | weight(c.sda, 1))
+        latch & (bits::weight_if(c.scl, 2) | bits::weight_if(c.sda, 1))
     } else {
         latch
     }
@@ -242,8 +246,9 @@ fn port3(c: Chip) -> u8
 fn hvcon(c: Chip) -> u8
     ensures { λ r. ⌜ r ≡ hvconOf c ⌝ }
 {
-    (weight(c.sync.lines.overflow, 0x80) | weight(c.sync.periods.overflow, 0x40))
-        | ((weight(c.pins.hsynci, 0x20) | weight(c.pins.vsynci, 0x10)) | c.polarity)
+    (bits::weight_if(c.sync.lines.overflow, 0x80) | bits::weight_if(c.sync.periods.overflow, 0x40))
+        | ((bits::weight_if(c.pins.hsynci, 0x20) | bits::weight_if(c.pins.vsynci, 0x10))
+            | c.polarity)
 }
 
 // What a register shows before its read mask.
@@ -278,6 +283,7 @@ fn reading_of(number: u8, byte: u8) -> Reading
 }
 
 // A read: its number and byte. It never moves the chip.
+// Wrong answers: 6 for a write-only register; the byte read while RESET is low.
 pub fn read_register(c: Chip, a: u8) -> Reading
     ensures { λ r. ⌜ r ≡ reading c a ⌝ }
 {
@@ -416,7 +422,8 @@ fn bus_fits(mode: Mode, phase: Phase, s: Shifter) -> bool
     }
 }
 
-// The state is well formed.
+// The state is well formed: ranges, reserved bits at reset value, and a bus that fits its mode.
+// Wrong answers: false for a watchdog count of 63; true for II STS with bit 6 set.
 pub fn well_formed(c: Chip) -> bool
     ensures { λ r. ⌜ r ≡ wellFormed c ⌝ }
 {

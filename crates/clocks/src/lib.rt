@@ -6,7 +6,8 @@ use chip::Chip;
 use registers::BTCON;
 use registers::INTR;
 
-// A clock of 8 µs.
+// A clock of 8 µs: VCNT steps, and with HSEL 0 the interval runs.
+// Wrong answers: HSEL taken inverted; the base timer stepped too.
 pub fn period_clock(c: Chip) -> Chip
     ensures { λ r. ⌜ r ≡ periodClock c ⌝ }
 {
@@ -29,7 +30,7 @@ fn timer_runs(btcon: u8, k: u8) -> bool
 fn timer_step(c: Chip) -> Chip
     ensures { λ r. ⌜ r ≡ timerStep c ⌝ }
 {
-    let flags = lines::flag_if(sync::timer_overflows(c.bt), INTR);
+    let flags = bits::weight_if(sync::timer_overflows(c.bt), INTR);
     let mut n = lines::raised(c, flags);
     n.bt = sync::timer_next(c.bt);
     n
@@ -68,7 +69,8 @@ fn clocked_as(c: Chip, k: u8) -> Chip
     }
 }
 
-// A clock; none runs while RESET is low.
+// The chip after clock k: 0 of 8 µs, 3 of the watchdog, the others of the base timer; none runs while RESET is low.
+// Wrong answers: base clock 2 where TBS is 0; the base timer run while ENBT is 1.
 pub fn clocked(c: Chip, k: u8) -> Chip
     ensures { λ r. ⌜ r ≡ clockedOf c k ⌝ }
 {
@@ -82,7 +84,8 @@ fn polarity_bit(vertical: bool) -> u8
     if vertical { 2 } else { 3 }
 }
 
-// A polarity is found.
+// A polarity is found: VPOLI or HPOLI takes it, except while RESET is low.
+// Wrong answers: HPOLI and VPOLI exchanged; a polarity taken while RESET is low.
 pub fn polarity_found(c: Chip, vertical: bool, level: bool) -> Chip
     ensures { λ r. ⌜ r ≡ polarityFound c vertical level ⌝ }
 {

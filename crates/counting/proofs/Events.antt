@@ -7,7 +7,7 @@ use native.Mathlib.Omega.{arith}
 use borrow.Author.Tests.{ltb-false, lt-ltb}
 use lib.Dec.{T, eqb, ltb, eqb→eq}
 use Rattle.bits.specs.Byte.{pick, bit}
-use Rattle.bits.proofs.Finite.{at-each}
+use Rattle.bits.proofs.Finite.{at-each, neither}
 use Rattle.bits.proofs.Bitwise.{bit-merge}
 use Rattle.registers.specs.Names.{MDCON, CLRFLG, BTCON}
 use Rattle.registers.specs.Table.{rowOf, writeMask}
@@ -73,10 +73,6 @@ clear-periods : (bit : Bool) (c : PeriodCounter) → bit ≡ false → clearPeri
 unfolding clearPeriods
 clear-periods bit c h = rw h
 
-neither : (x y : Bool) → (x || y) ≡ false → (x ≡ false) × (y ≡ false)
-neither true y h = (cc, cc)
-neither false y h = (refl, h)
-
 module _ (c : Chip) (a b : ℕ) (r : c .reset ≡ true) where
   -- the two tests of a write that zeroes HCNT
   mdcon-kept : zeroesLines c (Write a b) ≡ false → eqb a MDCON ≡ true → (not (bit 2 b) && hselOf c) ≡ false
@@ -86,33 +82,27 @@ module _ (c : Chip) (a b : ℕ) (r : c .reset ≡ true) where
       let j = neither ((eqb a MDCON && (c .reset && not (bit 2 b))) && hselOf c) _ k .0 in
       rw (m, r) at j
 
-  clrflg-kept : zeroesLines c (Write a b) ≡ false → eqb a CLRFLG ≡ true → bit 7 b ≡ false
-  unfolding zeroesLines
-  clrflg-kept h m =
-      let k = neither (eqb a CLRFLG && (c .reset && bit 7 b)) _ h .0 in
-      rw (m, r) at k
+  -- a bit of CLRFLG that zeroes, among other causes
+  bit-kept : (k : ℕ) (other : Bool) → ((eqb a CLRFLG && (c .reset && bit k b)) || other) ≡ false → eqb a CLRFLG ≡ true → bit k b ≡ false
+  bit-kept k other h m =
+      let j = neither (eqb a CLRFLG && (c .reset && bit k b)) other h .0 in
+      rw (m, r) at j
 
   write-lines : zeroesLines c (Write a b) ≡ false → fields c a b .sync .lines ≡ c .sync .lines
-  unfolding clearOverflow
+  unfolding clearOverflow zeroesLines
   write-lines h =
       let P : Sync → Type 0 = λ (s : Sync). s .lines ≡ c .sync .lines in
       pick-by P (eqb a MDCON)
       (λ m. rw (hsel-written (c .mdcon) b) (hsel-lines (hselOf c) (bit 2 b) (c .sync) (mdcon-kept h m)))
-      (λ _. pick-by P (eqb a CLRFLG) (λ m. clear-lines (bit 7 b) (c .sync .lines) (clrflg-kept h m)) (λ _. refl))
-
-  periods-kept : zeroesPeriods c (Write a b) ≡ false → eqb a CLRFLG ≡ true → bit 6 b ≡ false
-  unfolding zeroesPeriods
-  periods-kept h m =
-      let k = neither (eqb a CLRFLG && (c .reset && bit 6 b)) _ h .0 in
-      rw (m, r) at k
+      (λ _. pick-by P (eqb a CLRFLG) (λ m. clear-lines (bit 7 b) (c .sync .lines) (bit-kept 7 _ h m)) (λ _. refl))
 
   write-periods : zeroesPeriods c (Write a b) ≡ false → fields c a b .sync .periods ≡ c .sync .periods
-  unfolding clearOverflow
+  unfolding clearOverflow zeroesPeriods
   write-periods h =
       let P : Sync → Type 0 = λ (s : Sync). s .periods ≡ c .sync .periods in
       pick-by P (eqb a MDCON)
       (λ _. hsel-periods _ _ (c .sync))
-      (λ _. pick-by P (eqb a CLRFLG) (λ m. clear-periods (bit 6 b) (c .sync .periods) (periods-kept h m)) (λ _. refl))
+      (λ _. pick-by P (eqb a CLRFLG) (λ m. clear-periods (bit 6 b) (c .sync .periods) (bit-kept 6 _ h m)) (λ _. refl))
 
 at-write : (c : Chip) (a b : ℕ) → Effect c (next c (Write a b)) (Write a b)
 at-write c a b =

@@ -1,7 +1,7 @@
 -- A run from a fresh chip at which the premises hold: two rises of HSYNCI and one 8 µs clock are counted.
 -- Assumes nothing.
 use mathlib.Core.Path.{_≡_, refl}
-use mathlib.Core.Bool.{Bool, true, false}
+use mathlib.Core.Bool.{Bool, true}
 use mathlib.Core.List.{List, [], _∷_}
 use Prim.Native.Nat.{ℕ}
 use Rattle.bits.specs.Byte.{bit, withBit}

@@ -8,6 +8,7 @@ use native.Mathlib.Omega.{arith}
 use borrow.Author.Tests.{ltb-true, le-ltb, eqb-true, not-true}
 use lib.Dec.{eqb, ltb}
 use Rattle.bits.specs.Byte.{bit}
+use Rattle.bits.proofs.Finite.{both}
 use Rattle.registers.specs.Names.{MDCON, CLRFLG}
 use Rattle.registers.specs.Table.{rowOf, isWritable}
 use Rattle.events.specs.declared.Decoded.{Decoded}
@@ -35,10 +36,6 @@ use Rattle.counting.proofs.Events.{hsel-written, rise-is, vsync-moves, 
 either : (x y : Bool) → (x || y) ≡ true → (x ≡ true) ⊎ (y ≡ true)
 either true y h = inl refl
 either false y h = inr h
-
-both : (x y : Bool) → (x && y) ≡ true → (x ≡ true) × (y ≡ true)
-both true y h = (refl, h)
-both false y h = (cc, cc)
 
 clash : {A : Type 0} (t : Bool) → t ≡ true → t ≡ false → A
 clash t h k = absurd (let z : _≡_ {A = ℕ} 0 1 = cc in omega arith)

@@ -85,6 +85,7 @@ fn event(word: u32) -> Decoded
 }
 
 // The first number that applies refuses the word, else it is an event.
+// Wrong answers: pin 15 taken for a pin; a word with both a wrong A and a wrong B refused with 3.
 pub fn decode(word: u32) -> Decoded
     ensures { λ r. ⌜ (r ≡ decodeOf word) × DecodedCase word r ⌝ }
 {
@@ -121,6 +122,7 @@ fn refused_word(number: u8) -> u32
 }
 
 // The word of an event; for a refusal, one of the words that it refuses.
+// Wrong answers: a write with its register and byte exchanged; for number 2 a word of a register that there is.
 pub fn encode(event: Decoded) -> u32
     ensures { λ r. ⌜ r ≡ encodeOf event ⌝ }
 {
@@ -135,6 +137,7 @@ pub fn encode(event: Decoded) -> u32
 }
 
 // The answer word with these parts; bits 23..17 are 0.
+// Wrong answers: the byte read where the requests stand; the watchdog reset told in bit 17.
 pub fn answer(number: u8, watchdog: bool, requests: u8, byte: u8) -> u32
     ensures { λ r. ⌜ r ≡ answerWord number watchdog requests byte ⌝ }
 {
@@ -144,6 +147,7 @@ pub fn answer(number: u8, watchdog: bool, requests: u8, byte: u8) -> u32
 }
 
 // The parts of an answer word; bits 23..17 are not looked at.
+// Wrong answers: the byte read given for the requests; the watchdog reset taken from bit 17.
 pub fn answer_fields(word: u32) -> AnswerFields
     ensures { λ r. ⌜ r ≡ answerFields word ⌝ }
 {

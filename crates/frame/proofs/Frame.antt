@@ -10,6 +10,7 @@ use lib.Dec.{eqb}
 use lib.ListN.{length, getD}
 use lib.Seq.{getD-set-other, ext-getD}
 use Rattle.bits.specs.Byte.{pick, bit}
+use Rattle.bits.proofs.Finite.{neither}
 use Rattle.registers.specs.Names.{MDCON, CLRFLG, IIADR, IIDAT, IISTS}
 use Rattle.events.specs.declared.Decoded.the-variants.{Read, Write}
 use Rattle.events.proofs.Level.{pick-by}
@@ -92,10 +93,6 @@ unfolding busAtIidat
 data-keeps scl sda byte b = data-by (pullsScl (b .phase)) scl sda byte b
 
 -- ---- a write that is taken
-
-neither : (x y : Bool) → (x || y) ≡ false → (x ≡ false) × (y ≡ false)
-neither true y h = (cc, cc)
-neither false y h = (refl, h)
 
 -- an address that is not the place's
 other : (n a : ℕ) (elsewhere : Bool) → elsewhere ≡ false → (eqb n a && not elsewhere) ≡ false → n ≡ a → ⊥

@@ -12,6 +12,7 @@ use borrow.Author.Tests.{ltb-true, lt-ltb, eqb-true, eqb-false, eq-eqb}
 use Rattle.bits.specs.Byte.{pick, bit, withBit}
 use Rattle.bits.proofs.Mask.{num-lt}
 use Rattle.bits.proofs.Bitwise.{bit-or, bit-withBit}
+use Rattle.bits.proofs.Finite.{both}
 use Rattle.events.proofs.Level.{pick-by}
 use Rattle.bus.specs.declared.Mode.{Mode}
 use Rattle.bus.specs.declared.Mode.the-variants.{Off, Ddc1, Ddc2b}
@@ -25,7 +26,7 @@ use Rattle.chip.specs.declared.Bus.{Bus}
 use Rattle.chip.specs.State.{busOf, released}
 use Rattle.chip.specs.Form.{gatheredFits, phaseFits, isIdle, isEmpty, busFits}
 use Rattle.lines.specs.Bus.{busAtMode, busAtRise, busAtVsync, withPhase}
-use Rattle.invariant.proofs.Formed.{both, and-both, impossible, BusFormed}
+use Rattle.invariant.proofs.Formed.{and-both, impossible, BusFormed}
 use Rattle.invariant.proofs.Ranges.{with-bit-below, pick-below}
 
 -- ---- bits gathered

@@ -1,15 +1,15 @@
 -- A well formed state by its parts, and one part put anew.
 -- Assumes nothing.
-use mathlib.Core.Path.{_≡_, refl}
+use mathlib.Core.Path.{_≡_}
 use mathlib.Core.Bool.{Bool, true, false, _&&_}
 use mathlib.Core.List.{List}
-use mathlib.Core.Logic.{⊎-elim}
-use Prim.Native.Nat.{ℕ, zero, suc, _<_}
-use native.Mathlib.Nat.{not-suc-le-zero, le-of-suc-le-suc, eq-or-lt-of-le}
+use Prim.Native.Nat.{ℕ, _<_}
 use native.Mathlib.Omega.{arith}
 use lib.Bits.{bitOr, or-lt}
 use borrow.Author.Tests.{ltb-true, lt-ltb}
-use Rattle.bits.specs.Byte.{pick, bit}
+use Rattle.bits.specs.Byte.{bit}
+use Rattle.bits.specs.Finite.{allBelow}
+use Rattle.bits.proofs.Finite.{at-each, all-true, T-true, true-T, both}
 use Rattle.sync.specs.declared.Sync.{Sync}
 use Rattle.sync.specs.Sync.{wellSync}
 use Rattle.bus.specs.Lines.{mode}
@@ -17,13 +17,9 @@ use Rattle.chip.specs.declared.Bus.{Bus}
 use Rattle.chip.specs.declared.Pins.{Pins}
 use Rattle.chip.specs.declared.Chip.{Chip}
 use Rattle.chip.specs.State.{withRegisters, withIrqx, withMdcon, withPolarity, withBt, withWatchdog, withSync, withBus, withPins, withSda, withScl, withReset, raised}
-use Rattle.chip.specs.Form.{allBelow, reservedAt, reservedApart, busFits, wellFormed}
+use Rattle.chip.specs.Form.{reservedAt, reservedApart, busFits, wellFormed}
 
 -- ---- tests as facts
-
-pub both : (a b : Bool) → (a && b) ≡ true → (a ≡ true) × (b ≡ true)
-both true b h = (refl, h)
-both false b h = (h, cc)
 
 pub and-both : (a b : Bool) → a ≡ true → b ≡ true → (a && b) ≡ true
 and-both a b p q = rw (p, q)
@@ -31,23 +27,9 @@ and-both a b p q = rw (p, q)
 pub impossible : false ≡ true → ⊥
 impossible e = let z : _≡_ {A = ℕ} 0 1 = cc in omega arith
 
-chosen : (a b : Bool) → pick a b false ≡ true → (a ≡ true) × (b ≡ true)
-chosen true b h = (refl, h)
-chosen false b h = (h, cc)
-
 -- a test that holds at each number below n
 all-at : (f : ℕ → Bool) (n : ℕ) → allBelow f n ≡ true → (i : ℕ) → i < n → f i ≡ true
-all-at f zero t i h = absurd (not-suc-le-zero h)
-all-at f (suc n) t i h =
-    let two = chosen (f n) (allBelow f n) t in
-    ⊎-elim
-    (λ (p : i ≡ n). rw p (two .0))
-    (λ (p : i < n). all-at f n (two .1) i p)
-    (eq-or-lt-of-le (le-of-suc-le-suc h))
-
-at-all : (f : ℕ → Bool) (n : ℕ) → ((i : ℕ) → i < n → f i ≡ true) → allBelow f n ≡ true
-at-all f zero h = refl
-at-all f (suc n) h = rw (h n (omega arith), at-all f n (λ i p. h i (omega arith)))
+all-at f n e i h = T-true (f i) (at-each f n (true-T (allBelow f n) e) i h)
 
 -- ---- the parts
 
@@ -101,7 +83,7 @@ well c f =
     (and-both _ _ (and-both _ _ (and-both _ _ (lt-ltb _ _ (f .irqx)) (lt-ltb _ _ (f .bus .iists))) (lt-ltb _ _ (f .mdcon))) (lt-ltb _ _ (f .polarity)))
     (f .bus .iiadr))
     (lt-ltb _ _ (f .port1)))
-    (at-all (reservedAt (c .registers)) 38 (f .stored))))
+    (all-true (reservedAt (c .registers)) 38 (f .stored))))
     (f .bus .fits)
 
 -- ---- one part put anew

@@ -9,25 +9,23 @@ use lib.Bits.{bitAnd, and-le-l}
 use lib.Dec.{eqb}
 use borrow.Author.Tests.{eqb-true, ne-eqb}
 use Rattle.bits.specs.Byte.{pick}
-use Rattle.bits.proofs.Mask.{and-lt-byte}
+use Rattle.bits.proofs.Finite.{both}
 use Rattle.registers.specs.Table.{isReadable, isWritable, readMask}
-use Rattle.registers.proofs.Rules.{readMask-lt}
 use Rattle.events.specs.declared.AnswerFields.{AnswerFields}
 use Rattle.events.specs.declared.Decoded.{Decoded}
 use Rattle.events.specs.declared.Decoded.the-variants.{Read, Write, Pin, Clock, Polarity, Refused}
 use Rattle.events.specs.Word.{kind, fieldA, fieldB, event, noEvent, noPlace, badByte, decode, answerFields}
-use Rattle.events.proofs.Level.{pick-by}
 use Rattle.events.proofs.AnswerWord.{fields-of-answer}
 use Rattle.chip.specs.declared.Chip.{Chip}
-use Rattle.chip.specs.declared.Reading.{Reading}
 use Rattle.chip.specs.State.{requests, registerAt}
 use Rattle.chip.specs.Reads.{shown, readingOf, reading}
 use Rattle.chip.specs.Form.{wellFormed}
 use Rattle.writes.specs.Writes.{writeNumber, writeRegister, written}
 use Rattle.step.specs.declared.Stepped.{Stepped}
 use Rattle.step.specs.Step.{next, numberGiven, byteGiven, watchdogReset, answered, advance, step}
+use Rattle.step.proofs.Byte.{byte-lt}
 use Rattle.invariant.specs.Numbers.{isRead, isWrite, isEvent, illFormed, whileReset, writeOnly, readOnly, firstOf, numberOf01, answerNumber, refusal, illFormedAnswer}
-use Rattle.invariant.proofs.Formed.{both, impossible, formed}
+use Rattle.invariant.proofs.Formed.{impossible, formed}
 use Rattle.invariant.proofs.WellFormed.{advance-well-formed}
 
 -- ---- the number that the step gives
@@ -81,23 +79,6 @@ decode-number c w t =
     (kind-number c (isRead w) (isWrite w) (eqb (kind w) 3) (eqb (kind w) 4) (fieldA w) (fieldB w) (one-kind w)))
 
 -- ---- the parts of an answer
-
-read-byte-lt : (c : Chip) (a : ℕ) → reading c a .byte < 256
-unfolding reading
-read-byte-lt c a =
-    let P : Reading → Type 0 = λ (r : Reading). r .byte < 256 in
-    pick-by P (c .reset)
-    (λ _. pick-by P (isReadable a) (λ _. and-lt-byte (shown c a) (readMask a) (readMask-lt a)) (λ _. omega arith))
-    (λ _. omega arith)
-
-byte-lt : (c : Chip) (e : Decoded) → byteGiven c e < 256
-unfolding byteGiven
-byte-lt c (Read a) = read-byte-lt c a
-byte-lt c (Write a b) = omega arith
-byte-lt c (Pin p level) = omega arith
-byte-lt c (Clock k) = omega arith
-byte-lt c (Polarity vertical level) = omega arith
-byte-lt c (Refused n) = omega arith
 
 -- six request lines
 pub requests-lt : (c : Chip) → wellFormed c ≡ true → requests c < 64

@@ -4,14 +4,11 @@ use mathlib.Core.Path.{_≡_, refl, ap, sym}
 use mathlib.Core.Bool.{Bool, true, false, not, _&&_, _||_, Bool·beq, or-false, true≢false}
 use native.Mathlib.Omega.{arith}
 use lib.Dec.{eqb}
-use lib.Bits.{bitAnd}
 use borrow.Author.Tests.{eqb-true}
 use Rattle.bits.specs.Byte.{pick}
-use Rattle.bits.proofs.Finite.{beq-eq, true-T}
-use Rattle.bits.proofs.Mask.{and-lt-byte}
+use Rattle.bits.proofs.Finite.{beq-eq, true-T, both}
 use Rattle.registers.specs.Names.{IIDAT}
-use Rattle.registers.specs.Table.{readMask, isReadable}
-use Rattle.registers.proofs.Rules.{readMask-lt}
+use Rattle.registers.specs.Table.{isReadable}
 use Rattle.events.specs.declared.Decoded.{Decoded}
 use Rattle.events.specs.declared.Decoded.the-variants.{Read, Write, Pin, Clock, Polarity, Refused}
 use Rattle.events.specs.Word.{decode, answerWord, InRange}
@@ -20,13 +17,14 @@ use Rattle.chip.specs.declared.Chip.{Chip}
 use Rattle.chip.specs.declared.Reading.{Reading}
 use Rattle.chip.specs.State.{requests}
 use Rattle.chip.specs.Reads.{port0, port1, port2, port3, hvcon, shown, reading, readingOf}
+use Rattle.chip.proofs.Bytes.{reading-byte-lt}
 use Rattle.writes.specs.Writes.{writeNumber}
 use Rattle.pins.specs.Pins.{pinKind, pinMovedAs, pinMoved}
 use Rattle.step.specs.Step.{next, numberGiven, byteGiven, watchdogReset, wasReset, answered}
 use Rattle.isolation.specs.Foreign.{Observer, observe, permitted, touchesSda, untouched, sameButSda, equalAtHigh, comparedAnswer}
 use Rattle.isolation.proofs.Related.{Related, related, enddc-low}
 use Rattle.isolation.proofs.Pins.{pin-related, sda-low-related, sda-equal-related}
-use Rattle.isolation.proofs.Writes.{write-related, clock-related, polarity-related, both-left, both-right}
+use Rattle.isolation.proofs.Writes.{write-related, clock-related, polarity-related}
 
 -- ---- two events, one for each run
 
@@ -69,7 +67,7 @@ words-paired : (o o′ : Observer) (w v : ℕ) (t : Bool) → eqb w v ≡ t → 
 unfolding untouched
 words-paired o o′ w v true e s h = rw (← eqb-true w v e) (word-paired (decode w) _ (decode-in-range w) refl h)
 words-paired o o′ w v false e s h =
-    low-paired (touches-of (decode w) (both-left (touchesSda (decode w)) (touchesSda (decode v)) s)) (touches-of (decode v) (both-right (touchesSda (decode w)) (touchesSda (decode v)) s))
+    low-paired (touches-of (decode w) (both (touchesSda (decode w)) (touchesSda (decode v)) s .0)) (touches-of (decode v) (both (touchesSda (decode w)) (touchesSda (decode v)) s .1))
     (rw or-false at h)
 
 pub paired : (o o′ : Observer) (w v : ℕ) → sameButSda w v ≡ true → equalAtHigh o o′ w v ≡ true → Paired o o′ (decode w) (decode v)
@@ -129,15 +127,6 @@ number-of-reading true true n m = refl
 pub reading-number-equal : {c d : Chip} {o o′ : Observer} → Related c d o o′ → (a : ℕ) → reading c a .number ≡ reading d a .number
 unfolding reading
 reading-number-equal (related g z s x x′ y y′ k o) a = number-of-reading z (isReadable a) _ _
-
-byte-of-reading : (z t : Bool) (n mask : ℕ) → mask < 256 → pick z (pick t (readingOf 0 (bitAnd n mask)) (readingOf 5 0)) (readingOf 4 0) .byte < 256
-byte-of-reading false t n mask h = omega arith
-byte-of-reading true false n mask h = omega arith
-byte-of-reading true true n mask h = and-lt-byte n mask h
-
-reading-byte-lt : (c : Chip) (a : ℕ) → reading c a .byte < 256
-unfolding reading
-reading-byte-lt c a = byte-of-reading (c .reset) (isReadable a) (shown c a) (readMask a) (readMask-lt a)
 
 -- two answers to a read, their bytes apart
 read-answers : (t : Bool) (n n′ r r′ y y′ : ℕ) → n ≡ n′ → r ≡ r′ → y < 256 → y′ < 256 → (t ≡ false → y ≡ y′)

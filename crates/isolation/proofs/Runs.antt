@@ -7,6 +7,7 @@ use native.Mathlib.Omega.{arith}
 use lib.ListN.{length}
 use lib.Dec.{eqb}
 use borrow.Author.Tests.{lt-ltb, ltb-true, eqb-true}
+use Rattle.bits.proofs.Finite.{both}
 use Rattle.events.specs.declared.Decoded.{Decoded}
 use Rattle.events.specs.Word.{decode}
 use Rattle.bus.specs.declared.Phase.{Phase}
@@ -17,7 +18,6 @@ use Rattle.run.specs.Run.{after, answers, advanced, advancedAnswers}
 use Rattle.isolation.specs.Foreign.{Trace, byteOf, Observer, observe, permitted, touchesSda, sameButSda, alike, equalAtHigh, comparedAnswer, comparedAnswers, comparedPhase, comparedState, SeveralTransfers, Agree}
 use Rattle.isolation.proofs.Bits.{byte-lt}
 use Rattle.isolation.proofs.Related.{Apart, idle, ignoring, address, Related, related}
-use Rattle.isolation.proofs.Writes.{both-left, both-right}
 use Rattle.isolation.proofs.Events.{Paired, paired, Touches, touches, touches-of, event-related, event-answers}
 
 phases-agree : {q q′ : Phase} {t t′ : Trace} → Apart q q′ t t′ → comparedPhase q ≡ comparedPhase q′
@@ -37,17 +37,17 @@ record Carried (c d : Chip) (o o′ : Observer) (w v : ℕ) (ws vs : List ℕ) :
 
 carried : {c d : Chip} {o o′ : Observer} → Related c d o o′ → (w v : ℕ) (ws vs : List ℕ) → SeveralTransfers o o′ (w ∷ ws) (v ∷ vs) → Carried c d o o′ w v ws vs
 carried {o = o} {o′ = o′} r w v ws vs p =
-    let pair : Paired o o′ (decode w) (decode v) = paired o o′ w v (both-left (sameButSda w v) _ (p .words)) (both-left (equalAtHigh o o′ w v) _ (p .sda)) in
-    let left : permitted o (decode w) ≡ true = both-left (permitted o (decode w)) _ (p .left) in
-    let right : permitted o′ (decode v) ≡ true = both-left (permitted o′ (decode v)) _ (p .right) in
+    let pair : Paired o o′ (decode w) (decode v) = paired o o′ w v (both (sameButSda w v) _ (p .words) .0) (both (equalAtHigh o o′ w v) _ (p .sda) .0) in
+    let left : permitted o (decode w) ≡ true = both (permitted o (decode w)) _ (p .left) .0 in
+    let right : permitted o′ (decode v) ≡ true = both (permitted o′ (decode v)) _ (p .right) .0 in
     record {
       chips = event-related r pair left right;
       answer = event-answers r pair left right;
       rest = record {
-        words = both-right (sameButSda w v) _ (p .words);
-        left = both-right (permitted o (decode w)) _ (p .left);
-        right = both-right (permitted o′ (decode v)) _ (p .right);
-        sda = both-right (equalAtHigh o o′ w v) _ (p .sda);
+        words = both (sameButSda w v) _ (p .words) .1;
+        left = both (permitted o (decode w)) _ (p .left) .1;
+        right = both (permitted o′ (decode v)) _ (p .right) .1;
+        sda = both (equalAtHigh o o′ w v) _ (p .sda) .1;
       };
     }
 
@@ -89,7 +89,7 @@ sda-part (touches l) (touches l′) x = refl
 part-by : (w v x : ℕ) (t : Bool) → eqb w v ≡ t → (t || (touchesSda (decode w) && touchesSda (decode v))) ≡ true → comparedAnswer (decode w) x ≡ comparedAnswer (decode v) x
 part-by w v x true e h = rw (eqb-true w v e)
 part-by w v x false e h =
-    sda-part (touches-of (decode w) (both-left (touchesSda (decode w)) (touchesSda (decode v)) h)) (touches-of (decode v) (both-right (touchesSda (decode w)) (touchesSda (decode v)) h)) x
+    sda-part (touches-of (decode w) (both (touchesSda (decode w)) (touchesSda (decode v)) h .0)) (touches-of (decode v) (both (touchesSda (decode w)) (touchesSda (decode v)) h .1)) x
 
 same-part : (w v x : ℕ) → sameButSda w v ≡ true → comparedAnswer (decode w) x ≡ comparedAnswer (decode v) x
 same-part w v x h = part-by w v x (eqb w v) refl h
@@ -102,8 +102,8 @@ ill-formed-runs c d h h′ [] [] a = (refl, refl, refl)
 ill-formed-runs c d h h′ [] (v ∷ vs) a = absurd (true≢false (sym a))
 ill-formed-runs c d h h′ (w ∷ ws) [] a = absurd (true≢false (sym a))
 ill-formed-runs c d h h′ (w ∷ ws) (v ∷ vs) a =
-    let rest = ill-formed-runs c d h h′ ws vs (both-right (sameButSda w v) _ a) in
-    rw (h, h′) (ap₂ _∷_ (same-part w v 0x08000000 (both-left (sameButSda w v) _ a)) (rest .0), rest .1, rest .2)
+    let rest = ill-formed-runs c d h h′ ws vs (both (sameButSda w v) _ a .1) in
+    rw (h, h′) (ap₂ _∷_ (same-part w v 0x08000000 (both (sameButSda w v) _ a .0)) (rest .0), rest .1, rest .2)
 
 stepped-agree : {c d : Chip} {o o′ : Observer} → Related c d o o′ → (t : Bool) → wellFormed c ≡ t → (ws vs : List ℕ) → SeveralTransfers o o′ ws vs
     → Agree ws vs (answers c ws) (answers d vs) (after c ws) (after d vs)

@@ -7,6 +7,7 @@ use native.Mathlib.Omega.{arith}
 use lib.Dec.{ltb}
 use lib.ListN.{length, drop}
 use Rattle.bits.specs.Byte.{pick}
+use Rattle.bits.proofs.Finite.{both}
 use Rattle.events.specs.Word.{decode}
 use Rattle.bus.specs.declared.Mode.the-variants.{Ddc2b}
 use Rattle.bus.specs.declared.Phase.{Phase}
@@ -18,7 +19,6 @@ use Rattle.step.specs.Step.{advance}
 use Rattle.run.specs.Run.{advanced, advancedAnswers, ranTo, ran, ranAnswers}
 use Rattle.isolation.specs.Foreign.{Trace, since, Observer, observerOf, observe, untouched, throughout, equalThroughout, comparedAnswer, comparedAnswers, comparedState, OneTransfer, SeveralTransfers, RunsAgree, CallsAgree, Begun, start-seen, bus-idle}
 use Rattle.isolation.proofs.Related.{Apart, idle, address, Related, related}
-use Rattle.isolation.proofs.Writes.{both-left, both-right}
 use Rattle.isolation.proofs.Runs.{advanced-agree, run-agree}
 
 -- ---- the first state
@@ -42,7 +42,7 @@ untouched-equal : (o o′ : Observer) (ws vs : List ℕ) → throughout untouche
 untouched-equal o o′ [] vs h = refl
 untouched-equal o o′ (w ∷ ws) [] h = refl
 untouched-equal o o′ (w ∷ ws) (v ∷ vs) h =
-    rw (both-left (untouched o (decode w)) _ h) (untouched-equal (observe o (decode w)) (observe o′ (decode v)) ws vs (both-right (untouched o (decode w)) _ h))
+    rw (both (untouched o (decode w)) _ h .0) (untouched-equal (observe o (decode w)) (observe o′ (decode v)) ws vs (both (untouched o (decode w)) _ h .1))
 
 several-of : {o : Observer} {ws vs : List ℕ} → OneTransfer o ws vs → SeveralTransfers o o ws vs
 several-of {o} {ws} {vs} p = record { words = p .words; left = p .left; right = p .right; sda = untouched-equal o o ws vs (p .sda) }

@@ -1,10 +1,11 @@
 -- Related chips stay related at a write, a clock and a polarity (document 01, "Registers" and "Flags, timer, watchdog, reset").
 use Prim.Native.Nat.{ℕ, _+_}
-use mathlib.Core.Path.{_≡_, refl, sym, _∙_}
-use mathlib.Core.Bool.{Bool, true, false, not, _&&_, true≢false}
+use mathlib.Core.Path.{_≡_, refl, _∙_}
+use mathlib.Core.Bool.{Bool, true, false, not, _&&_}
 use lib.Dec.{eqb, ltb}
 use borrow.Author.Tests.{eqb-true, not-true, not-false}
 use Rattle.bits.specs.Byte.{pick, bit}
+use Rattle.bits.proofs.Finite.{both}
 use Rattle.registers.specs.Names.{BTCON, MDCON, HVCON, CLRFLG, CLRWDT, IIADR, IIDAT, IISTS, BT}
 use Rattle.registers.specs.Table.{isWritable}
 use Rattle.events.specs.declared.Decoded.the-variants.{Write, Clock}
@@ -72,14 +73,6 @@ written-related g s x x′ y y′ k o iists b off md =
 written-related g s x x′ y y′ k o bt b off md = related (withBt g (updated BT (g .bt) b)) true s x x′ y y′ k o
 written-related g s x x′ y y′ k o (stored a h ad cw) b off md = rw (h, ad, cw) (related (storedWritten g a b) true s x x′ y y′ k o)
 
-pub both-left : (s t : Bool) → (s && t) ≡ true → s ≡ true
-both-left true t h = refl
-both-left false t h = absurd (true≢false (sym h))
-
-pub both-right : (s t : Bool) → (s && t) ≡ true → t ≡ true
-both-right true t h = h
-both-right false t h = absurd (true≢false (sym h))
-
 -- a write, taken or refused
 write-by-reset : (g : Chip) (z w s x x′ : Bool) (y y′ : ℕ) {n : ℕ} {q q′ : Phase} {t t′ : Trace} → Apart q q′ t t′ → KeptBy g n → (a b : ℕ)
     → (not ((z && w) && turnsOff a b) && not ((z && w) && asksDdc1 a b)) ≡ true
@@ -89,7 +82,7 @@ write-by-reset : (g : Chip) (z w s x x′ : Bool) (y y′ : ℕ) {n : ℕ} {q q�
 write-by-reset g false w s x x′ y y′ k o a b h = related g false s x x′ y y′ k o
 write-by-reset g true false s x x′ y y′ k o a b h = related g true s x x′ y y′ k o
 write-by-reset g true true s x x′ y y′ k o a b h =
-    written-related g s x x′ y y′ k o (known a) b (not-true _ (both-left (not (turnsOff a b)) (not (asksDdc1 a b)) h)) (not-true _ (both-right (not (turnsOff a b)) (not (asksDdc1 a b)) h))
+    written-related g s x x′ y y′ k o (known a) b (not-true _ (both (not (turnsOff a b)) (not (asksDdc1 a b)) h .0)) (not-true _ (both (not (turnsOff a b)) (not (asksDdc1 a b)) h .1))
 
 pub write-related : {c d : Chip} {o o′ : Observer} → Related c d o o′ → (a b : ℕ) → permitted o (Write a b) ≡ true
     → Related (writeRegister c a b) (writeRegister d a b) (observe o (Write a b)) (observe o′ (Write a b))

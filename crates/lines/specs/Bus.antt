@@ -1,8 +1,7 @@
 -- What the lines of the bus do to the chip (document 01, "The bus").
-use Prim.Native.Nat.{ℕ}
-use mathlib.Core.Bool.{Bool, true, false}
+use mathlib.Core.Bool.{Bool, false}
 use lib.Bits.{bitOr}
-use Rattle.bits.specs.Byte.{pick, bit, withBit}
+use Rattle.bits.specs.Byte.{pick, withBit}
 use Rattle.registers.specs.Names.{INTS, INTD, INTA}
 use Rattle.bus.specs.declared.Mode.{Mode}
 use Rattle.bus.specs.declared.Mode.the-variants.{Off, Ddc1, Ddc2b}
@@ -11,9 +10,9 @@ use Rattle.bus.specs.declared.Edge.the-variants.{Flat, Rise, Fall}
 use Rattle.bus.specs.declared.Phase.{Phase}
 use Rattle.bus.specs.declared.Phase.the-variants.{Idle}
 use Rattle.bus.specs.declared.Shifter.{Shifter}
-use Rattle.bus.specs.Lines.{edge, mode, changesMode, line, pullsSda, pullsScl, sdaPulled, sclPulled}
+use Rattle.bus.specs.Lines.{edge, changesMode, line, pullsSda, sdaPulled, sclPulled}
 use Rattle.bus.specs.Ddc1.{loadsAtRise, shifterAtRise}
-use Rattle.bus.specs.Ddc2b.{startStatus, startPhase, stopStatus, phaseAtRise, dataAtRise, matchesAtRise, statusAtRise, holdsAtFall, phaseAtFall, phaseLetGo}
+use Rattle.bus.specs.Ddc2b.{startStatus, startPhase, stopStatus, phaseAtRise, dataAtRise, matchesAtRise, statusAtRise, holdsAtFall, phaseAtFall}
 use Rattle.chip.specs.declared.Bus.{Bus}
 use Rattle.chip.specs.declared.Chip.{Chip}
 use Rattle.chip.specs.State.{busOf, released, modeOf, withBus, withMdcon, withSda, withScl, raised}

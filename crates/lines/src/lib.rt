@@ -1,7 +1,6 @@
 // The lines of the bus at a chip: edges of SCL and SDA, and rises of VSYNCI in DDC1.
 ghost use mathlib.Core.Path.{_≡_};
 ghost use Rattle.lines.specs.Bus.{withPhase, activeMode, busAtMode, busAtRise, sdaLine, sclRise, sclFall, leaveDdc1, onSclDdc1, onSclDdc2b, onScl, sclMoved, started as startedOf, stopped as stoppedOf, onSdaDdc2b, onSda, sdaMoved, busAtVsync, loadsAtVsync};
-ghost use Rattle.bits.specs.Byte.{pick};
 ghost use Rattle.chip.specs.State.{raised as raisedOf};
 use bus::Edge;
 use bus::Mode;
@@ -15,20 +14,14 @@ use registers::INTS;
 use registers::START;
 use registers::STOP;
 
-// Flags set in IRQX.
+// The chip with these flags of IRQX set, whether enabled or not; the others stay.
+// Wrong answers: the other flags cleared; a flag gated by its enable in IEX.
 pub fn raised(c: Chip, flags: u8) -> Chip
     ensures { λ r. ⌜ r ≡ raisedOf c flags ⌝ }
 {
     let mut n = c;
     n.irqx = n.irqx | flags;
     n
-}
-
-// A flag where the test holds, else none.
-pub fn flag_if(test: bool, flag: u8) -> u8
-    ensures { λ r. ⌜ r ≡ pick test flag 0 ⌝ }
-{
-    if test { flag } else { 0 }
 }
 
 fn with_phase(b: Bus, phase: Phase) -> Bus
@@ -44,14 +37,16 @@ fn with_phase(b: Bus, phase: Phase) -> Bus
     }
 }
 
-// The mode, or off while RESET is low.
+// The mode that edges meet: off while RESET is low, whatever ENDDC says.
+// Wrong answers: DDC2B by ENDDC and MD1/2 while RESET is low; off wherever RESET is high.
 pub fn active_mode(c: Chip) -> Mode
     ensures { λ r. ⌜ r ≡ activeMode c ⌝ }
 {
     if c.reset { chip::mode_of(c) } else { Mode::Off }
 }
 
-// The bus where the mode goes from one to another.
+// The bus after the mode goes from one to another: released where the two differ, else as it was.
+// Wrong answers: released where the same mode is set again; the phase kept from DDC1 to DDC2B.
 pub fn bus_at_mode(old: Mode, new: Mode, b: Bus) -> Bus
     ensures { λ r. ⌜ r ≡ busAtMode old new b ⌝ }
 {
@@ -62,7 +57,8 @@ pub fn bus_at_mode(old: Mode, new: Mode, b: Bus) -> Bus
     }
 }
 
-// All that a rise of SCL moves, at the SDA line's level.
+// The bus after a rise of the SCL line in DDC2B, at the SDA line's level: status, II DAT and phase.
+// Wrong answers: II DAT kept at the eighth bit; the register of DDC1 shifted.
 pub fn bus_at_rise(sda: bool, b: Bus) -> Bus
     ensures { λ r. ⌜ r ≡ busAtRise sda b ⌝ }
 {
@@ -77,7 +73,8 @@ pub fn bus_at_rise(sda: bool, b: Bus) -> Bus
     }
 }
 
-// The SDA line at an outside level.
+// The level of the SDA line in DDC2B at an outside level: 0 where the phase pulls it.
+// Wrong answers: the outside level while the chip pulls; 0 in every phase but idle.
 pub fn sda_line(b: Bus, level: bool) -> bool
     ensures { λ r. ⌜ r ≡ sdaLine b level ⌝ }
 {
@@ -91,7 +88,7 @@ fn scl_rise(c: Chip) -> Chip
     let b = c.bus;
     let phase = b.phase;
     let sda = sda_line(b, c.sda);
-    let flags = flag_if(bus::matches_at_rise(b.iiadr, sda, phase), INTA);
+    let flags = bits::weight_if(bus::matches_at_rise(b.iiadr, sda, phase), INTA);
     let mut n = raised(c, flags);
     let after = bus_at_rise(sda, b);
     n.bus = after;
@@ -103,7 +100,7 @@ fn scl_fall(c: Chip) -> Chip
 {
     let b = c.bus;
     let phase = b.phase;
-    let flags = flag_if(bus::holds_at_fall(phase), INTD);
+    let flags = bits::weight_if(bus::holds_at_fall(phase), INTD);
     let mut n = raised(c, INTS | flags);
     let after = with_phase(b, bus::phase_at_fall(phase));
     n.bus = after;
@@ -151,7 +148,8 @@ fn on_scl(mode: Mode, e: Edge, c: Chip) -> Chip
     }
 }
 
-// SCL's outside level is put.
+// SCL's outside level is put. An edge is one of the line: while the chip holds SCL there is none.
+// Wrong answers: an outside fall taken for an edge while SCL is held; D set by each fall, for S.
 pub fn scl_moved(c: Chip, level: bool) -> Chip
     ensures { λ r. ⌜ r ≡ sclMoved c level ⌝ }
 {
@@ -226,7 +224,8 @@ fn on_sda(mode: Mode, high: bool, e: Edge, c: Chip) -> Chip
     }
 }
 
-// SDA's outside level is put.
+// SDA's outside level is put. With the SCL line high, a fall of the SDA line is a START and a rise a STOP.
+// Wrong answers: a rise taken for a START; a START seen while SCL is low.
 pub fn sda_moved(c: Chip, level: bool) -> Chip
     ensures { λ r. ⌜ r ≡ sdaMoved c level ⌝ }
 {
@@ -245,7 +244,8 @@ pub fn sda_moved(c: Chip, level: bool) -> Chip
     on_sda(mode, high, e, n)
 }
 
-// The bus at a rise of VSYNCI.
+// The bus after a rise of VSYNCI: in DDC1 the register shifts or loads, else nothing moves.
+// Wrong answers: shifted in DDC2B too; the phase set idle.
 pub fn bus_at_vsync(mode: Mode, b: Bus) -> Bus
     ensures { λ r. ⌜ r ≡ busAtVsync mode b ⌝ }
 {
@@ -270,7 +270,8 @@ fn bus_shifted(b: Bus) -> Bus
     }
 }
 
-// A rise of VSYNCI loads II DAT.
+// A rise of VSYNCI loads II DAT: in DDC1, with no edges left.
+// Wrong answers: true in DDC2B; true on the first rise.
 pub fn loads_at_vsync(mode: Mode, s: Shifter) -> bool
     ensures { λ r. ⌜ r ≡ loadsAtVsync mode s ⌝ }
 {

@@ -1,9 +1,9 @@
 -- The list call: 0, 8 or 7, each exactly when; what it leaves then; and an empty list.
 -- Assumes nothing.
 use Prim.Native.Nat.{ℕ}
-use mathlib.Core.Path.{_≡_, refl, sym, ap, ap₂, _∙_}
+use mathlib.Core.Path.{_≡_, refl, sym, ap}
 use mathlib.Core.Bool.{Bool, true, false, not, _&&_}
-use mathlib.Core.List.{List, [], _∷_, _++_}
+use mathlib.Core.List.{List, [], _++_}
 use native.Mathlib.Omega.{arith}
 use lib.Dec.{eqb, ltb}
 use lib.ListN.{length, drop}
@@ -11,8 +11,7 @@ use borrow.Author.Tests.{le-ltb}
 use Rattle.bits.specs.Byte.{pick}
 use Rattle.chip.specs.declared.Chip.{Chip}
 use Rattle.chip.specs.Form.{wellFormed}
-use Rattle.run.specs.declared.Ran.{Ran}
-use Rattle.run.specs.Run.{after, answers, advanced, advancedAnswers, ran, ranAnswers, ranTo}
+use Rattle.run.specs.Run.{advanced, ran, ranAnswers, ranTo}
 use Rattle.listcall.specs.Calls.{WordByWord, Untouched}
 use Rattle.listcall.proofs.Runs.{after-advanced, answers-advanced}
 

@@ -1,14 +1,12 @@
 -- A run by the step: from a well formed chip it needs no test of the state, and from an ill formed one nothing happens.
 -- Assumes nothing.
 use Prim.Native.Nat.{ℕ}
-use mathlib.Core.Path.{_≡_, refl, sym, ap, ap₂, _∙_}
-use mathlib.Core.Bool.{Bool, true, false}
+use mathlib.Core.Path.{_≡_, refl, ap}
+use mathlib.Core.Bool.{true, false}
 use mathlib.Core.List.{List, [], _∷_, map}
-use Rattle.bits.specs.Byte.{pick}
 use Rattle.events.specs.Word.{decode}
 use Rattle.chip.specs.declared.Chip.{Chip}
 use Rattle.chip.specs.Form.{wellFormed}
-use Rattle.step.specs.declared.Stepped.{Stepped}
 use Rattle.step.specs.Step.{step, advance}
 use Rattle.invariant.proofs.WellFormed.{advance-well-formed, step-well-formed}
 use Rattle.run.specs.Run.{after, answers, advanced, advancedAnswers}

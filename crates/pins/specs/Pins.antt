@@ -1,6 +1,6 @@
 -- What a pin's outside level does (document 01, "Event words", "Ports", "Flags, timer, watchdog, reset", "Counting sync").
 use Prim.Native.Nat.{ℕ}
-use mathlib.Core.Bool.{Bool, true, false, not, _&&_}
+use mathlib.Core.Bool.{Bool, not, _&&_}
 use lib.Bits.{bitOr}
 use lib.Dec.{eqb, ltb}
 use Rattle.bits.specs.Byte.{pick, bit, withBit}

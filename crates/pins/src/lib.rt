@@ -20,7 +20,8 @@ pub enum PinKind {
     Reset,
 }
 
-// Which pin a number is.
+// What the pin of this number is; 15, which no event has, counts to port 1, and numbers above 28 to RESET.
+// Wrong answers: pin 13, which is P15, taken for P16; HSYNCI and VSYNCI exchanged.
 pub fn pin_kind(p: u8) -> PinKind
     ensures { λ r. ⌜ r ≡ pinKind p ⌝ }
 {
@@ -83,7 +84,7 @@ fn p16_moved(c: Chip, level: bool) -> Chip
     ensures { λ r. ⌜ r ≡ p16Moved c level ⌝ }
 {
     let rise = rises(c.reset, bits::bit(6, c.pins.port1), level);
-    let flags = lines::flag_if(rise, INTE);
+    let flags = bits::weight_if(rise, INTE);
     port1_moved(lines::raised(c, flags), 14, level)
 }
 
@@ -124,7 +125,7 @@ fn vsync_rise(c: Chip) -> Chip
     let shifter = b.shifter;
     let counters = c.sync;
     let mode = chip::mode_of(c);
-    let flags = lines::flag_if(lines::loads_at_vsync(mode, shifter), INTD);
+    let flags = bits::weight_if(lines::loads_at_vsync(mode, shifter), INTD);
     let mut n = lines::raised(c, INTV | flags);
     let latched = sync::on_vsync(chip::hsel(c), counters);
     n.sync = latched;
@@ -179,7 +180,8 @@ fn pin_moved_as(kind: PinKind, c: Chip, p: u8, level: bool) -> Chip
     }
 }
 
-// A pin's outside level is put.
+// The chip after a pin's outside level is put. While RESET is low only the level moves.
+// Wrong answers: lines counted while RESET is low; flag E set by a fall of P16.
 pub fn pin_moved(c: Chip, p: u8, level: bool) -> Chip
     ensures { λ r. ⌜ r ≡ pinMoved c p level ⌝ }
 {

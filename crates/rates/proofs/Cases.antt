@@ -7,6 +7,7 @@ use lib.Dec.{eqb}
 use borrow.Author.Needs.{needs}
 use borrow.Author.Tests.{eqb-true, eqb-false}
 use Rattle.bits.specs.Byte.{pick}
+use Rattle.bits.proofs.Finite.{neither}
 use Rattle.sync.specs.Sync.{wellSync}
 use Rattle.sync.specs.declared.Sync.{Sync}
 use Rattle.sync.proofs.WellFormed.{SyncFits, fits}
@@ -18,10 +19,6 @@ use Rattle.rates.proofs.Hertz.{field-between, interval-exact}
 -- a latch that is not 0
 pub positive : (n : ℕ) → eqb n 0 ≡ false → 1 ≤ n
 positive n e = let other = eqb-false n 0 e in omega arith
-
-neither : (a b : Bool) → (a || b) ≡ false → (a ≡ false) × (b ≡ false)
-neither true b e = (e, cc)
-neither false b e = (refl, e)
 
 pub both-positive : (m n : ℕ) → (eqb m 0 || eqb n 0) ≡ false → (1 ≤ m) × (1 ≤ n)
 both-positive m n e = let none = neither (eqb m 0) (eqb n 0) e in (positive m (none .0), positive n (none .1))

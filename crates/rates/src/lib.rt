@@ -96,6 +96,7 @@ fn by_field(h: LineCounter, v: PeriodCounter) -> Rate
 }
 
 // The report on the field rate.
+// Wrong answers: 125,001 divided by the latch; a latch of 0 told before an overflow.
 pub fn field_rate(s: Sync) -> Rate
     ensures { λ r. ⌜ (r ≡ fieldReport s) × FieldCase s r ⌝ }
 {
@@ -108,6 +109,7 @@ pub fn field_rate(s: Sync) -> Rate
 }
 
 // The report on the line rate, HSEL being this.
+// Wrong answers: HSEL taken inverted; 122.07 for 15625/128.
 pub fn line_rate(s: Sync, hsel: bool) -> Rate
     ensures { λ r. ⌜ (r ≡ lineReport s hsel) × LineCase s hsel r ⌝ }
 {

@@ -42,7 +42,8 @@ fn hertz(rate: Rate) -> f64
     }
 }
 
-// The field rate, v being the VCNT latch.
+// The field rate, v being the VCNT latch; 0 where there is none.
+// Wrong answers: infinity where v is 0; a rate for a latch of 4096.
 #[no_mangle]
 pub extern "C" fn nt6861_field_rate(v: u16) -> f64
     ensures { λ r. ⌜ r ≡ hertzOf (fieldReport (latchesOf 0 v)) ⌝ }
@@ -52,7 +53,8 @@ pub extern "C" fn nt6861_field_rate(v: u16) -> f64
     hertz(rate)
 }
 
-// The line rate at HSEL 0, h being the HCNT latch.
+// The line rate at HSEL 0, h being the HCNT latch; 0 where there is none.
+// Wrong answers: the rate over a field; a rate for a latch of 4096.
 #[no_mangle]
 pub extern "C" fn nt6861_interval_rate(h: u16) -> f64
     ensures { λ r. ⌜ r ≡ hertzOf (lineReport (latchesOf h 0) false) ⌝ }
@@ -62,7 +64,8 @@ pub extern "C" fn nt6861_interval_rate(h: u16) -> f64
     hertz(rate)
 }
 
-// The line rate at HSEL 1.
+// The line rate at HSEL 1, h and v being the latches of HCNT and VCNT; 0 where there is none.
+// Wrong answers: the rate at HSEL 0; the latches exchanged.
 #[no_mangle]
 pub extern "C" fn nt6861_line_rate(h: u16, v: u16) -> f64
     ensures { λ r. ⌜ r ≡ hertzOf (lineReport (latchesOf h v) true) ⌝ }

@@ -11,6 +11,7 @@ pub enum Scan {
 }
 
 // The report. An ill formed state is told before all else.
+// Wrong answers: HSEL taken for 1; an overflow told of an ill formed state.
 pub fn rate(c: Chip, scan: Scan) -> Rate
     ensures { λ r. ⌜ (r ≡ rateReport c scan) × RateCase c scan r ⌝ }
 {

@@ -1,6 +1,6 @@
 // The list call: words in a lent slice, answers in another.
 ghost use mathlib.Core.Path.{_≡_};
-ghost use Prim.Native.Nat.{ℕ, _≤_};
+ghost use Prim.Native.Nat.{_≤_};
 ghost use mathlib.Core.List.{_++_};
 ghost use lib.ListN.{length, drop};
 ghost use Rattle.run.specs.Run.{advanced, advancedAnswers, ran, ranAnswers};
@@ -29,6 +29,7 @@ fn run_all(c: Chip, words: &[u32], answers: &mut [u32]) -> Chip
 }
 
 // The list call. It tests the state once, answers word by word, and writes nothing where it is refused.
+// Wrong answers: each word given to the first state; a place past the words written.
 pub fn run(c: Chip, words: &[u32], answers: &mut [u32]) -> Ran
     ensures { λ r. ⌜ (r ≡ ran c (now (words .entry)) (now (answers .entry))) × (now (answers .exit) ≡ ranAnswers c (now (words .entry)) (now (answers .entry))) ⌝ }
 {

@@ -1,6 +1,6 @@
 -- The step: what each event does to the chip and what is answered (document 01, "Event words" and "Numbers given back").
 use Prim.Native.Nat.{ℕ}
-use mathlib.Core.Bool.{Bool, true, false, not, _&&_}
+use mathlib.Core.Bool.{Bool, false, not, _&&_}
 use lib.Dec.{eqb}
 use Rattle.bits.specs.Byte.{pick}
 use Rattle.events.specs.declared.Decoded.{Decoded}

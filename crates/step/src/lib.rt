@@ -94,7 +94,8 @@ fn refused_outcome(c: Chip, number: u8) -> Outcome
     }
 }
 
-// All that an event does at a chip.
+// What an event does at a chip, a refused word included: it moves nothing and gives its number.
+// Wrong answers: a fall of VSYNCI told as a reset; the watchdog reset told on a base clock.
 pub fn carry_out(c: Chip, event: Decoded) -> Outcome
     ensures { λ r. ⌜ r ≡ outcomeOf c event ⌝ }
 {
@@ -108,7 +109,8 @@ pub fn carry_out(c: Chip, event: Decoded) -> Outcome
     }
 }
 
-// The step without the test of the state, over a decoded event.
+// The step over a decoded event, without the test of the state: the list call makes that once.
+// Wrong answers: the requests of the state before; the same answer to every event.
 pub fn advance(c: Chip, event: Decoded) -> Stepped
     ensures { λ r. ⌜ r ≡ advanceOf c event ⌝ }
 {
@@ -121,6 +123,7 @@ pub fn advance(c: Chip, event: Decoded) -> Stepped
 }
 
 // The step: the next chip and the answer word, for every state and word.
+// Wrong answers: an ill formed state answered 7; the word carried out at an ill formed state.
 pub fn step(c: Chip, word: u32) -> Stepped
     ensures { λ r. ⌜ r ≡ stepOf c word ⌝ }
 {

@@ -1,11 +1,12 @@
 -- Each operation on the sync counters keeps them well formed.
 use Prim.Native.Nat.{ℕ, _<_}
 use mathlib.Core.Path.{_≡_, refl}
-use mathlib.Core.Bool.{Bool, true, false, _&&_}
+use mathlib.Core.Bool.{Bool, true, false}
 use native.Mathlib.Omega.{arith}
 use lib.Dec.{ltb}
 use borrow.Author.Tests.{ltb-true, lt-ltb}
 use Rattle.bits.specs.Byte.{pick}
+use Rattle.bits.proofs.Finite.{both}
 use Rattle.sync.specs.Count.{counted}
 use Rattle.sync.specs.Sync.{stepLines, latchLines, clearLines, zeroLines, stepPeriods, latchPeriods, clearPeriods, onHsync, linesOnVsync, onVsync, intervalNext, linesOnPeriod, onPeriod, hselCleared, clearOverflow, zeroSync, wellSync}
 use Rattle.sync.specs.declared.LineCounter.{LineCounter}
@@ -27,10 +28,6 @@ pub record SyncFits (s : Sync) : Type 0 where
   pub lines : LinesFit (s .lines)
   pub periods : PeriodsFit (s .periods)
   pub interval : s .interval < 1024
-
-both : (a b : Bool) → (a && b) ≡ true → (a ≡ true) × (b ≡ true)
-both true b h = (refl, h)
-both false b h = (h, cc)
 
 pub fits : (s : Sync) → wellSync s ≡ true → SyncFits s
 unfolding wellSync

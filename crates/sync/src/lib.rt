@@ -36,6 +36,7 @@ const COUNT_LAST: u16 = 4095;
 const INTERVAL_LAST: u16 = 1023;
 
 // The count after a step that is due.
+// Wrong answers: 0 after the last value; a step taken in overflow.
 pub fn counted(last: u16, overflow: bool, count: u16) -> u16
     ensures { λ r. ⌜ r ≡ countedOf last overflow count ⌝ }
 {
@@ -46,6 +47,7 @@ pub fn counted(last: u16, overflow: bool, count: u16) -> u16
 }
 
 // The overflow bit after a step that is due.
+// Wrong answers: set by the step to the last value; an overflow bit dropped by the next step.
 pub fn overflowed(last: u16, overflow: bool, count: u16) -> bool
     ensures { λ r. ⌜ r ≡ overflowedOf last overflow count ⌝ }
 {
@@ -53,6 +55,7 @@ pub fn overflowed(last: u16, overflow: bool, count: u16) -> bool
 }
 
 // The latch after latching.
+// Wrong answers: the count latched in overflow too; 0, the count being zeroed first.
 pub fn latched(overflow: bool, count: u16, latch: u16) -> u16
     ensures { λ r. ⌜ r ≡ latchedOf overflow count latch ⌝ }
 {
@@ -60,6 +63,7 @@ pub fn latched(overflow: bool, count: u16, latch: u16) -> u16
 }
 
 // The count after latching.
+// Wrong answers: 0 in overflow too; the count kept once latched.
 pub fn zeroed(overflow: bool, count: u16) -> u16
     ensures { λ r. ⌜ r ≡ zeroedOf overflow count ⌝ }
 {
@@ -67,6 +71,7 @@ pub fn zeroed(overflow: bool, count: u16) -> u16
 }
 
 // The next value of a count that runs on from 0.
+// Wrong answers: the last value kept; 1 after the last value.
 pub fn cycle_next(last: u16, n: u16) -> u16
     ensures { λ r. ⌜ r ≡ cycleNext last n ⌝ }
 {
@@ -74,6 +79,7 @@ pub fn cycle_next(last: u16, n: u16) -> u16
 }
 
 // HCNT steps.
+// Wrong answers: overflow at the 4,095th step; two added to the count.
 pub fn step_lines(c: LineCounter) -> LineCounter
     ensures { λ r. ⌜ r ≡ stepLines c ⌝ }
 {
@@ -86,6 +92,7 @@ pub fn step_lines(c: LineCounter) -> LineCounter
 }
 
 // HCNT is latched and zeroed.
+// Wrong answers: latched in overflow; the count kept once latched.
 pub fn latch_lines(c: LineCounter) -> LineCounter
     ensures { λ r. ⌜ r ≡ latchLines c ⌝ }
 {
@@ -96,7 +103,8 @@ pub fn latch_lines(c: LineCounter) -> LineCounter
     }
 }
 
-// CLRFLG bit 7.
+// CLRFLG bit 7: a 1 clears HCNTOV and sets HCNT to 0.
+// Wrong answers: the bit cleared and the count kept; the latch zeroed too.
 pub fn clear_lines(bit: bool, c: LineCounter) -> LineCounter
     ensures { λ r. ⌜ r ≡ clearLines bit c ⌝ }
 {
@@ -112,7 +120,8 @@ pub fn clear_lines(bit: bool, c: LineCounter) -> LineCounter
     }
 }
 
-// HSEL from 1 to 0.
+// HCNT where HSEL goes from 1 to 0: zeroed, in overflow too.
+// Wrong answers: the overflow bit cleared too; the count kept in overflow.
 pub fn zero_lines(c: LineCounter) -> LineCounter
     ensures { λ r. ⌜ r ≡ zeroLines c ⌝ }
 {
@@ -125,6 +134,7 @@ pub fn zero_lines(c: LineCounter) -> LineCounter
 }
 
 // VCNT steps.
+// Wrong answers: 0 after 4095; a step taken in overflow.
 pub fn step_periods(c: PeriodCounter) -> PeriodCounter
     ensures { λ r. ⌜ r ≡ stepPeriods c ⌝ }
 {
@@ -137,6 +147,7 @@ pub fn step_periods(c: PeriodCounter) -> PeriodCounter
 }
 
 // VCNT is latched and zeroed.
+// Wrong answers: latched after zeroing, which gives 0; latched in overflow.
 pub fn latch_periods(c: PeriodCounter) -> PeriodCounter
     ensures { λ r. ⌜ r ≡ latchPeriods c ⌝ }
 {
@@ -147,7 +158,8 @@ pub fn latch_periods(c: PeriodCounter) -> PeriodCounter
     }
 }
 
-// CLRFLG bit 6.
+// CLRFLG bit 6: a 1 clears VCNTOV and sets VCNT to 0.
+// Wrong answers: a 0 taken for the clearing; the latch zeroed too.
 pub fn clear_periods(bit: bool, c: PeriodCounter) -> PeriodCounter
     ensures { λ r. ⌜ r ≡ clearPeriods bit c ⌝ }
 {
@@ -164,6 +176,7 @@ pub fn clear_periods(bit: bool, c: PeriodCounter) -> PeriodCounter
 }
 
 // A rise of HSYNCI.
+// Wrong answers: VCNT stepped; HCNT latched at each line.
 pub fn on_hsync(s: Sync) -> Sync
     ensures { λ r. ⌜ r ≡ onHsync s ⌝ }
 {
@@ -177,6 +190,7 @@ pub fn on_hsync(s: Sync) -> Sync
 }
 
 // HCNT at a rise of VSYNCI.
+// Wrong answers: latched where HSEL is 0; zeroed and not latched.
 pub fn lines_on_vsync(hsel: bool, c: LineCounter) -> LineCounter
     ensures { λ r. ⌜ r ≡ linesOnVsync hsel c ⌝ }
 {
@@ -184,6 +198,7 @@ pub fn lines_on_vsync(hsel: bool, c: LineCounter) -> LineCounter
 }
 
 // A rise of VSYNCI.
+// Wrong answers: HSEL taken inverted; VCNT latched only where HSEL is 1.
 pub fn on_vsync(hsel: bool, s: Sync) -> Sync
     ensures { λ r. ⌜ r ≡ onVsync hsel s ⌝ }
 {
@@ -197,6 +212,7 @@ pub fn on_vsync(hsel: bool, s: Sync) -> Sync
 }
 
 // The interval after an 8 µs clock.
+// Wrong answers: an interval of 1,023 periods; the interval run on where HSEL is 1.
 pub fn interval_next(hsel: bool, n: u16) -> u16
     ensures { λ r. ⌜ r ≡ intervalNext hsel n ⌝ }
 {
@@ -208,6 +224,7 @@ pub fn interval_next(hsel: bool, n: u16) -> u16
 }
 
 // HCNT at an 8 µs clock: the 1,024th ends the interval.
+// Wrong answers: latched at the 1,023rd clock; latched where HSEL is 1.
 pub fn lines_on_period(hsel: bool, n: u16, c: LineCounter) -> LineCounter
     ensures { λ r. ⌜ r ≡ linesOnPeriod hsel n c ⌝ }
 {
@@ -218,6 +235,7 @@ pub fn lines_on_period(hsel: bool, n: u16, c: LineCounter) -> LineCounter
 }
 
 // An 8 µs clock.
+// Wrong answers: VCNT stepped only where HSEL is 0; the interval standing while HCNT is in overflow.
 pub fn on_period(hsel: bool, s: Sync) -> Sync
     ensures { λ r. ⌜ r ≡ onPeriod hsel s ⌝ }
 {
@@ -231,6 +249,7 @@ pub fn on_period(hsel: bool, s: Sync) -> Sync
 }
 
 // HSEL has changed from 1 to 0.
+// Wrong answers: the overflow bit of HCNT cleared; the interval kept.
 pub fn hsel_cleared(s: Sync) -> Sync
     ensures { λ r. ⌜ r ≡ hselCleared s ⌝ }
 {
@@ -244,6 +263,7 @@ pub fn hsel_cleared(s: Sync) -> Sync
 }
 
 // CLRFLG written with these bits 7 and 6.
+// Wrong answers: the two bits exchanged; the interval zeroed too.
 pub fn clear_overflow(h: bool, v: bool, s: Sync) -> Sync
     ensures { λ r. ⌜ r ≡ clearOverflow h v s ⌝ }
 {
@@ -257,6 +277,7 @@ pub fn clear_overflow(h: bool, v: bool, s: Sync) -> Sync
 }
 
 // All zero, as after a reset.
+// Wrong answers: the interval at its last value; an overflow bit set.
 pub fn zero_sync() -> Sync
     ensures { λ r. ⌜ r ≡ zeroSync ⌝ }
 {
@@ -276,6 +297,7 @@ pub fn zero_sync() -> Sync
 }
 
 // Counts, latches and interval are within their ranges.
+// Wrong answers: true for a count of 4096; false for an interval of 1023.
 pub fn well_sync(s: Sync) -> bool
     ensures { λ r. ⌜ r ≡ wellSync s ⌝ }
 {
@@ -287,6 +309,7 @@ pub fn well_sync(s: Sync) -> bool
 }
 
 // The base timer after its clock.
+// Wrong answers: 255 kept; 1 after 255.
 pub fn timer_next(n: u8) -> u8
     ensures { λ r. ⌜ r ≡ timerNext n ⌝ }
 {
@@ -294,6 +317,7 @@ pub fn timer_next(n: u8) -> u8
 }
 
 // The base timer's clock sets flag R.
+// Wrong answers: true at 254, the step to FF; false at 255, the step being to 0.
 pub fn timer_overflows(n: u8) -> bool
     ensures { λ r. ⌜ r ≡ timerOverflows n ⌝ }
 {
@@ -301,6 +325,7 @@ pub fn timer_overflows(n: u8) -> bool
 }
 
 // The watchdog after its clock.
+// Wrong answers: 64 after 63; 0 after each clock.
 pub fn watchdog_next(n: u8) -> u8
     ensures { λ r. ⌜ r ≡ watchdogNext n ⌝ }
 {
@@ -308,6 +333,7 @@ pub fn watchdog_next(n: u8) -> u8
 }
 
 // The watchdog's clock resets the chip.
+// Wrong answers: true at 62, the 63rd clock; false at 63, which is in range.
 pub fn watchdog_fires(n: u8) -> bool
     ensures { λ r. ⌜ r ≡ watchdogFires n ⌝ }
 {

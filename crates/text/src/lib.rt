@@ -6,6 +6,7 @@ ghost use lib.ListN.{length, take, drop, getD};
 ghost use Rattle.run.specs.Run.{advanced, advancedAnswers};
 ghost use Rattle.text.specs.Text.{hexDigit, hexLine, hexLines, wordsOf, leftOverAnswer, answered, answeredText};
 use chip::Chip;
+use step::Stepped;
 
 // What a block gives: the chip after its words, and the bytes of text written.
 pub struct Answered {
@@ -71,14 +72,18 @@ fn answer_words(start: Chip, bytes: &[u8], text: &mut [u8]) -> Chip
     requires { ⌜ 9 * (length (now bytes) / 4) ≤ length (now text) ⌝ }
     ensures { λ r. ⌜ (r ≡ advanced start (wordsOf (now (bytes .entry)))) × (now (text .exit) ≡ hexLines (advancedAnswers start (wordsOf (now (bytes .entry)))) ++ drop (9 * (length (now (bytes .entry)) / 4)) (now (text .entry))) ⌝ }
 {
-    let mut c = start;
+    let mut r = Stepped {
+        chip: start,
+        answer: 0,
+    };
     let mut i = 0;
     while i < bytes.len() / 4 {
-        let r = step::advance(c, events::decode(word_at(bytes, i)));
+        let c = r.chip;
+        r = step::advance(c, events::decode(word_at(bytes, i)));
         put_line(text, 9 * i, r.answer);
-        c = r.chip;
         i += 1;
     }
+    let c = r.chip;
     c
 }
 

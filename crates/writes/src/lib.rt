@@ -26,7 +26,8 @@ pub enum Target {
     Bt,
 }
 
-// What a write to a register does.
+// What a write to this address does.
+// Wrong answers: HVCON only stored, its polarities not moved; CLRWDT taken for CLRFLG.
 pub fn target_of(a: u8) -> Target
     ensures { λ r. ⌜ r ≡ target a ⌝ }
 {
@@ -80,17 +81,17 @@ fn mdcon_written(c: Chip, b: u8) -> Chip
     let old = c.mdcon;
     let new = updated(MDCON, old, b);
     let counters = c.sync;
-    let lines = c.bus;
+    let wires = c.bus;
     let mut n = c;
     n.mdcon = new;
     let after = sync_at_hsel(bits::bit(2, old), bits::bit(2, new), counters);
     n.sync = after;
-    let wires = lines::bus_at_mode(
-        bus::mode_of(lines.iists, old),
-        bus::mode_of(lines.iists, new),
-        lines,
+    let moved = lines::bus_at_mode(
+        bus::mode_of(wires.iists, old),
+        bus::mode_of(wires.iists, new),
+        wires,
     );
-    n.bus = wires;
+    n.bus = moved;
     n
 }
 
@@ -135,67 +136,67 @@ fn status_written(old: u8, b: u8) -> u8
 fn iists_written(c: Chip, b: u8) -> Chip
     ensures { λ r. ⌜ r ≡ iistsWritten c b ⌝ }
 {
-    let mut lines = c.bus;
-    let old = lines.iists;
+    let mut wires = c.bus;
+    let old = wires.iists;
     let new = status_written(old, b);
-    lines.iists = new;
+    wires.iists = new;
     let after = lines::bus_at_mode(
         bus::mode_of(old, c.mdcon),
         bus::mode_of(new, c.mdcon),
-        lines,
+        wires,
     );
     let mut n = c;
     n.bus = after;
     n
 }
 
-fn with_iidat(b: u8, lines: Bus) -> Bus
-    ensures { λ r. ⌜ r ≡ withIidat b lines ⌝ }
+fn with_iidat(b: u8, wires: Bus) -> Bus
+    ensures { λ r. ⌜ r ≡ withIidat b wires ⌝ }
 {
-    let mut n = lines;
+    let mut n = wires;
     n.iidat = updated(IIDAT, n.iidat, b);
     n
 }
 
-fn bus_let_go(b: u8, lines: Bus) -> Bus
-    ensures { λ r. ⌜ r ≡ busLetGo b lines ⌝ }
+fn bus_let_go(b: u8, wires: Bus) -> Bus
+    ensures { λ r. ⌜ r ≡ busLetGo b wires ⌝ }
 {
-    let shifter = lines.shifter;
+    let shifter = wires.shifter;
     Bus {
-        iists: lines.iists,
-        iiadr: lines.iiadr,
-        iidat: updated(IIDAT, lines.iidat, b),
-        phase: bus::phase_let_go(bits::bit(2, lines.iists), b),
+        iists: wires.iists,
+        iiadr: wires.iiadr,
+        iidat: updated(IIDAT, wires.iidat, b),
+        phase: bus::phase_let_go(bits::bit(2, wires.iists), b),
         shifter: shifter,
     }
 }
 
-fn bus_risen(scl: bool, sda: bool, lines: Bus) -> Bus
-    ensures { λ r. ⌜ r ≡ busRisen scl sda lines ⌝ }
+fn bus_risen(scl: bool, sda: bool, wires: Bus) -> Bus
+    ensures { λ r. ⌜ r ≡ busRisen scl sda wires ⌝ }
 {
     if scl {
-        lines::bus_at_rise(lines::sda_line(lines, sda), lines)
+        lines::bus_at_rise(lines::sda_line(wires, sda), wires)
     } else {
-        lines
+        wires
     }
 }
 
-fn bus_at_iidat(scl: bool, sda: bool, b: u8, lines: Bus) -> Bus
-    ensures { λ r. ⌜ r ≡ busAtIidat scl sda b lines ⌝ }
+fn bus_at_iidat(scl: bool, sda: bool, b: u8, wires: Bus) -> Bus
+    ensures { λ r. ⌜ r ≡ busAtIidat scl sda b wires ⌝ }
 {
-    let phase = lines.phase;
+    let phase = wires.phase;
     if bus::pulls_scl(phase) {
-        bus_risen(scl, sda, bus_let_go(b, lines))
+        bus_risen(scl, sda, bus_let_go(b, wires))
     } else {
-        with_iidat(b, lines)
+        with_iidat(b, wires)
     }
 }
 
 fn iidat_written(c: Chip, b: u8) -> Chip
     ensures { λ r. ⌜ r ≡ iidatWritten c b ⌝ }
 {
-    let lines = c.bus;
-    let after = bus_at_iidat(c.scl, c.sda, b, lines);
+    let wires = c.bus;
+    let after = bus_at_iidat(c.scl, c.sda, b, wires);
     let mut n = c;
     n.bus = after;
     n
@@ -233,14 +234,16 @@ fn bt_written(c: Chip, b: u8) -> Chip
     n
 }
 
-// The chip after a write that is taken.
+// The chip after a write that is taken: the byte under the write mask, and what else the register does.
+// Wrong answers: a flag cleared by a 0 in CLRFLG; the phase kept where MD1/2 changes.
 pub fn written(c: Chip, a: u8, b: u8) -> Chip
     ensures { λ r. ⌜ r ≡ writtenOf c a b ⌝ }
 {
     written_to(target_of(a), c, a, b)
 }
 
-// The number of a write: 0 where it is taken.
+// The number of a write: 0 where it is taken, 4 while RESET is low, 6 for a read-only register.
+// Wrong answers: 5 for a read-only register; 6 while RESET is low.
 pub fn write_number(c: Chip, a: u8) -> u8
     ensures { λ r. ⌜ r ≡ writeNumber c a ⌝ }
 {
@@ -251,7 +254,8 @@ pub fn write_number(c: Chip, a: u8) -> u8
     }
 }
 
-// The chip after a write, taken or refused.
+// The chip after a write, taken or refused; a refused one changes nothing.
+// Wrong answers: a write carried out while RESET is low; the watchdog cleared by 54H.
 pub fn write_register(c: Chip, a: u8, b: u8) -> Chip
     ensures { λ r. ⌜ r ≡ writeRegister c a b ⌝ }
 {

@@ -1,7 +1,6 @@
 -- `capi::nt6861_run` meets its contract.
 -- Assumes nothing.
-use mathlib.Core.Path.{_≡_, ap, _∙_}
-use Prim.Native.Nat.{ℕ}
+use mathlib.Core.Path.{ap}
 use borrow.Author.Needs.{needs}
 use Rattle.run.specs.declared.Ran.{Ran}
 use Rattle.capi.proofs.nt6861_run.Statement.{statement}

@@ -14,4 +14,4 @@ hvcon-spec =
     (λ c κs. search needs)
     (λ c κs. search needs)
     (λ c κs. search needs)
-    (λ c. simp (c .before .weight4 .ensures, c .before .before .weight3 .ensures, c .before .before .before .weight2 .ensures, c .before .before .before .before .weight .ensures)))
+    (λ c. simp (c .before .weight-if4 .ensures, c .before .before .weight-if3 .ensures, c .before .before .before .weight-if2 .ensures, c .before .before .before .before .weight-if .ensures)))

@@ -15,5 +15,5 @@ port3-spec =
     (λ c κs. search needs)
     (λ c κs. search needs)
     (λ c κs. search needs)
-    (λ c. simp (c .weight2 .ensures, c .before .weight .ensures, ← (c .before .before .before .bit .ensures), c .before .before .if1 .taken))
+    (λ c. simp (c .weight-if2 .ensures, c .before .weight-if .ensures, ← (c .before .before .before .bit .ensures), c .before .before .if1 .taken))
     (λ c. simp (← (c .before .bit .ensures), c .if1 .left)))

@@ -5,8 +5,9 @@ use mathlib.Core.Bool.{true}
 use Prim.Native.Nat.{_≤_, _-_}
 use native.Mathlib.Omega.{arith}
 use borrow.Author.Needs.{needs}
-use Rattle.chip.specs.Form.{allBelow, reservedAt}
-use Rattle.chip.proofs.Below.{all-more, all-false}
+use Rattle.bits.specs.Finite.{allBelow}
+use Rattle.bits.proofs.Finite.{all-more, all-false}
+use Rattle.chip.specs.Form.{reservedAt}
 use Rattle.chip.proofs.reserved.Statement.{statement}
 use Rattle.chip.proofs.reserved.Tie as tie
 

@@ -14,4 +14,4 @@ timer-step-spec =
     (λ c κs. search needs)
     (λ c κs. search needs)
     (λ c κs. search needs)
-    (λ c. simp (c .timer-next .ensures, c .before .raised .ensures, c .before .before .flag-if .ensures, c .before .before .before .timer-overflows .ensures)))
+    (λ c. simp (c .timer-next .ensures, c .before .raised .ensures, c .before .before .weight-if .ensures, c .before .before .before .timer-overflows .ensures)))

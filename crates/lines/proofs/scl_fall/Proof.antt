@@ -15,4 +15,4 @@ scl-fall-spec =
     (λ c κs. search needs)
     (λ c κs. search needs)
     (λ c κs. search needs)
-    (λ c. simp (c .with-phase .ensures, c .before .phase-at-fall .ensures, c .before .before .raised .ensures, c .before .before .before .flag-if .ensures, c .before .before .before .before .holds-at-fall .ensures)))
+    (λ c. simp (c .with-phase .ensures, c .before .phase-at-fall .ensures, c .before .before .raised .ensures, c .before .before .before .weight-if .ensures, c .before .before .before .before .holds-at-fall .ensures)))

@@ -15,4 +15,4 @@ scl-rise-spec =
     (λ c κs. search needs)
     (λ c κs. search needs)
     (λ c κs. search needs)
-    (λ c. simp (c .bus-at-rise .ensures, c .before .raised .ensures, c .before .before .flag-if .ensures, c .before .before .before .matches-at-rise .ensures, c .before .before .before .before .sda-line .ensures)))
+    (λ c. simp (c .bus-at-rise .ensures, c .before .raised .ensures, c .before .before .weight-if .ensures, c .before .before .before .matches-at-rise .ensures, c .before .before .before .before .sda-line .ensures)))

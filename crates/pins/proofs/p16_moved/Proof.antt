@@ -15,4 +15,4 @@ p16-moved-spec =
     (λ c κs. search needs)
     (λ c κs. search needs)
     (λ c κs. search needs)
-    (λ c. simp (c .port1-moved .ensures, c .before .raised .ensures, c .before .before .flag-if .ensures, c .before .before .before .rises .ensures, c .before .before .before .before .bit .ensures)))
+    (λ c. simp (c .port1-moved .ensures, c .before .raised .ensures, c .before .before .weight-if .ensures, c .before .before .before .rises .ensures, c .before .before .before .before .bit .ensures)))

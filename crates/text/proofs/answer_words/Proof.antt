@@ -15,10 +15,10 @@ use Rattle.text.proofs.answer_words.Statement.{statement}
 use Rattle.text.proofs.answer_words.Tie as tie
 
 abbrev Inv-loop : tie.InvT-loop
-Inv-loop bytes text₀ c₀ i₀ text c i = Written (wordsOf bytes) text₀ c₀ text c i
+Inv-loop bytes text₀ r₀ i₀ text r i = Written (wordsOf bytes) text₀ (r₀ .chip) text (r .chip) i
 
 abbrev μ-loop : tie.MeasureT-loop
-μ-loop bytes text₀ c₀ i₀ text c i = length bytes / 4 - i
+μ-loop bytes text₀ r₀ i₀ text r i = length bytes / 4 - i
 
 loop-holds : tie.Need-loop-holds Inv-loop μ-loop
 loop-holds c = record { within = omega arith; same = refl; state = refl; written = refl; rest = refl }
@@ -37,7 +37,7 @@ mul-put-line c = omega arith
 
 put-line-requires : tie.Need-put-line-requires Inv-loop μ-loop
 put-line-requires c κs =
-    let at = c .before .before .before .before .before in
+    let at = c .before .before .before .before .before .before in
     omega (arith, at .loop .inv .same)
 
 add-i : tie.Need-add-i Inv-loop μ-loop
@@ -53,20 +53,20 @@ loop-again c =
     let start = at .before .before .before in
     let n = length-words (start .args .bytes .now) in
     more _ _ _ _ _ _ (at .loop .inv) (omega (arith, n)) (omega (arith, n)) _
-    (c .before .before .before .before .before .before .decode .ensures .0 ∙ ap decode (c .before .before .before .before .before .before .before .word-at .ensures))
-    _ (c .before .before .before .before .before .advance .ensures)
-    _ (c .before .before .before .put-line .ensures)
+    (c .before .before .before .before .before .decode .ensures .0 ∙ ap decode (c .before .before .before .before .before .before .word-at .ensures))
+    _ (c .before .before .before .before .advance .ensures)
+    _ (c .before .before .put-line .ensures)
 
 same-length : tie.Need-same-length Inv-loop μ-loop
-same-length c = c .before .loop .inv .same
+same-length c = c .before .before .loop .inv .same
 
 returns : tie.Need-returns Inv-loop μ-loop
 returns c =
-    let start = c .before .before .before .before in
+    let start = c .before .before .before .before .before in
     let n = length-words (start .args .bytes .now) in
-    subst (λ (k : ℕ). (c .before .loop .c ≡ advanced (start .args .start) (wordsOf (start .args .bytes .now)))
-    × (c .before .loop .text ≡ hexLines (advancedAnswers (start .args .start) (wordsOf (start .args .bytes .now))) ++ drop (9 * k) (start .args .text .now))) n
-    (all _ _ _ _ _ _ (c .before .loop .inv) (omega (arith, n)))
+    subst (λ (k : ℕ). (c .before .before .loop .r .chip ≡ advanced (start .args .start) (wordsOf (start .args .bytes .now)))
+    × (c .before .before .loop .text ≡ hexLines (advancedAnswers (start .args .start) (wordsOf (start .args .bytes .now))) ++ drop (9 * k) (start .args .text .now))) n
+    (all _ _ _ _ _ _ (c .before .before .loop .inv) (omega (arith, n)))
 
 pub answer-words-spec : {M : Type 1} → statement M
 answer-words-spec =
