@@ -12,10 +12,10 @@ use Rattle.events.proofs.Refusal.{decode-in-range}
 use Rattle.chip.specs.declared.Chip.{Chip}
 use Rattle.step.specs.Step.{next}
 use Rattle.causes.specs.Causes.{Source, flag, raises, clears}
-use Rattle.causes.proofs.Flags.{after, never-read, never-write, never-reset, never-clock, never-refused}
+use Rattle.causes.proofs.Flags.{after, never-read, never-write, never-reset, never-refused}
 use Rattle.causes.proofs.Writes.{at-write}
 use Rattle.causes.proofs.Pins.{at-pin}
-use Rattle.causes.proofs.Clocks.{at-clock, at-polarity}
+use Rattle.causes.proofs.Clocks.{at-clock, at-polarity, never-clock}
 
 at-event : (s : Source) (c : Chip) (e : Decoded) → InRange e → flag s (next c e) ≡ after s c e
 unfolding next clears

@@ -21,7 +21,7 @@ use Rattle.step.specs.Step.{next}
 use Rattle.causes.specs.Causes.{Source, place, flag, raises, clears}
 use Rattle.causes.specs.Causes.Source.{SclFall, DataByte, AddressMatch, TimerOverflow, ExternalRise, VsyncRise}
 use Rattle.causes.proofs.Bools.{always, at-six}
-use Rattle.causes.proofs.Flags.{after, never-clock, never-polarity, set-bit, zero-bit}
+use Rattle.causes.proofs.Flags.{after, never-polarity, set-bit, zero-bit}
 
 -- not below the last value is above the one before it
 last-by : (n last : ℕ) (below : Bool) → ltb n (suc last) ≡ below → not below ≡ ltb last n
@@ -75,6 +75,20 @@ module _ (c : Chip) (k : ℕ) where
   at-timer s = rw (timer-irqx (c .reset) (timerRuns (registerAt c BTCON) k) c) (set-bit s (c .irqx) _ _ (timer-bit s))
 
 -- ---- the other clocks
+
+-- a clock that is no base clock
+pub never-clock : (s : Source) (c : Chip) (k : ℕ) → eqb k 2 ≡ false → eqb k 1 ≡ false → raises s c (Clock k) ≡ false
+unfolding raises
+never-clock SclFall c k two one = refl
+never-clock DataByte c k two one = refl
+never-clock AddressMatch c k two one = refl
+never-clock TimerOverflow c k two one = rw (selected (bit 1 (registerAt c BTCON)) k, two, one) (neither (bit 1 (registerAt c BTCON)) _)
+  where
+    neither : (b x : Bool) → (pick b false false && x) ≡ false
+    neither true x = refl
+    neither false x = refl
+never-clock ExternalRise c k two one = refl
+never-clock VsyncRise c k two one = refl
 
 period-by : (reset : Bool) (c : Chip) → (pick reset (periodClock c) c) .irqx ≡ c .irqx
 unfolding periodClock

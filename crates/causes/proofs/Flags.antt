@@ -4,74 +4,55 @@ use mathlib.Core.Path.{_≡_, refl}
 use mathlib.Core.Bool.{Bool, true, false, not, _&&_, _||_, and-comm, or-comm}
 use Prim.Native.Nat.{ℕ, _-_, _<_}
 use native.Mathlib.Omega.{arith}
-use lib.Dec.{eqb}
 use lib.Bits.{bitAnd, bitOr}
 use Rattle.bits.specs.Byte.{pick, bit}
 use Rattle.bits.proofs.Bitwise.{bit-or, bit-and, bit-not}
-use Rattle.registers.specs.Names.{BTCON}
 use Rattle.events.specs.declared.Decoded.{Decoded}
-use Rattle.events.specs.declared.Decoded.the-variants.{Read, Write, Pin, Clock, Polarity, Refused}
+use Rattle.events.specs.declared.Decoded.the-variants.{Read, Write, Pin, Polarity, Refused}
 use Rattle.chip.specs.declared.Chip.{Chip}
-use Rattle.chip.specs.State.{registerAt}
-use Rattle.causes.specs.Causes.{Source, place, flag, putHigh, putLow, isClock, raises, clears}
+use Rattle.causes.specs.Causes.{Source, place, flag, raises, clears}
 use Rattle.causes.specs.Causes.Source.{SclFall, DataByte, AddressMatch, TimerOverflow, ExternalRise, VsyncRise}
 
 -- the flag of a source after an event: set, or not cleared and set before
 abbrev pub after : Source → Chip → Decoded → Bool
 after s c e = raises s c e || (not (clears s c e) && flag s c)
 
--- ---- an event that sets no flag
+-- what holds at each source
+by-source : (P : Source → Type 0) → P SclFall → P DataByte → P AddressMatch → P TimerOverflow → P ExternalRise → P VsyncRise → (s : Source) → P s
+by-source P f d a t e v SclFall = f
+by-source P f d a t e v DataByte = d
+by-source P f d a t e v AddressMatch = a
+by-source P f d a t e v TimerOverflow = t
+by-source P f d a t e v ExternalRise = e
+by-source P f d a t e v VsyncRise = v
 
--- no level put at P16, SCL or VSYNCI, and no base clock
-pub record SetsNone (e : Decoded) : Type 0 where
-  pub external : putHigh 14 e ≡ false
-  pub rise : putHigh 25 e ≡ false
-  pub fall : putLow 25 e ≡ false
-  pub vsync : putHigh 27 e ≡ false
-  pub one : isClock 1 e ≡ false
-  pub two : isClock 2 e ≡ false
-
-no-base-clock : (tbs : Bool) (e : Decoded) → SetsNone e → isClock (pick tbs 2 1) e ≡ false
-no-base-clock true e n = n .two
-no-base-clock false e n = n .one
-
-pub never : (s : Source) (c : Chip) (e : Decoded) → SetsNone e → raises s c e ≡ false
-unfolding raises
-never SclFall c e n = rw (n .fall)
-never DataByte c e n = rw (n .vsync, n .fall)
-never AddressMatch c e n = rw (n .rise)
-never TimerOverflow c e n = rw (no-base-clock (bit 1 (registerAt c BTCON)) e n)
-never ExternalRise c e n = rw (n .external)
-never VsyncRise c e n = rw (n .vsync)
+-- ---- events that set no flag
 
 pub never-read : (s : Source) (c : Chip) (a : ℕ) → raises s c (Read a) ≡ false
-never-read s c a = never s c (Read a) (record { external = refl; rise = refl; fall = refl; vsync = refl; one = refl; two = refl })
+unfolding raises
+never-read s c a = by-source (λ s. raises s c (Read a) ≡ false) refl refl refl refl refl refl s
 
 pub never-write : (s : Source) (c : Chip) (a b : ℕ) → raises s c (Write a b) ≡ false
-never-write s c a b = never s c (Write a b) (record { external = refl; rise = refl; fall = refl; vsync = refl; one = refl; two = refl })
+unfolding raises
+never-write s c a b = by-source (λ s. raises s c (Write a b) ≡ false) refl refl refl refl refl refl s
 
--- RESET is none of these pins
+-- RESET is put
 pub never-reset : (s : Source) (c : Chip) (level : Bool) → raises s c (Pin 28 level) ≡ false
-never-reset s c level = never s c (Pin 28 level) (record { external = refl; rise = refl; fall = refl; vsync = refl; one = refl; two = refl })
-
-pub never-clock : (s : Source) (c : Chip) (k : ℕ) → eqb k 2 ≡ false → eqb k 1 ≡ false → raises s c (Clock k) ≡ false
-never-clock s c k two one = never s c (Clock k) (record { external = refl; rise = refl; fall = refl; vsync = refl; one = one; two = two })
+unfolding raises
+never-reset s c level = by-source (λ s. raises s c (Pin 28 level) ≡ false) refl refl refl refl refl refl s
 
 pub never-polarity : (s : Source) (c : Chip) (vertical level : Bool) → raises s c (Polarity vertical level) ≡ false
-never-polarity s c vertical level = never s c (Polarity vertical level) (record { external = refl; rise = refl; fall = refl; vsync = refl; one = refl; two = refl })
+unfolding raises
+never-polarity s c vertical level = by-source (λ s. raises s c (Polarity vertical level) ≡ false) refl refl refl refl refl refl s
 
 pub never-refused : (s : Source) (c : Chip) (n : ℕ) → raises s c (Refused n) ≡ false
-never-refused s c n = never s c (Refused n) (record { external = refl; rise = refl; fall = refl; vsync = refl; one = refl; two = refl })
+unfolding raises
+never-refused s c n = by-source (λ s. raises s c (Refused n) ≡ false) refl refl refl refl refl refl s
 
 -- ---- flags of a byte
 
 place-lt : (s : Source) → place s < 8
-place-lt SclFall = omega arith
-place-lt DataByte = omega arith
-place-lt AddressMatch = omega arith
-place-lt TimerOverflow = omega arith
-place-lt ExternalRise = omega arith
-place-lt VsyncRise = omega arith
+place-lt = by-source (λ s. place s < 8) (omega arith) (omega arith) (omega arith) (omega arith) (omega arith) (omega arith)
 
 -- flags set on top of those that are
 pub set-bit : (s : Source) (x flags : ℕ) (raised : Bool) → bit (place s) flags ≡ raised → bit (place s) (bitOr x flags) ≡ (raised || bit (place s) x)
@@ -86,9 +67,4 @@ clear-bit s x b false h = refl
 -- all flags cleared
 pub zero-bit : (s : Source) → bit (place s) 0 ≡ false
 unfolding bit
-zero-bit SclFall = refl
-zero-bit DataByte = refl
-zero-bit AddressMatch = refl
-zero-bit TimerOverflow = refl
-zero-bit ExternalRise = refl
-zero-bit VsyncRise = refl
+zero-bit = by-source (λ s. bit (place s) 0 ≡ false) refl refl refl refl refl refl

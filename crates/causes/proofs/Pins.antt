@@ -31,7 +31,7 @@ use Rattle.step.specs.Step.{next}
 use Rattle.causes.specs.Causes.{Source, place, flag, raises, clears, completesMatch, inNinthClock}
 use Rattle.causes.specs.Causes.Source.{SclFall, DataByte, AddressMatch, TimerOverflow, ExternalRise, VsyncRise}
 use Rattle.causes.proofs.Bools.{always, at-three, at-six, at-eight}
-use Rattle.causes.proofs.Flags.{after, never, never-reset, set-bit, zero-bit}
+use Rattle.causes.proofs.Flags.{after, never-reset, set-bit, zero-bit}
 
 -- ---- P16
 
@@ -216,7 +216,13 @@ module _ (c : Chip) (p : ℕ) (level : Bool) (t : T (isPlain p)) where
   plain = none-of (eqb p 14) (eqb p 25) (eqb p 27) (eqb p 28) t
 
   never-plain : (s : Source) → raises s c (Pin p level) ≡ false
-  never-plain s = never s c (Pin p level) (record { external = rw (plain .0); rise = rw (plain .1); fall = rw (plain .1); vsync = rw (plain .2); one = refl; two = refl })
+  unfolding raises
+  never-plain SclFall = rw (plain .1)
+  never-plain DataByte = rw (plain .2, plain .1)
+  never-plain AddressMatch = rw (plain .1)
+  never-plain TimerOverflow = refl
+  never-plain ExternalRise = rw (plain .0)
+  never-plain VsyncRise = rw (plain .2)
 
   at-plain : (s : Source) → flag s c ≡ after s c (Pin p level)
   unfolding clears

@@ -67,7 +67,8 @@ fn word_at(bytes: &[u8], i: usize) -> u32
     a + b * 256 + c * 65536 + d * 16777216
 }
 
-// Every whole word to the chip, and the lines of the answers to the start of the text.
+// Every whole word to the chip, and the lines of the answers to the start of the text. The loop carries the step's whole
+// result, which saves a copy of the chip.
 fn answer_words(start: Chip, bytes: &[u8], text: &mut [u8]) -> Chip
     requires { ⌜ 9 * (length (now bytes) / 4) ≤ length (now text) ⌝ }
     ensures { λ r. ⌜ (r ≡ advanced start (wordsOf (now (bytes .entry)))) × (now (text .exit) ≡ hexLines (advancedAnswers start (wordsOf (now (bytes .entry)))) ++ drop (9 * (length (now (bytes .entry)) / 4)) (now (text .entry))) ⌝ }

@@ -1,0 +1,17 @@
+-- `entries::count_end` meets its contract.
+-- Assumes nothing.
+use borrow.Author.Tests.{lt-ltb, le-ltb}
+use Rattle.entries.specs.Line.{countEnd}
+use borrow.Author.Needs.{needs}
+use Rattle.entries.proofs.count_end.Statement.{statement}
+use Rattle.entries.proofs.count_end.Tie as tie
+
+pub count-end-spec : {M : Type 1} → statement M
+unfolding countEnd
+count-end-spec =
+    tie.close
+    (tie.spec
+    (λ c κs. search needs)
+    (λ c. simp (c .reader-at .ensures, lt-ltb _ _ (c .before .if2 .taken), lt-ltb _ _ (c .before .before .before .if1 .taken)))
+    (λ c. simp (le-ltb _ _ (c .if2 .left), lt-ltb _ _ (c .before .before .if1 .taken)))
+    (λ c. simp (le-ltb _ _ (c .if1 .left))))

@@ -1,0 +1,14 @@
+-- What `replay` prints is the text of the step's answers, from a fresh chip.
+-- Assumes nothing.
+use Prim.Native.Nat.{ℕ}
+use mathlib.Core.Path.{_≡_, refl}
+use mathlib.Core.List.{List, _++_}
+use Rattle.chip.specs.State.{fresh}
+use Rattle.run.specs.Run.{after, answers}
+use Rattle.text.specs.Text.{wordsOf, hexLines, leftOver, replayText}
+use Rattle.invariant.proofs.WellFormed.{fresh-well-formed}
+use Rattle.listcall.proofs.Runs.{after-advanced, answers-advanced}
+
+pub replay-by-step : (bytes : List ℕ) → replayText fresh bytes ≡ hexLines (answers fresh (wordsOf bytes)) ++ leftOver (after fresh (wordsOf bytes)) bytes
+unfolding replayText
+replay-by-step bytes = rw (answers-advanced fresh (wordsOf bytes) fresh-well-formed, after-advanced fresh (wordsOf bytes) fresh-well-formed)
