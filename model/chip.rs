@@ -1,6 +1,6 @@
 //! The peripherals of the NT6861 as a plain program.
 //!
-//! Written from document 01 alone, with the readings recorded for it. It shares nothing with the
+//! Written from document 01 and the readings in docs/DECISIONS.md. It shares nothing with the
 //! proved code: no source, no tables, no layout of the state. It exists to be compared with it.
 //!
 //! Control bits are kept as named booleans and put together only when a register is read. The pull

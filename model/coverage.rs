@@ -1,7 +1,7 @@
 //! What a list of generated words does to the chip, counted class by class.
 //!
 //! Every class is named beforehand, so one that never occurs shows with a count of 0. The counts
-//! come from the states before and after each step; the chip itself keeps no books.
+//! come from the states before and after each step; the chip itself counts nothing.
 
 use crate::chip::{decode, flag, pin, Chip, Counter, Event, Phase};
 use crate::traffic::Traffic;

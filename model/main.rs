@@ -1,7 +1,7 @@
 //! A second, independent model of the NT6861 peripherals, for comparison by running.
 //!
-//! It is written from document 01 alone and shares nothing with the proved code. One program reads
-//! words and answers them, makes seeded words, and compares another program's answers with its own.
+//! It is written from document 01 and the readings in docs/DECISIONS.md, and shares no code with the
+//! proved crates. One program reads words and answers them, makes seeded words, and compares another program's answers with its own.
 
 mod chip;
 mod coverage;

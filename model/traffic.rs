@@ -1,11 +1,12 @@
 //! Seeded event words for comparing two models of the chip.
 //!
-//! Written from document 01 alone; shares nothing with the proved code. The generator never looks
+//! Written from document 01 and its recorded readings; shares no code with the proved crates. The
+//! generator never looks
 //! at a chip: it only remembers the outside levels its own words leave behind. Equal seeds give
 //! equal words, and a shorter list is the beginning of a longer one.
 //!
 //! Words come in scenarios, each a coherent run of events such as an I²C transfer with its firmware
-//! or a field of sync pulses. Noise words are strewn in between at a rate drawn per scenario.
+//! or a field of sync pulses. Noise words are put between them at a rate drawn per scenario.
 
 use crate::chip::pin;
 

@@ -1,5 +1,6 @@
 #!/usr/bin/env bash
-# Compares replay, as `rt ci` built it, with the independent model: generated words of several seeds, each with bytes left over.
+# Compares replay, as `rt ci` built it, with the independent model: generated words of four seeds, with none to three bytes left
+# over.
 # A difference prints seed, place, word and both answers.
 set -euo pipefail
 cd "$(dirname "$0")/.."

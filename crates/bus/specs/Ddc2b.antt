@@ -11,7 +11,7 @@ use Rattle.bus.specs.declared.Phase.the-variants.{Idle, Address, Ignorin
 abbrev pub addressBits : ℕ → ℕ
 addressBits byte = byte / 2 % 128
 
--- an address matches if its bits 7..1 are those of A0H or of II ADR
+-- the chip answers to A0H and to II ADR, the direction bit left aside
 unfoldable pub matches : ℕ → ℕ → Bool
 matches own byte = eqb (addressBits byte) 80 || eqb (addressBits byte) (addressBits own)
 

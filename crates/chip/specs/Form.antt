@@ -19,9 +19,10 @@ use Rattle.bus.specs.declared.Shifter.{Shifter}
 use Rattle.chip.specs.declared.Chip.{Chip}
 use Rattle.chip.specs.State.{modeOf}
 
--- ---- reserved bits at reset value: those that neither a write nor the chip can move
+-- ---- reserved bits: what no event changes equals its reset value
 
--- registers with a place of their own in the state: MDCON, HVCON, and II ADR to BT. The array's places for them stand still
+-- registers with a place of their own in the state: MDCON, HVCON, and II ADR to BT. The array's places for them stand still,
+-- and IRQX's by its write mask of 00
 abbrev pub keptApart : ℕ → Bool
 keptApart a = (eqb a MDCON || eqb a HVCON) || (ltb CLRWDT a && ltb a BTCON)
 

@@ -49,7 +49,7 @@ pub struct Pins {
     pub vsynci: bool,
 }
 
-// The whole state. `registers` holds what writes store; registers that the chip itself moves stand apart: IRQX, MDCON, the
+// The whole state. `registers` holds what writes store; registers that the chip itself moves, and II ADR, stand apart: IRQX, MDCON, the
 // polarity bits of HVCON, BT, and those of the bus. `sda`, `scl` and `reset` are outside levels.
 pub struct Chip {
     pub registers: [u8; 38],

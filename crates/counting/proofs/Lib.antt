@@ -2,3 +2,4 @@ pub mod Events
 pub mod Counting
 pub mod Zeroed
 pub mod Worked
+pub mod Since

@@ -48,13 +48,13 @@ at-reset-pin c true true h = cc
 at-reset-pin c true false h = refl
 at-reset-pin c false level h = cc
 
-reset-pin : (c : Chip) (p : ℕ) (level : Bool) → (eqb p 28 && (c .reset && not level)) ≡ true → next c (Pin p level) .sync ≡ zeroSync
+pub reset-pin : (c : Chip) (p : ℕ) (level : Bool) → (eqb p 28 && (c .reset && not level)) ≡ true → next c (Pin p level) .sync ≡ zeroSync
 unfolding next pinMoved pinMovedAs pinKind resetMoved
 reset-pin c p level h =
     let k = both (eqb p 28) (c .reset && not level) h in
     rw (eqb-true p 28 (k .0)) (at-reset-pin c (c .reset) level (k .1))
 
-reset-clock : (c : Chip) (k : ℕ) → (eqb k 3 && (c .reset && ltb 62 (c .watchdog))) ≡ true → next c (Clock k) .sync ≡ zeroSync
+pub reset-clock : (c : Chip) (k : ℕ) → (eqb k 3 && (c .reset && ltb 62 (c .watchdog))) ≡ true → next c (Clock k) .sync ≡ zeroSync
 unfolding next clocked clockedAs watchdogClock resetChip resetAt
 reset-clock c k h =
     let e = both (eqb k 3) (c .reset && ltb 62 (c .watchdog)) h in
@@ -76,21 +76,21 @@ hsel-zero : (old new : Bool) (s : Sync) → old ≡ true → new ≡ false → s
 unfolding syncAtHsel hselCleared zeroLines
 hsel-zero old new s h k = rw (h, k)
 
-clrflg-lines : (c : Chip) (a b : ℕ) → (eqb a CLRFLG && (c .reset && bit 7 b)) ≡ true → next c (Write a b) .sync .lines .count .0 ≡ 0
+pub clrflg-lines : (c : Chip) (a b : ℕ) → (eqb a CLRFLG && (c .reset && bit 7 b)) ≡ true → next c (Write a b) .sync .lines .count .0 ≡ 0
 unfolding next writeRegister isWritable rowOf written target writtenTo clrflgWritten clearOverflow
 clrflg-lines c a b h =
     let k = both (eqb a CLRFLG) (c .reset && bit 7 b) h in
     let d = both (c .reset) (bit 7 b) (k .1) in
     rw (eqb-true a CLRFLG (k .0)) (pick-by (λ (x : Chip). x .sync .lines .count .0 ≡ 0) (c .reset) (λ _. clear-lines (bit 7 b) (c .sync .lines) (d .1)) (clash _ (d .0)))
 
-clrflg-periods : (c : Chip) (a b : ℕ) → (eqb a CLRFLG && (c .reset && bit 6 b)) ≡ true → next c (Write a b) .sync .periods .count .0 ≡ 0
+pub clrflg-periods : (c : Chip) (a b : ℕ) → (eqb a CLRFLG && (c .reset && bit 6 b)) ≡ true → next c (Write a b) .sync .periods .count .0 ≡ 0
 unfolding next writeRegister isWritable rowOf written target writtenTo clrflgWritten clearOverflow
 clrflg-periods c a b h =
     let k = both (eqb a CLRFLG) (c .reset && bit 6 b) h in
     let d = both (c .reset) (bit 6 b) (k .1) in
     rw (eqb-true a CLRFLG (k .0)) (pick-by (λ (x : Chip). x .sync .periods .count .0 ≡ 0) (c .reset) (λ _. clear-periods (bit 6 b) (c .sync .periods) (d .1)) (clash _ (d .0)))
 
-mdcon-lines : (c : Chip) (a b : ℕ) → ((eqb a MDCON && (c .reset && not (bit 2 b))) && hselOf c) ≡ true → next c (Write a b) .sync .lines .count .0 ≡ 0
+pub mdcon-lines : (c : Chip) (a b : ℕ) → ((eqb a MDCON && (c .reset && not (bit 2 b))) && hselOf c) ≡ true → next c (Write a b) .sync .lines .count .0 ≡ 0
 unfolding next writeRegister isWritable rowOf written target writtenTo mdconWritten
 mdcon-lines c a b h =
     let j = both (eqb a MDCON && (c .reset && not (bit 2 b))) (hselOf c) h in

@@ -323,6 +323,7 @@ fn next_at(place: Place, r: Reader, s: Symbol) -> Found
 }
 
 // Before the first byte of a line.
+// Wrong answers: a line that begins within a field; a word given no times.
 pub fn line_start() -> Reader
     ensures { λ r. ⌜ r ≡ lineStart ⌝ }
 {
@@ -330,6 +331,7 @@ pub fn line_start() -> Reader
 }
 
 // A byte of a line.
+// Wrong answers: a word of seven digits taken; a count of six digits taken.
 pub fn next(r: Reader, b: u8) -> Found
     ensures { λ f. ⌜ f ≡ nextOf r b ⌝ }
 {

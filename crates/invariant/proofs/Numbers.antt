@@ -164,7 +164,7 @@ module _ (c : Chip) (w : ℕ) where
       rw (number-given c w)
       (first-is (illFormed c) (noEvent w) (noPlace w) (badByte w) (whileReset c w) (writeOnly w) (readOnly w) (write-not-read w) .1)
 
-  -- no register, pin, clock or polarity with that A
+  -- nothing has this A
   pub exactly-2 : eqb (answerNumber c w) 2 ≡ (not (illFormed c) && (not (noEvent w) && noPlace w))
   unfolding numberOf01
   exactly-2 =

@@ -95,7 +95,7 @@ same-part : (w v x : ℕ) → sameButSda w v ≡ true → comparedAnswer (decode
 same-part w v x h = part-by w v x (eqb w v) refl h
 
 -- an ill formed state stays and answers 08000000 to every word
-ill-formed-runs : (c d : Chip) → wellFormed c ≡ false → wellFormed d ≡ false → (ws vs : List ℕ) → alike ws vs ≡ true
+pub ill-formed-runs : (c d : Chip) → wellFormed c ≡ false → wellFormed d ≡ false → (ws vs : List ℕ) → alike ws vs ≡ true
     → (comparedAnswers ws (answers c ws) ≡ comparedAnswers vs (answers d vs)) × (after c ws ≡ c) × (after d vs ≡ d)
 unfolding step
 ill-formed-runs c d h h′ [] [] a = (refl, refl, refl)

@@ -17,9 +17,9 @@ use Rattle.chip.specs.State.{modeOf}
 use Rattle.chip.specs.Form.{wellFormed}
 use Rattle.step.specs.Step.{advance}
 use Rattle.run.specs.Run.{advanced, advancedAnswers, ranTo, ran, ranAnswers}
-use Rattle.isolation.specs.Foreign.{Trace, since, Observer, observerOf, observe, untouched, throughout, equalThroughout, comparedAnswer, comparedAnswers, comparedState, OneTransfer, SeveralTransfers, RunsAgree, CallsAgree, Begun, start-seen, bus-idle}
+use Rattle.isolation.specs.Foreign.{alike, Trace, since, Observer, observerOf, observe, untouched, throughout, equalThroughout, comparedAnswer, comparedAnswers, comparedState, OneTransfer, SeveralTransfers, RunsAgree, CallsAgree, Begun, start-seen, bus-idle}
 use Rattle.isolation.proofs.Related.{Apart, idle, address, Related, related}
-use Rattle.isolation.proofs.Runs.{advanced-agree, run-agree}
+use Rattle.isolation.proofs.Runs.{advanced-agree, ill-formed-runs, run-agree}
 
 -- ---- the first state
 
@@ -32,7 +32,7 @@ self-related c h b = related c (c .reset) (c .scl) (c .sda) (c .sda) (c .bus .ii
 
 -- ---- by the step
 
--- any number of transfers, from a START just seen or an idle bus; the state may be ill formed
+-- any number of transfers, from a START just seen or an idle bus
 pub several-transfers : (c : Chip) → modeOf c ≡ Ddc2b → {t : Trace} → Begun (c .bus .phase) t → (ws vs : List ℕ) → SeveralTransfers (observerOf c t) (observerOf c t) ws vs
     → RunsAgree c ws vs
 several-transfers c h b ws vs p = run-agree (self-related c h b) ws vs p
@@ -54,6 +54,12 @@ started-at h = rw h start-seen
 pub one-transfer : (c : Chip) → modeOf c ≡ Ddc2b → c .bus .phase ≡ startPhase → (ws vs : List ℕ) → OneTransfer (observerOf c (since [])) ws vs
     → RunsAgree c ws vs
 one-transfer c h b ws vs p = several-transfers c h (started-at b) ws vs (several-of p)
+
+-- from an ill formed state no word is carried out: the lists need only be alike
+pub ill-formed-transfer : (c : Chip) → wellFormed c ≡ false → (ws vs : List ℕ) → alike ws vs ≡ true → RunsAgree c ws vs
+ill-formed-transfer c k ws vs a =
+    let ill = ill-formed-runs c c k k ws vs a in
+    record { answers-agree = ill .0; states-agree = ap comparedState (ill .1) ∙ sym (ap comparedState (ill .2)) }
 
 -- ---- by the list call
 

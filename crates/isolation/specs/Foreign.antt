@@ -166,7 +166,7 @@ permitted o (Clock k) = not (watchdogExpires o k)
 permitted o (Polarity vertical level) = true
 permitted o (Refused n) = true
 
--- SDA rests while SCL is high, also with RESET low
+-- SDA is not touched while SCL is high, also with RESET low
 unfoldable pub untouched : Observer → Decoded → Bool
 untouched o e = not (o .scl && touchesSda e)
 

@@ -28,6 +28,7 @@ fn one_more(n: u64) -> u64
 }
 
 // Before the first byte of a listing.
+// Wrong answers: a chip that is not fresh; the first line counted as 0.
 pub fn opened() -> Progress
     ensures { λ p. ⌜ p ≡ openedOf ⌝ }
 {
@@ -179,6 +180,7 @@ fn byte_read(verdict: Verdict, p: Progress, b: u8) -> Progress
 }
 
 // A part of a listing's text.
+// Wrong answers: a malformed line passed over; words given after a difference.
 pub fn read(start: Progress, text: &[u8]) -> Progress
     ensures { λ r. ⌜ r ≡ readOf start (now (text .entry)) ⌝ }
 {
@@ -193,6 +195,7 @@ pub fn read(start: Progress, text: &[u8]) -> Progress
 }
 
 // The end of the text, which ends its last line.
+// Wrong answers: a last line without its newline lost; a complete listing called malformed.
 pub fn closed(p: Progress) -> Progress
     ensures { λ r. ⌜ r ≡ closedOf p ⌝ }
 {

@@ -17,7 +17,7 @@ pub enum Rate {
     LineRate(f64),
 }
 
-// 125,000 divided by the VCNT latch, rounded once.
+// The field rate of a VCNT latch: one division, so one rounding.
 fn field_hz(v: Periods) -> f64
     requires { ⌜ (1 ≤ v .0) × (v .0 < 4096) ⌝ }
     ensures { λ r. ⌜ r ≡ fieldHz v ⌝ }

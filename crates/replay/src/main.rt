@@ -1,5 +1,5 @@
-// Reads little-endian event words from standard input until its end, and prints each answer as
-// eight upper-case hex digits and a newline, from a fresh chip.
+// Gives the words on standard input, lowest byte first, to a fresh chip, and writes a line of eight hex digits for each
+// answer to standard output.
 use chip::Chip;
 use libc::STDIN_FILENO;
 use libc::STDOUT_FILENO;

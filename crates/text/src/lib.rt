@@ -23,6 +23,7 @@ fn hex_digit(n: u32) -> u8
 }
 
 // Eight hex digits and a newline.
+// Wrong answers: lower-case letters; no newline.
 pub fn hex_line(a: u32) -> [u8; 9]
     ensures { λ r. ⌜ r ≡ hexLine a ⌝ }
 {
@@ -97,6 +98,7 @@ fn left_over_answer(c: Chip) -> u32
 
 // A block of the stream: the text of its answers to the start of `text`, or nothing where that is too short. Only the last
 // block of a stream may end within a word.
+// Wrong answers: bytes left over ignored; the text written where it does not fit.
 pub fn answer_block(start: Chip, bytes: &[u8], text: &mut [u8]) -> Answered
     ensures { λ r. ⌜ (r ≡ answered start (now (bytes .entry)) (now (text .entry))) × (now (text .exit) ≡ answeredText start (now (bytes .entry)) (now (text .entry))) ⌝ }
 {
