@@ -76,6 +76,83 @@ BTCON = 0x17
 abbrev pub DACH0 : ℕ
 DACH0 = 0x18
 
+-- ---- bits of MDCON
+
+abbrev pub INSEN : ℕ
+INSEN = 0x08
+
+abbrev pub HSEL : ℕ
+HSEL = 0x04
+
+abbrev pub SC : ℕ
+SC = 0x02
+
+abbrev pub MD12 : ℕ
+MD12 = 0x01
+
+-- ---- bits of HVCON
+
+abbrev pub HCNTOV : ℕ
+HCNTOV = 0x80
+
+abbrev pub VCNTOV : ℕ
+VCNTOV = 0x40
+
+abbrev pub HSYNCI : ℕ
+HSYNCI = 0x20
+
+abbrev pub VSYNCI : ℕ
+VSYNCI = 0x10
+
+abbrev pub HPOLI : ℕ
+HPOLI = 0x08
+
+abbrev pub VPOLI : ℕ
+VPOLI = 0x04
+
+abbrev pub HPOLO : ℕ
+HPOLO = 0x02
+
+abbrev pub VPOLO : ℕ
+VPOLO = 0x01
+
+-- ---- bits of SYNCON
+
+abbrev pub ENHALF : ℕ
+ENHALF = 0x40
+
+abbrev pub ENH : ℕ
+ENH = 0x02
+
+abbrev pub ENV : ℕ
+ENV = 0x01
+
+-- ---- bits of ENDAC
+
+abbrev pub ENAD1 : ℕ
+ENAD1 = 0x80
+
+abbrev pub ENAD0 : ℕ
+ENAD0 = 0x40
+
+abbrev pub ENDK13 : ℕ
+ENDK13 = 0x20
+
+abbrev pub ENDK12 : ℕ
+ENDK12 = 0x10
+
+abbrev pub ENDK11 : ℕ
+ENDK11 = 0x08
+
+abbrev pub ENDK10 : ℕ
+ENDK10 = 0x04
+
+abbrev pub ENDK9 : ℕ
+ENDK9 = 0x02
+
+abbrev pub ENDK8 : ℕ
+ENDK8 = 0x01
+
 -- ---- bits of IEX and IRQX
 
 abbrev pub INTS : ℕ
@@ -96,6 +173,14 @@ INTE = 0x02
 abbrev pub INTV : ℕ
 INTV = 0x01
 
+-- ---- bits of CLRFLG
+
+abbrev pub CLRHOV : ℕ
+CLRHOV = 0x80
+
+abbrev pub CLRVOV : ℕ
+CLRVOV = 0x40
+
 -- ---- bits of IISTS
 
 abbrev pub START : ℕ
@@ -103,3 +188,23 @@ START = 0x20
 
 abbrev pub STOP : ℕ
 STOP = 0x10
+
+abbrev pub ENDDC : ℕ
+ENDDC = 0x08
+
+abbrev pub TRX : ℕ
+TRX = 0x04
+
+abbrev pub RXAK : ℕ
+RXAK = 0x02
+
+abbrev pub TXAK : ℕ
+TXAK = 0x01
+
+-- ---- bits of BTCON
+
+abbrev pub TBS : ℕ
+TBS = 0x02
+
+abbrev pub ENBT : ℕ
+ENBT = 0x01

@@ -53,7 +53,57 @@ pub const BTCON: u8 = 0x17;
 
 pub const DACH0: u8 = 0x18;
 
-// Bits, by their weights. Those of IEX and IRQX:
+// Bits, by their weights. Those of MDCON:
+pub const INSEN: u8 = 0x08;
+
+pub const HSEL: u8 = 0x04;
+
+pub const SC: u8 = 0x02;
+
+pub const MD12: u8 = 0x01;
+
+// Those of HVCON:
+pub const HCNTOV: u8 = 0x80;
+
+pub const VCNTOV: u8 = 0x40;
+
+pub const HSYNCI: u8 = 0x20;
+
+pub const VSYNCI: u8 = 0x10;
+
+pub const HPOLI: u8 = 0x08;
+
+pub const VPOLI: u8 = 0x04;
+
+pub const HPOLO: u8 = 0x02;
+
+pub const VPOLO: u8 = 0x01;
+
+// Those of SYNCON:
+pub const ENHALF: u8 = 0x40;
+
+pub const ENH: u8 = 0x02;
+
+pub const ENV: u8 = 0x01;
+
+// Those of ENDAC:
+pub const ENAD1: u8 = 0x80;
+
+pub const ENAD0: u8 = 0x40;
+
+pub const ENDK13: u8 = 0x20;
+
+pub const ENDK12: u8 = 0x10;
+
+pub const ENDK11: u8 = 0x08;
+
+pub const ENDK10: u8 = 0x04;
+
+pub const ENDK9: u8 = 0x02;
+
+pub const ENDK8: u8 = 0x01;
+
+// Those of IEX and IRQX:
 pub const INTS: u8 = 0x20;
 
 pub const INTD: u8 = 0x10;
@@ -66,10 +116,28 @@ pub const INTE: u8 = 0x02;
 
 pub const INTV: u8 = 0x01;
 
+// Those of CLRFLG:
+pub const CLRHOV: u8 = 0x80;
+
+pub const CLRVOV: u8 = 0x40;
+
 // Those of IISTS:
 pub const START: u8 = 0x20;
 
 pub const STOP: u8 = 0x10;
+
+pub const ENDDC: u8 = 0x08;
+
+pub const TRX: u8 = 0x04;
+
+pub const RXAK: u8 = 0x02;
+
+pub const TXAK: u8 = 0x01;
+
+// Those of BTCON:
+pub const TBS: u8 = 0x02;
+
+pub const ENBT: u8 = 0x01;
 
 // What a register is at reset, the bits that a write changes and those that a read shows, and which of the two it takes.
 // A write mask of 00 does not mean that a write is refused.
