@@ -1,3 +1,2 @@
 pub mod Lines
 pub mod Ddc1
-pub mod Ddc2b

@@ -6,10 +6,10 @@ use Rattle.events.specs.Word.{event, noEvent, noPlace, badByte, decode}
 use Rattle.sync.specs.Count.{counted, overflowed, latched, zeroed, cycleNext}
 use Rattle.sync.specs.Sync.{stepLines, latchLines, clearLines, zeroLines, stepPeriods, latchPeriods, clearPeriods, onHsync, linesOnVsync, onVsync, intervalNext, linesOnPeriod, onPeriod, hselCleared, clearOverflow, zeroSync, wellSync, timerNext, timerOverflows, watchdogNext, watchdogFires}
 use Rattle.bus.specs.Ddc1.{loadsAtRise, shifterAtRise}
-use Rattle.bus.specs.Ddc2b.{matches, gathered, phaseAtRise, dataAtRise, matchesAtRise, statusAtRise, holdsAtFall, acknowledges, phaseAtFall}
+use Rattle.ddc2b.specs.Ddc2b.{matches, gathered, phaseAtRise, dataAtRise, matchesAtRise, statusAtRise, holdsAtFall, acknowledges, phaseAtFall}
 use Rattle.bus.specs.Lines.{mode, changesMode, pullsAtBit, pullsSda, pullsScl, sdaPulled, sclPulled}
-use Rattle.chip.specs.Form.{reservedMask, reservedAt, reservedApart, gatheredFits, phaseFits, isIdle, isEmpty, busFits, wellFormed}
-use Rattle.chip.specs.Reads.{port0, port1, port2, port3, hvcon, shown, reading}
+use Rattle.form.specs.Form.{reservedMask, reservedAt, reservedApart, gatheredFits, phaseFits, isIdle, isEmpty, busFits, wellFormed}
+use Rattle.reads.specs.Reads.{port0, port1, port2, port3, hvcon, shown, reading}
 use Rattle.chip.specs.State.{released, requests, resetAt, resetChip, fresh}
 use Rattle.lines.specs.Bus.{busAtMode, busAtRise, sclRise, sclFall, leaveDdc1, onSclDdc1, onSclDdc2b, onScl, sclMoved, started, stopped, onSdaDdc2b, onSda, sdaMoved, busAtVsync, loadsAtVsync}
 use Rattle.writes.specs.Writes.{target, storedWritten, syncAtHsel, mdconWritten, clrflgWritten, clrwdtWritten, iiadrWritten, statusWritten, iistsWritten, busRisen, busAtIidat, iidatWritten, writtenTo, written, writeNumber, writeRegister}

@@ -20,7 +20,7 @@ use Rattle.bus.specs.declared.Phase.the-variants.{Idle, Address, Ignoring, Rece
 use Rattle.bus.specs.declared.Shifter.{Shifter}
 use Rattle.bus.specs.Lines.{edge, line, mode, modeBy, pullsSda, pullsScl, sclPulled}
 use Rattle.bus.specs.Ddc1.{loadsAtRise}
-use Rattle.bus.specs.Ddc2b.{matches, gathered, matchesAtRise, holdsAtFall}
+use Rattle.ddc2b.specs.Ddc2b.{matches, gathered, matchesAtRise, holdsAtFall}
 use Rattle.chip.specs.declared.Chip.{Chip}
 use Rattle.chip.specs.State.{resetAt, resetChip, modeOf, withReset, withSda}
 use Rattle.lines.specs.Bus.{activeMode, onScl, onSclDdc1, onSclDdc2b, sclRise, sclFall, leaveDdc1, sclMoved, onSda, onSdaDdc2b, started, stopped, sdaMoved, loadsAtVsync}

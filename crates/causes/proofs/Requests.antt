@@ -11,7 +11,7 @@ use Rattle.events.specs.declared.Decoded.{Decoded}
 use Rattle.events.specs.Word.{decode, answerWord}
 use Rattle.chip.specs.declared.Chip.{Chip}
 use Rattle.chip.specs.State.{requests as requestsOf, registerAt}
-use Rattle.chip.specs.Form.{wellFormed}
+use Rattle.form.specs.Form.{wellFormed}
 use Rattle.step.specs.declared.Stepped.{Stepped}
 use Rattle.step.proofs.Byte.{byte-lt}
 use Rattle.step.specs.Step.{next, numberGiven, byteGiven, watchdogReset, answered, advance, step}

@@ -10,7 +10,7 @@ use Rattle.events.specs.declared.Decoded.the-variants.{Read, Write, Pin, Clock,
 use Rattle.bus.specs.declared.Phase.{Phase}
 use Rattle.bus.specs.declared.Phase.the-variants.{Idle, Address, Ignoring, Receive, Transmit, Held}
 use Rattle.bus.specs.Lines.{line, pullsSda, pullsScl}
-use Rattle.bus.specs.Ddc2b.{matches, gathered}
+use Rattle.ddc2b.specs.Ddc2b.{matches, gathered}
 use Rattle.chip.specs.declared.Chip.{Chip}
 use Rattle.chip.specs.State.{registerAt}
 

@@ -20,7 +20,7 @@ use Rattle.registers.proofs.Rules.{writeMask-lt}
 use Rattle.events.specs.declared.Decoded.the-variants.{Write}
 use Rattle.events.proofs.Level.{pick-by}
 use Rattle.bus.specs.Lines.{pullsScl}
-use Rattle.bus.specs.Ddc2b.{dataAtRise, phaseLetGo}
+use Rattle.ddc2b.specs.Ddc2b.{dataAtRise, phaseLetGo}
 use Rattle.chip.specs.declared.Bus.{Bus}
 use Rattle.chip.specs.declared.Chip.{Chip}
 use Rattle.chip.specs.State.{registerAt}

@@ -18,7 +18,7 @@ use Rattle.sync.specs.declared.Sync.{Sync}
 use Rattle.sync.specs.Sync.{clearLines, clearPeriods, zeroLines, hselCleared, clearOverflow}
 use Rattle.bus.specs.declared.Mode.{Mode}
 use Rattle.bus.specs.Lines.{changesMode, pullsScl}
-use Rattle.bus.specs.Ddc2b.{statusAtRise, phaseLetGo}
+use Rattle.ddc2b.specs.Ddc2b.{statusAtRise, phaseLetGo}
 use Rattle.chip.specs.declared.Bus.{Bus}
 use Rattle.chip.specs.declared.Chip.{Chip}
 use Rattle.chip.specs.State.{released, registerAt}

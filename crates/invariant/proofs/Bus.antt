@@ -21,10 +21,10 @@ use Rattle.bus.specs.declared.Phase.the-variants.{Idle, Address, Ignoring, Rece
 use Rattle.bus.specs.declared.Shifter.{Shifter}
 use Rattle.bus.specs.Lines.{mode, modeBy, changesMode, pullsScl}
 use Rattle.bus.specs.Ddc1.{shifter, emptyShifter, shifterAtRise}
-use Rattle.bus.specs.Ddc2b.{matches, gathered, startStatus, startPhase, stopStatus, addressed, phaseAtRise, statusAtRise, acknowledges, phaseAtFall, phaseLetGo}
+use Rattle.ddc2b.specs.Ddc2b.{matches, gathered, startStatus, startPhase, stopStatus, addressed, phaseAtRise, statusAtRise, acknowledges, phaseAtFall, phaseLetGo}
 use Rattle.chip.specs.declared.Bus.{Bus}
 use Rattle.chip.specs.State.{busOf, released}
-use Rattle.chip.specs.Form.{gatheredFits, phaseFits, isIdle, isEmpty, busFits}
+use Rattle.form.specs.Form.{gatheredFits, phaseFits, isIdle, isEmpty, busFits}
 use Rattle.lines.specs.Bus.{busAtMode, busAtRise, busAtVsync, withPhase}
 use Rattle.invariant.proofs.Formed.{and-both, impossible, BusFormed}
 use Rattle.invariant.proofs.Ranges.{with-bit-below, pick-below}

@@ -17,7 +17,7 @@ use Rattle.chip.specs.declared.Bus.{Bus}
 use Rattle.chip.specs.declared.Pins.{Pins}
 use Rattle.chip.specs.declared.Chip.{Chip}
 use Rattle.chip.specs.State.{withRegisters, withIrqx, withMdcon, withPolarity, withBt, withWatchdog, withSync, withBus, withPins, withSda, withScl, withReset, raised}
-use Rattle.chip.specs.Form.{reservedAt, reservedApart, busFits, wellFormed}
+use Rattle.form.specs.Form.{reservedAt, reservedApart, busFits, wellFormed}
 
 -- ---- tests as facts
 

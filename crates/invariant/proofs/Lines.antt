@@ -10,7 +10,7 @@ use Rattle.bus.specs.declared.Mode.{Mode}
 use Rattle.bus.specs.declared.Mode.the-variants.{Off, Ddc1, Ddc2b}
 use Rattle.bus.specs.declared.Edge.{Edge}
 use Rattle.bus.specs.declared.Edge.the-variants.{Flat, Rise, Fall}
-use Rattle.bus.specs.Ddc2b.{matchesAtRise, holdsAtFall}
+use Rattle.ddc2b.specs.Ddc2b.{matchesAtRise, holdsAtFall}
 use Rattle.chip.specs.declared.Chip.{Chip}
 use Rattle.chip.specs.State.{modeOf}
 use Rattle.lines.specs.Bus.{activeMode, sdaLine, sclRise, sclFall, leaveDdc1, onSclDdc1, onSclDdc2b, onScl, sclMoved, started, stopped, onSdaDdc2b, onSda, sdaMoved}

@@ -18,8 +18,8 @@ use Rattle.events.specs.Word.{kind, fieldA, fieldB, event, noEvent, noPlace, ba
 use Rattle.events.proofs.AnswerWord.{fields-of-answer}
 use Rattle.chip.specs.declared.Chip.{Chip}
 use Rattle.chip.specs.State.{requests, registerAt}
-use Rattle.chip.specs.Reads.{shown, readingOf, reading}
-use Rattle.chip.specs.Form.{wellFormed}
+use Rattle.reads.specs.Reads.{shown, readingOf, reading}
+use Rattle.form.specs.Form.{wellFormed}
 use Rattle.writes.specs.Writes.{writeNumber, writeRegister, written}
 use Rattle.step.specs.declared.Stepped.{Stepped}
 use Rattle.step.specs.Step.{next, numberGiven, byteGiven, watchdogReset, answered, advance, step}

@@ -14,7 +14,7 @@ use Rattle.sync.proofs.WellFormed.{zero-well}
 use Rattle.chip.specs.declared.Pins.{Pins}
 use Rattle.chip.specs.declared.Chip.{Chip}
 use Rattle.chip.specs.State.{resetAt, resetChip}
-use Rattle.chip.specs.Form.{reservedMask, reservedAt}
+use Rattle.form.specs.Form.{reservedMask, reservedAt}
 use Rattle.invariant.proofs.Formed.{Formed}
 use Rattle.invariant.proofs.Bus.{released-fits}
 

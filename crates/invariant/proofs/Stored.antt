@@ -14,7 +14,7 @@ use Rattle.bits.specs.Byte.{pick, merge}
 use Rattle.bits.proofs.Finite.{at-each, and-left, and-right, lt-or-le}
 use Rattle.bits.proofs.Mask.{merge-keeps}
 use Rattle.registers.specs.Table.{rowOf, writeMask}
-use Rattle.chip.specs.Form.{reservedMask, reservedAt}
+use Rattle.form.specs.Form.{reservedMask, reservedAt}
 use Rattle.writes.specs.declared.Target.{Target}
 use Rattle.writes.specs.declared.Target.the-variants.{Stored, Mdcon, Hvcon, Clrflg, Clrwdt, Iiadr, Iidat, Iists, Bt}
 use Rattle.writes.specs.Writes.{target}

@@ -10,7 +10,7 @@ use Rattle.events.specs.Word.{decode, InRange}
 use Rattle.events.proofs.Refusal.{decode-in-range}
 use Rattle.chip.specs.declared.Chip.{Chip}
 use Rattle.chip.specs.State.{resetChip, fresh, highPins}
-use Rattle.chip.specs.Form.{wellFormed}
+use Rattle.form.specs.Form.{wellFormed}
 use Rattle.step.specs.Step.{next, advance, step}
 use Rattle.invariant.proofs.Formed.{Formed, formed, well}
 use Rattle.invariant.proofs.Reset.{reset-formed, reset-chip-formed}

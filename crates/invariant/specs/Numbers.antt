@@ -8,7 +8,7 @@ use Rattle.registers.specs.Table.{isReadable, isWritable}
 use Rattle.events.specs.Word.{kind, fieldA, noEvent, noPlace, badByte, answerWord, answerFields}
 use Rattle.chip.specs.declared.Chip.{Chip}
 use Rattle.chip.specs.State.{requests}
-use Rattle.chip.specs.Form.{wellFormed}
+use Rattle.form.specs.Form.{wellFormed}
 use Rattle.step.specs.declared.Stepped.{Stepped}
 use Rattle.step.specs.Step.{step}
 

@@ -15,7 +15,7 @@ use Rattle.bits.proofs.Bitwise.{bit-and, bit-merge}
 use Rattle.bits.proofs.Mask.{num-lt}
 use Rattle.registers.specs.Names.{MDCON, IIADR, IISTS}
 use Rattle.registers.specs.Table.{table, rowOf, writeMask}
-use Rattle.bus.specs.Ddc2b.{addressBits, gathered}
+use Rattle.ddc2b.specs.Ddc2b.{addressBits, gathered}
 use Rattle.writes.specs.Writes.{updated, statusWritten}
 use Rattle.isolation.specs.Foreign.{byteOf}
 

@@ -14,10 +14,10 @@ use Rattle.events.specs.declared.Decoded.the-variants.{Read, Write, Pin, Clock,
 use Rattle.events.specs.Word.{decode, answerWord, InRange}
 use Rattle.events.proofs.Refusal.{decode-in-range}
 use Rattle.chip.specs.declared.Chip.{Chip}
-use Rattle.chip.specs.declared.Reading.{Reading}
+use Rattle.reads.specs.declared.Reading.{Reading}
 use Rattle.chip.specs.State.{requests}
-use Rattle.chip.specs.Reads.{port0, port1, port2, port3, hvcon, shown, reading, readingOf}
-use Rattle.chip.proofs.Bytes.{reading-byte-lt}
+use Rattle.reads.specs.Reads.{port0, port1, port2, port3, hvcon, shown, reading, readingOf}
+use Rattle.reads.proofs.Bytes.{reading-byte-lt}
 use Rattle.writes.specs.Writes.{writeNumber}
 use Rattle.pins.specs.Pins.{pinKind, pinMovedAs, pinMoved}
 use Rattle.step.specs.Step.{next, numberGiven, byteGiven, watchdogReset, wasReset, answered}

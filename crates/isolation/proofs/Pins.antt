@@ -19,7 +19,7 @@ use Rattle.bus.specs.declared.Edge.the-variants.{Flat, Rise, Fall}
 use Rattle.bus.specs.declared.Phase.{Phase}
 use Rattle.bus.specs.declared.Phase.the-variants.{Idle, Address}
 use Rattle.bus.specs.Lines.{edge, pullsSda, sdaPulled, sclPulled}
-use Rattle.bus.specs.Ddc2b.{addressBits, matches, phaseAtRise, dataAtRise, matchesAtRise, statusAtRise, holdsAtFall, acknowledges, phaseAtFall, startStatus, stopStatus}
+use Rattle.ddc2b.specs.Ddc2b.{addressBits, matches, phaseAtRise, dataAtRise, matchesAtRise, statusAtRise, holdsAtFall, acknowledges, phaseAtFall, startStatus, stopStatus}
 use Rattle.chip.specs.declared.Chip.{Chip}
 use Rattle.chip.specs.State.{busOf, hselOf, raised, withSync, withBus, withReset}
 use Rattle.sync.specs.Sync.{onVsync}

@@ -11,7 +11,7 @@ use Rattle.bus.specs.declared.Mode.the-variants.{Ddc2b}
 use Rattle.bus.specs.declared.Phase.{Phase}
 use Rattle.bus.specs.declared.Phase.the-variants.{Idle, Address, Ignoring}
 use Rattle.bus.specs.Lines.{mode, modeBy, pullsSda, pullsScl}
-use Rattle.bus.specs.Ddc2b.{addressBits}
+use Rattle.ddc2b.specs.Ddc2b.{addressBits}
 use Rattle.chip.specs.declared.Chip.{Chip}
 use Rattle.chip.specs.State.{busOf}
 use Rattle.isolation.specs.Foreign.{Trace, none, since, byteOf, Observer}

@@ -11,10 +11,10 @@ use Rattle.bits.proofs.Finite.{both}
 use Rattle.events.specs.Word.{decode}
 use Rattle.bus.specs.declared.Mode.the-variants.{Ddc2b}
 use Rattle.bus.specs.declared.Phase.{Phase}
-use Rattle.bus.specs.Ddc2b.{startPhase}
+use Rattle.ddc2b.specs.Ddc2b.{startPhase}
 use Rattle.chip.specs.declared.Chip.{Chip}
 use Rattle.chip.specs.State.{modeOf}
-use Rattle.chip.specs.Form.{wellFormed}
+use Rattle.form.specs.Form.{wellFormed}
 use Rattle.step.specs.Step.{advance}
 use Rattle.run.specs.Run.{advanced, advancedAnswers, ranTo, ran, ranAnswers}
 use Rattle.isolation.specs.Foreign.{alike, Trace, since, Observer, observerOf, observe, untouched, throughout, equalThroughout, comparedAnswer, comparedAnswers, comparedState, OneTransfer, SeveralTransfers, RunsAgree, CallsAgree, Begun, start-seen, bus-idle}

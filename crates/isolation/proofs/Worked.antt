@@ -9,12 +9,12 @@ use Rattle.events.specs.Word.{event, noEvent, noPlace, badByte, decode}
 use Rattle.sync.specs.Sync.{zeroLines, hselCleared, zeroSync, wellSync}
 use Rattle.bus.specs.declared.Phase.{Phase}
 use Rattle.bus.specs.declared.Phase.the-variants.{Ignoring}
-use Rattle.bus.specs.Ddc2b.{matches, gathered, phaseAtRise, dataAtRise, matchesAtRise, statusAtRise, holdsAtFall, acknowledges, phaseAtFall}
+use Rattle.ddc2b.specs.Ddc2b.{matches, gathered, phaseAtRise, dataAtRise, matchesAtRise, statusAtRise, holdsAtFall, acknowledges, phaseAtFall}
 use Rattle.bus.specs.Lines.{mode, changesMode, pullsSda, pullsScl, sdaPulled, sclPulled}
 use Rattle.chip.specs.declared.Chip.{Chip}
 use Rattle.chip.specs.State.{released, requests, resetAt, fresh, withReset}
-use Rattle.chip.specs.Reads.{shown, reading}
-use Rattle.chip.specs.Form.{reservedMask, reservedAt, reservedApart, gatheredFits, phaseFits, isIdle, isEmpty, busFits, wellFormed}
+use Rattle.reads.specs.Reads.{shown, reading}
+use Rattle.form.specs.Form.{reservedMask, reservedAt, reservedApart, gatheredFits, phaseFits, isIdle, isEmpty, busFits, wellFormed}
 use Rattle.lines.specs.Bus.{busAtMode, busAtRise, sclRise, sclFall, onSclDdc2b, onScl, sclMoved, started, stopped, onSdaDdc2b, onSda, sdaMoved}
 use Rattle.writes.specs.Writes.{target, syncAtHsel, mdconWritten, iiadrWritten, statusWritten, iistsWritten, writtenTo, written, writeNumber, writeRegister}
 use Rattle.pins.specs.Pins.{pinKind, onReset, resetMoved, pinMovedAs, pinMoved}

@@ -14,7 +14,7 @@ use Rattle.events.specs.declared.Decoded.the-variants.{Read, Write, Pin, Clock,
 use Rattle.events.specs.Word.{decode}
 use Rattle.bus.specs.declared.Phase.{Phase}
 use Rattle.bus.specs.declared.Phase.the-variants.{Idle, Address, Ignoring, Receive, Transmit, Held}
-use Rattle.bus.specs.Ddc2b.{startPhase, matches}
+use Rattle.ddc2b.specs.Ddc2b.{startPhase, matches}
 use Rattle.chip.specs.declared.Chip.{Chip}
 use Rattle.chip.specs.State.{busOf}
 use Rattle.run.specs.Run.{after, answers, ran, ranAnswers}

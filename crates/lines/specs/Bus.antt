@@ -12,7 +12,7 @@ use Rattle.bus.specs.declared.Phase.the-variants.{Idle}
 use Rattle.bus.specs.declared.Shifter.{Shifter}
 use Rattle.bus.specs.Lines.{edge, changesMode, line, pullsSda, sdaPulled, sclPulled}
 use Rattle.bus.specs.Ddc1.{loadsAtRise, shifterAtRise}
-use Rattle.bus.specs.Ddc2b.{startStatus, startPhase, stopStatus, phaseAtRise, dataAtRise, matchesAtRise, statusAtRise, holdsAtFall, phaseAtFall}
+use Rattle.ddc2b.specs.Ddc2b.{startStatus, startPhase, stopStatus, phaseAtRise, dataAtRise, matchesAtRise, statusAtRise, holdsAtFall, phaseAtFall}
 use Rattle.chip.specs.declared.Bus.{Bus}
 use Rattle.chip.specs.declared.Chip.{Chip}
 use Rattle.chip.specs.State.{busOf, released, modeOf, withBus, withMdcon, withSda, withScl, raised}

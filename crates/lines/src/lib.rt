@@ -65,10 +65,10 @@ pub fn bus_at_rise(sda: bool, b: Bus) -> Bus
     let phase = b.phase;
     let shifter = b.shifter;
     Bus {
-        iists: bus::status_at_rise(sda, phase, b.iists),
+        iists: ddc2b::status_at_rise(sda, phase, b.iists),
         iiadr: b.iiadr,
-        iidat: bus::data_at_rise(sda, phase, b.iidat),
-        phase: bus::phase_at_rise(b.iiadr, sda, phase),
+        iidat: ddc2b::data_at_rise(sda, phase, b.iidat),
+        phase: ddc2b::phase_at_rise(b.iiadr, sda, phase),
         shifter: shifter,
     }
 }
@@ -88,7 +88,7 @@ fn scl_rise(c: Chip) -> Chip
     let b = c.bus;
     let phase = b.phase;
     let sda = sda_line(b, c.sda);
-    let flags = bits::weight_if(bus::matches_at_rise(b.iiadr, sda, phase), INTA);
+    let flags = bits::weight_if(ddc2b::matches_at_rise(b.iiadr, sda, phase), INTA);
     let mut n = raised(c, flags);
     let after = bus_at_rise(sda, b);
     n.bus = after;
@@ -100,9 +100,9 @@ fn scl_fall(c: Chip) -> Chip
 {
     let b = c.bus;
     let phase = b.phase;
-    let flags = bits::weight_if(bus::holds_at_fall(phase), INTD);
+    let flags = bits::weight_if(ddc2b::holds_at_fall(phase), INTD);
     let mut n = raised(c, INTS | flags);
-    let after = with_phase(b, bus::phase_at_fall(phase));
+    let after = with_phase(b, ddc2b::phase_at_fall(phase));
     n.bus = after;
     n
 }

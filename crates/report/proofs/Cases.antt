@@ -9,7 +9,7 @@ use Rattle.rates.specs.Report.{FieldCase, LineCase}
 use Rattle.rates.proofs.Cases.{field-case, line-case}
 use Rattle.chip.specs.declared.Chip.{Chip}
 use Rattle.chip.specs.State.{hselOf}
-use Rattle.chip.specs.Form.{wellFormed}
+use Rattle.form.specs.Form.{wellFormed}
 use Rattle.report.specs.declared.Scan.{Scan}
 use Rattle.report.specs.declared.Scan.the-variants.{Field, Line}
 use Rattle.report.specs.Report.{scanReport, rateReport, ScanCase, RateCase}

@@ -7,7 +7,7 @@ use Rattle.rates.specs.declared.Rate.the-variants.{IllFormed, NothingLatched, O
 use Rattle.rates.specs.Report.{fieldReport, lineReport, FieldCase, LineCase}
 use Rattle.chip.specs.declared.Chip.{Chip}
 use Rattle.chip.specs.State.{hselOf}
-use Rattle.chip.specs.Form.{wellFormed}
+use Rattle.form.specs.Form.{wellFormed}
 use Rattle.report.specs.declared.Scan.{Scan}
 use Rattle.report.specs.declared.Scan.the-variants.{Field, Line}
 

@@ -15,7 +15,7 @@ pub enum Scan {
 pub fn rate(c: Chip, scan: Scan) -> Rate
     ensures { λ r. ⌜ (r ≡ rateReport c scan) × RateCase c scan r ⌝ }
 {
-    if chip::well_formed(c) {
+    if form::well_formed(c) {
         let s = c.sync;
         match scan {
             Scan::Field => rates::field_rate(s),

@@ -33,7 +33,7 @@ fn run_all(c: Chip, words: &[u32], answers: &mut [u32]) -> Chip
 pub fn run(c: Chip, words: &[u32], answers: &mut [u32]) -> Ran
     ensures { λ r. ⌜ (r ≡ ran c (now (words .entry)) (now (answers .entry))) × (now (answers .exit) ≡ ranAnswers c (now (words .entry)) (now (answers .entry))) ⌝ }
 {
-    if chip::well_formed(c) {
+    if form::well_formed(c) {
         if answers.len() < words.len() {
             Ran { chip: c, number: 7 }
         } else {

@@ -5,7 +5,7 @@ use native.Mathlib.Omega.{arith}
 use Rattle.events.specs.declared.Decoded.{Decoded}
 use Rattle.events.specs.declared.Decoded.the-variants.{Read, Write, Pin, Clock, Polarity, Refused}
 use Rattle.chip.specs.declared.Chip.{Chip}
-use Rattle.chip.proofs.Bytes.{reading-byte-lt}
+use Rattle.reads.proofs.Bytes.{reading-byte-lt}
 use Rattle.step.specs.Step.{byteGiven}
 
 pub byte-lt : (c : Chip) (e : Decoded) → byteGiven c e < 256

@@ -9,8 +9,8 @@ use Rattle.events.specs.Word.{decode, answerWord}
 use Rattle.sync.specs.Sync.{watchdogFires}
 use Rattle.chip.specs.declared.Chip.{Chip}
 use Rattle.chip.specs.State.{requests}
-use Rattle.chip.specs.Reads.{reading}
-use Rattle.chip.specs.Form.{wellFormed}
+use Rattle.reads.specs.Reads.{reading}
+use Rattle.form.specs.Form.{wellFormed}
 use Rattle.step.specs.declared.Outcome.{Outcome}
 use Rattle.step.specs.declared.Stepped.{Stepped}
 use Rattle.writes.specs.Writes.{writeNumber, writeRegister}

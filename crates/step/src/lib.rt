@@ -23,7 +23,7 @@ pub struct Stepped {
 fn read_outcome(c: Chip, a: u8) -> Outcome
     ensures { λ r. ⌜ r ≡ outcomeOf c (Decoded.Read a) ⌝ }
 {
-    let read = chip::read_register(c, a);
+    let read = reads::read_register(c, a);
     Outcome {
         chip: c,
         number: read.number,
@@ -127,7 +127,7 @@ pub fn advance(c: Chip, event: Decoded) -> Stepped
 pub fn step(c: Chip, word: u32) -> Stepped
     ensures { λ r. ⌜ r ≡ stepOf c word ⌝ }
 {
-    if chip::well_formed(c) {
+    if form::well_formed(c) {
         advance(c, events::decode(word))
     } else {
         Stepped {

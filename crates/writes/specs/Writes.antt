@@ -10,7 +10,7 @@ use Rattle.registers.specs.Table.{writeMask, isWritable}
 use Rattle.sync.specs.declared.Sync.{Sync}
 use Rattle.sync.specs.Sync.{hselCleared, clearOverflow}
 use Rattle.bus.specs.Lines.{mode, pullsScl}
-use Rattle.bus.specs.Ddc2b.{phaseLetGo}
+use Rattle.ddc2b.specs.Ddc2b.{phaseLetGo}
 use Rattle.chip.specs.declared.Bus.{Bus}
 use Rattle.chip.specs.declared.Chip.{Chip}
 use Rattle.chip.specs.State.{busOf, registerAt, withRegisters, withIrqx, withMdcon, withPolarity, withBt, withWatchdog, withSync, withBus}

@@ -166,7 +166,7 @@ fn bus_let_go(b: u8, wires: Bus) -> Bus
         iists: wires.iists,
         iiadr: wires.iiadr,
         iidat: updated(IIDAT, wires.iidat, b),
-        phase: bus::phase_let_go(bits::bit(2, wires.iists), b),
+        phase: ddc2b::phase_let_go(bits::bit(2, wires.iists), b),
         shifter: shifter,
     }
 }

@@ -1,0 +1,13 @@
+-- `ddc2b::acknowledges` meets its contract.
+-- Assumes nothing.
+use mathlib.Core.Path.{refl}
+use Rattle.ddc2b.specs.Ddc2b.{acknowledges}
+use Rattle.ddc2b.proofs.acknowledges.Statement.{statement}
+use Rattle.ddc2b.proofs.acknowledges.Tie as tie
+
+pub acknowledges-spec : {M : Type 1} → statement M
+unfolding acknowledges
+acknowledges-spec =
+    tie.close
+    (tie.spec
+    (λ c. refl))

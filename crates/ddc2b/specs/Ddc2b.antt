@@ -1,0 +1,106 @@
+-- DDC2B: the phases of a transfer (document 01, "The bus"). A definition for each thing that an edge of SCL moves.
+use Prim.Native.Nat.{ℕ, _+_, _*_, _/_, _%_}
+use mathlib.Core.Bool.{Bool, true, false, _||_}
+use lib.Bits.{bitOr}
+use lib.Dec.{eqb, ltb}
+use Rattle.bits.specs.Byte.{pick, num, withBit}
+use Rattle.bus.specs.declared.Phase.{Phase}
+use Rattle.bus.specs.declared.Phase.the-variants.{Idle, Address, Ignoring, Receive, Transmit, Held}
+
+-- bits 7..1 of a byte: the address without its direction bit
+abbrev pub addressBits : ℕ → ℕ
+addressBits byte = byte / 2 % 128
+
+-- the chip answers to A0H and to II ADR, the direction bit left aside
+unfoldable pub matches : ℕ → ℕ → Bool
+matches own byte = eqb (addressBits byte) 80 || eqb (addressBits byte) (addressBits own)
+
+-- the bits gathered so far with SDA entering lowest, so that the first bit ends on top
+unfoldable pub gathered : ℕ → Bool → ℕ
+gathered bits sda = bits % 128 * 2 + num sda
+
+-- ---- START and STOP
+-- START sets bit 5 of II STS, and the address follows; nothing is gathered yet
+abbrev pub startStatus : ℕ → ℕ
+startStatus status = bitOr status 0x20
+
+abbrev pub startPhase : Phase
+startPhase = Address 0 0 false
+
+-- STOP sets bit 4 of II STS, and the bus is idle
+abbrev pub stopStatus : ℕ → ℕ
+stopStatus status = bitOr status 0x10
+
+-- ---- a rise of the SCL line
+-- the phase once the eighth address bit is gathered: the chip's own, or somebody else's
+abbrev pub addressed : ℕ → ℕ → Phase
+addressed own byte = pick (matches own byte) (Address 8 byte false) Ignoring
+
+-- address and receive gather SDA up to eight bits; transmit takes the acknowledge once
+unfoldable pub phaseAtRise : ℕ → Bool → Phase → Phase
+phaseAtRise own sda Idle = Idle
+phaseAtRise own sda (Address count bits acknowledged) =
+    pick (ltb count 7) (Address (count + 1) (gathered bits sda) acknowledged)
+    (pick (ltb count 8) (addressed own (gathered bits sda)) (Address count bits acknowledged))
+phaseAtRise own sda Ignoring = Ignoring
+phaseAtRise own sda (Receive count bits acknowledged) =
+    pick (ltb count 8) (Receive (count + 1) (gathered bits sda) acknowledged) (Receive count bits acknowledged)
+phaseAtRise own sda (Transmit count byte) = pick (eqb count 9) (Transmit 10 byte) (Transmit count byte)
+phaseAtRise own sda Held = Held
+
+-- with the eighth bit gathered II DAT holds the byte, a foreign address too
+unfoldable pub dataAtRise : Bool → Phase → ℕ → ℕ
+dataAtRise sda Idle byte = byte
+dataAtRise sda (Address count bits acknowledged) byte = pick (eqb count 7) (gathered bits sda) byte
+dataAtRise sda Ignoring byte = byte
+dataAtRise sda (Receive count bits acknowledged) byte = pick (eqb count 7) (gathered bits sda) byte
+dataAtRise sda (Transmit count sent) byte = byte
+dataAtRise sda Held byte = byte
+
+-- flag A is set where the eighth address bit completes an address that matches
+unfoldable pub matchesAtRise : ℕ → Bool → Phase → Bool
+matchesAtRise own sda Idle = false
+matchesAtRise own sda (Address count bits acknowledged) = pick (eqb count 7) (matches own (gathered bits sda)) false
+matchesAtRise own sda Ignoring = false
+matchesAtRise own sda (Receive count bits acknowledged) = false
+matchesAtRise own sda (Transmit count byte) = false
+matchesAtRise own sda Held = false
+
+-- the first rise after the eighth fall of a transmit puts SDA in RXAK, bit 1 of II STS
+unfoldable pub statusAtRise : Bool → Phase → ℕ → ℕ
+statusAtRise sda Idle status = status
+statusAtRise sda (Address count bits acknowledged) status = status
+statusAtRise sda Ignoring status = status
+statusAtRise sda (Receive count bits acknowledged) status = status
+statusAtRise sda (Transmit count byte) status = pick (eqb count 9) (withBit status 1 sda) status
+statusAtRise sda Held status = status
+
+-- ---- a fall of the SCL line
+-- the fall after the ninth clock of a byte: flag D is set and the chip holds SCL low
+unfoldable pub holdsAtFall : Phase → Bool
+holdsAtFall Idle = false
+holdsAtFall (Address count bits acknowledged) = acknowledged
+holdsAtFall Ignoring = false
+holdsAtFall (Receive count bits acknowledged) = acknowledged
+holdsAtFall (Transmit count byte) = eqb count 10
+holdsAtFall Held = false
+
+-- the fall that begins the acknowledge
+unfoldable pub acknowledges : ℕ → Bool
+acknowledges count = eqb count 8
+
+-- after eight bits a fall pulls SDA and the next one holds; a transmit puts the next bit, releases SDA at the eighth fall,
+-- waits there for the acknowledge, and holds once it was taken
+unfoldable pub phaseAtFall : Phase → Phase
+phaseAtFall Idle = Idle
+phaseAtFall (Address count bits acknowledged) = pick acknowledged Held (Address count bits (acknowledges count))
+phaseAtFall Ignoring = Ignoring
+phaseAtFall (Receive count bits acknowledged) = pick acknowledged Held (Receive count bits (acknowledges count))
+phaseAtFall (Transmit count byte) = pick (ltb count 9) (Transmit (count + 1) byte) (pick (eqb count 10) Held (Transmit count byte))
+phaseAtFall Held = Held
+
+-- ---- letting SCL go
+-- a write to II DAT while held: TRX, bit 2 of II STS, at 1 puts bit 7 of the byte on SDA; at 0 a receive begins
+abbrev pub phaseLetGo : Bool → ℕ → Phase
+phaseLetGo true byte = Transmit 1 byte
+phaseLetGo false byte = Receive 0 0 false

@@ -1,0 +1,327 @@
+// DDC2B: the phases of a transfer. What each edge of the SCL line does to the phase, to II DAT, to RXAK and to the flags.
+ghost use mathlib.Core.Path.{_≡_};
+ghost use Rattle.bus.specs.declared.Phase.{Phase};
+ghost use Rattle.ddc2b.specs.Ddc2b.{matches as matchesOf, gathered as gatheredBits, addressed as addressedOf, phaseAtRise, dataAtRise, matchesAtRise, statusAtRise, holdsAtFall, acknowledges as acknowledgesOf, phaseAtFall, phaseLetGo};
+use bus::Phase;
+
+// An address is the chip's own by A0H or by II ADR, the direction bit left aside.
+// Wrong answers: A2H taken for A0H; the direction bit compared.
+pub fn matches(own: u8, byte: u8) -> bool
+    ensures { λ r. ⌜ r ≡ matchesOf own byte ⌝ }
+{
+    (byte / 2 % 128 == 80) | (byte / 2 % 128 == own / 2 % 128)
+}
+
+// The bits gathered with SDA entering lowest.
+// Wrong answers: SDA gathered inverted; SDA entering highest.
+pub fn gathered(bits: u8, sda: bool) -> u8
+    ensures { λ r. ⌜ r ≡ gatheredBits bits sda ⌝ }
+{
+    let shifted = bits % 128 * 2;
+    if sda { shifted + 1 } else { shifted }
+}
+
+fn addressed(own: u8, byte: u8) -> Phase
+    ensures { λ r. ⌜ r ≡ addressedOf own byte ⌝ }
+{
+    if matches(own, byte) {
+        Phase::Address {
+            count: 8,
+            bits: byte,
+            acknowledged: false,
+        }
+    } else {
+        Phase::Ignoring
+    }
+}
+
+fn address_at_rise(own: u8, sda: bool, count: u8, bits: u8, acknowledged: bool) -> Phase
+    ensures { λ r. ⌜ r ≡ phaseAtRise own sda (Phase.Address count bits acknowledged) ⌝ }
+{
+    if count < 7 {
+        return Phase::Address {
+            count: count + 1,
+            bits: gathered(bits, sda),
+            acknowledged: acknowledged,
+        };
+    }
+    if count < 8 {
+        addressed(own, gathered(bits, sda))
+    } else {
+        Phase::Address {
+            count: count,
+            bits: bits,
+            acknowledged: acknowledged,
+        }
+    }
+}
+
+fn receive_at_rise(own: u8, sda: bool, count: u8, bits: u8, acknowledged: bool) -> Phase
+    ensures { λ r. ⌜ r ≡ phaseAtRise own sda (Phase.Receive count bits acknowledged) ⌝ }
+{
+    if count < 8 {
+        Phase::Receive {
+            count: count + 1,
+            bits: gathered(bits, sda),
+            acknowledged: acknowledged,
+        }
+    } else {
+        Phase::Receive {
+            count: count,
+            bits: bits,
+            acknowledged: acknowledged,
+        }
+    }
+}
+
+fn transmit_at_rise(own: u8, sda: bool, count: u8, byte: u8) -> Phase
+    ensures { λ r. ⌜ r ≡ phaseAtRise own sda (Phase.Transmit count byte) ⌝ }
+{
+    if count == 9 {
+        Phase::Transmit {
+            count: 10,
+            byte: byte,
+        }
+    } else {
+        Phase::Transmit {
+            count: count,
+            byte: byte,
+        }
+    }
+}
+
+// The phase after a rise of the SCL line, at the SDA line's level.
+// Wrong answers: an address decided at the seventh rise; a foreign address kept in the address phase.
+pub fn phase_at_rise(own: u8, sda: bool, phase: Phase) -> Phase
+    ensures { λ r. ⌜ r ≡ phaseAtRise own sda phase ⌝ }
+{
+    match phase {
+        Phase::Idle => phase,
+        Phase::Address {
+            count,
+            bits,
+            acknowledged,
+        } => address_at_rise(own, sda, count, bits, acknowledged),
+        Phase::Ignoring => phase,
+        Phase::Receive {
+            count,
+            bits,
+            acknowledged,
+        } => receive_at_rise(own, sda, count, bits, acknowledged),
+        Phase::Transmit { count, byte } => transmit_at_rise(own, sda, count, byte),
+        Phase::Held => phase,
+    }
+}
+
+// II DAT after a rise of the SCL line: the byte whose eighth bit this is, else as it was.
+// Wrong answers: the bits so far at each rise; II DAT kept for a foreign address.
+pub fn data_at_rise(sda: bool, phase: Phase, byte: u8) -> u8
+    ensures { λ r. ⌜ r ≡ dataAtRise sda phase byte ⌝ }
+{
+    match phase {
+        Phase::Idle => byte,
+        Phase::Address {
+            count,
+            bits,
+            acknowledged: _,
+        } => {
+            if count == 7 {
+                gathered(bits, sda)
+            } else {
+                byte
+            }
+        }
+        Phase::Ignoring => byte,
+        Phase::Receive {
+            count,
+            bits,
+            acknowledged: _,
+        } => {
+            if count == 7 {
+                gathered(bits, sda)
+            } else {
+                byte
+            }
+        }
+        Phase::Transmit { count: _, byte: _ } => byte,
+        Phase::Held => byte,
+    }
+}
+
+// A rise of the SCL line completes an address that matches.
+// Wrong answers: true for a foreign address, since II DAT has changed; true at the seventh rise.
+pub fn matches_at_rise(own: u8, sda: bool, phase: Phase) -> bool
+    ensures { λ r. ⌜ r ≡ matchesAtRise own sda phase ⌝ }
+{
+    match phase {
+        Phase::Idle => false,
+        Phase::Address {
+            count,
+            bits,
+            acknowledged: _,
+        } => {
+            if count == 7 {
+                matches(own, gathered(bits, sda))
+            } else {
+                false
+            }
+        }
+        Phase::Ignoring => false,
+        Phase::Receive {
+            count: _,
+            bits: _,
+            acknowledged: _,
+        } => false,
+        Phase::Transmit { count: _, byte: _ } => false,
+        Phase::Held => false,
+    }
+}
+
+// II STS after a rise of the SCL line: RXAK is taken.
+// Wrong answers: SDA taken at the rise of each bit put out; RXAK taken inverted.
+pub fn status_at_rise(sda: bool, phase: Phase, status: u8) -> u8
+    ensures { λ r. ⌜ r ≡ statusAtRise sda phase status ⌝ }
+{
+    match phase {
+        Phase::Idle => status,
+        Phase::Address {
+            count: _,
+            bits: _,
+            acknowledged: _,
+        } => status,
+        Phase::Ignoring => status,
+        Phase::Receive {
+            count: _,
+            bits: _,
+            acknowledged: _,
+        } => status,
+        Phase::Transmit { count, byte: _ } => {
+            if count == 9 {
+                bits::with_bit(status, 1, sda)
+            } else {
+                status
+            }
+        }
+        Phase::Held => status,
+    }
+}
+
+// A fall of the SCL line takes hold of SCL.
+// Wrong answers: true at the fall that pulls SDA; true while a transmit awaits its acknowledge.
+pub fn holds_at_fall(phase: Phase) -> bool
+    ensures { λ r. ⌜ r ≡ holdsAtFall phase ⌝ }
+{
+    match phase {
+        Phase::Idle => false,
+        Phase::Address {
+            count: _,
+            bits: _,
+            acknowledged,
+        } => acknowledged,
+        Phase::Ignoring => false,
+        Phase::Receive {
+            count: _,
+            bits: _,
+            acknowledged,
+        } => acknowledged,
+        Phase::Transmit { count, byte: _ } => count == 10,
+        Phase::Held => false,
+    }
+}
+
+// The fall after eight bits pulls SDA for the acknowledge.
+// Wrong answers: true after seven bits; true at each fall.
+pub fn acknowledges(count: u8) -> bool
+    ensures { λ r. ⌜ r ≡ acknowledgesOf count ⌝ }
+{
+    count == 8
+}
+
+fn address_at_fall(count: u8, bits: u8, acknowledged: bool) -> Phase
+    ensures { λ r. ⌜ r ≡ phaseAtFall (Phase.Address count bits acknowledged) ⌝ }
+{
+    if acknowledged {
+        Phase::Held
+    } else {
+        Phase::Address {
+            count: count,
+            bits: bits,
+            acknowledged: acknowledges(count),
+        }
+    }
+}
+
+fn receive_at_fall(count: u8, bits: u8, acknowledged: bool) -> Phase
+    ensures { λ r. ⌜ r ≡ phaseAtFall (Phase.Receive count bits acknowledged) ⌝ }
+{
+    if acknowledged {
+        Phase::Held
+    } else {
+        Phase::Receive {
+            count: count,
+            bits: bits,
+            acknowledged: acknowledges(count),
+        }
+    }
+}
+
+fn transmit_at_fall(count: u8, byte: u8) -> Phase
+    ensures { λ r. ⌜ r ≡ phaseAtFall (Phase.Transmit count byte) ⌝ }
+{
+    if count < 9 {
+        return Phase::Transmit {
+            count: count + 1,
+            byte: byte,
+        };
+    }
+    if count == 10 {
+        Phase::Held
+    } else {
+        Phase::Transmit {
+            count: count,
+            byte: byte,
+        }
+    }
+}
+
+// The phase after a fall of the SCL line.
+// Wrong answers: SDA pulled at the seventh fall; a transmit held while its acknowledge is awaited.
+pub fn phase_at_fall(phase: Phase) -> Phase
+    ensures { λ r. ⌜ r ≡ phaseAtFall phase ⌝ }
+{
+    match phase {
+        Phase::Idle => phase,
+        Phase::Address {
+            count,
+            bits,
+            acknowledged,
+        } => address_at_fall(count, bits, acknowledged),
+        Phase::Ignoring => phase,
+        Phase::Receive {
+            count,
+            bits,
+            acknowledged,
+        } => receive_at_fall(count, bits, acknowledged),
+        Phase::Transmit { count, byte } => transmit_at_fall(count, byte),
+        Phase::Held => phase,
+    }
+}
+
+// The phase once SCL is let go.
+// Wrong answers: a transmit where TRX is 0; a transmit that begins with bit 6.
+pub fn phase_let_go(trx: bool, byte: u8) -> Phase
+    ensures { λ r. ⌜ r ≡ phaseLetGo trx byte ⌝ }
+{
+    if trx {
+        Phase::Transmit {
+            count: 1,
+            byte: byte,
+        }
+    } else {
+        Phase::Receive {
+            count: 0,
+            bits: 0,
+            acknowledged: false,
+        }
+    }
+}

@@ -1,0 +1,21 @@
+-- `reads::port1` meets its contract.
+-- Assumes nothing.
+use Rattle.reads.specs.Reads.{port1}
+use borrow.Author.Needs.{needs}
+use Rattle.reads.proofs.port1.Statement.{statement}
+use Rattle.reads.proofs.port1.Tie as tie
+
+pub port1-spec : {M : Type 1} → statement M
+unfolding port1
+port1-spec =
+    tie.close
+    (tie.spec
+    (λ c. search needs)
+    (λ c. search needs)
+    (λ c. search needs)
+    (λ c. search needs)
+    (λ c. search needs)
+    (λ c. search needs)
+    (λ c κs. search needs)
+    (λ c κs. search needs)
+    (λ c. simp (c .port-read .ensures, c .before .given1 .ensures)))

@@ -1,0 +1,18 @@
+-- `reads::port2` meets its contract.
+-- Assumes nothing.
+use Rattle.reads.specs.Reads.{port2}
+use borrow.Author.Needs.{needs}
+use Rattle.reads.proofs.port2.Statement.{statement}
+use Rattle.reads.proofs.port2.Tie as tie
+
+pub port2-spec : {M : Type 1} → statement M
+unfolding port2
+port2-spec =
+    tie.close
+    (tie.spec
+    (λ c. search needs)
+    (λ c. search needs)
+    (λ c. search needs)
+    (λ c. search needs)
+    (λ c κs. search needs)
+    (λ c. simp (c .merge .ensures)))
