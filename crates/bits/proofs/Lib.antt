@@ -3,3 +3,4 @@ pub mod Weight
 pub mod Distrib
 pub mod Bitwise
 pub mod Mask
+pub mod Level

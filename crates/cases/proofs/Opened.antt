@@ -3,8 +3,9 @@ use Prim.Native.Nat.{ℕ}
 use Rattle.bits.specs.Byte.{bit, merge, withBit}
 use Rattle.registers.specs.Table.{table, rowOf, resetValue, writeMask, readMask, isWritable, isReadable, resets}
 use Rattle.events.specs.Word.{event, noEvent, noPlace, badByte, decode}
-use Rattle.sync.specs.Count.{counted, overflowed, latched, zeroed, cycleNext}
-use Rattle.sync.specs.Sync.{stepLines, latchLines, clearLines, zeroLines, stepPeriods, latchPeriods, clearPeriods, onHsync, linesOnVsync, onVsync, intervalNext, linesOnPeriod, onPeriod, hselCleared, clearOverflow, zeroSync, wellSync, timerNext, timerOverflows, watchdogNext, watchdogFires}
+use Rattle.counters.specs.Count.{counted, overflowed, latched, zeroed, cycleNext}
+use Rattle.sync.specs.Sync.{stepLines, latchLines, clearLines, zeroLines, stepPeriods, latchPeriods, clearPeriods, onHsync, linesOnVsync, onVsync, intervalNext, linesOnPeriod, onPeriod, hselCleared, clearOverflow, zeroSync, wellSync}
+use Rattle.counters.specs.Count.{timerNext, timerOverflows, watchdogNext, watchdogFires}
 use Rattle.bus.specs.Ddc1.{loadsAtRise, shifterAtRise}
 use Rattle.ddc2b.specs.Ddc2b.{matches, gathered, phaseAtRise, dataAtRise, matchesAtRise, statusAtRise, holdsAtFall, acknowledges, phaseAtFall}
 use Rattle.bus.specs.Lines.{mode, changesMode, pullsAtBit, pullsSda, pullsScl, sdaPulled, sclPulled}
@@ -12,12 +13,14 @@ use Rattle.form.specs.Form.{reservedMask, reservedAt, reservedApart, gatheredFi
 use Rattle.reads.specs.Reads.{port0, port1, port2, port3, hvcon, shown, reading}
 use Rattle.chip.specs.State.{released, requests, resetAt, resetChip, fresh}
 use Rattle.lines.specs.Bus.{busAtMode, busAtRise, sclRise, sclFall, leaveDdc1, onSclDdc1, onSclDdc2b, onScl, sclMoved, started, stopped, onSdaDdc2b, onSda, sdaMoved, busAtVsync, loadsAtVsync}
-use Rattle.writes.specs.Writes.{target, storedWritten, syncAtHsel, mdconWritten, clrflgWritten, clrwdtWritten, iiadrWritten, statusWritten, iistsWritten, busRisen, busAtIidat, iidatWritten, writtenTo, written, writeNumber, writeRegister}
+use Rattle.writes.specs.Writes.{target, storedWritten, clrflgWritten, clrwdtWritten, writtenTo, written, writeNumber, writeRegister}
+use Rattle.ddc_writes.specs.DdcWrites.{syncAtHsel, mdconWritten, iiadrWritten, statusWritten, iistsWritten, busRisen, busAtIidat, iidatWritten}
 use Rattle.pins.specs.Pins.{pinKind, port0Moved, port1Moved, port2Moved, p16Moved, hsyncMoved, vsyncRise, vsyncMoved, onReset, resetMoved, pinMovedAs, pinMoved}
 use Rattle.clocks.specs.Clocks.{periodClock, timerRuns, timerStep, timerClock, watchdogClock, clockedAs, clocked, polarityFound}
 use Rattle.rates.specs.Report.{byPeriods, byInterval, byField, fieldReport, lineReport}
 use Rattle.report.specs.Report.{scanReport, rateReport}
-use Rattle.step.specs.Step.{next, numberGiven, byteGiven, watchdogReset, answered, advance, step}
+use Rattle.step.specs.Step.{answered, advance, step}
+use Rattle.outcome.specs.Outcome.{next, numberGiven, byteGiven, watchdogReset}
 use Rattle.run.specs.Run.{ran, ranAnswers}
 
 -- a proof that names this on its `unfolding` line computes steps

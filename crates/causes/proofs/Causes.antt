@@ -10,7 +10,7 @@ use Rattle.events.specs.declared.Decoded.the-variants.{Read, Write, Pin, Clock,
 use Rattle.events.specs.Word.{decode, InRange}
 use Rattle.events.proofs.Refusal.{decode-in-range}
 use Rattle.chip.specs.declared.Chip.{Chip}
-use Rattle.step.specs.Step.{next}
+use Rattle.outcome.specs.Outcome.{next}
 use Rattle.causes.specs.Causes.{Source, flag, raises, clears}
 use Rattle.causes.proofs.Flags.{after, never-read, never-write, never-reset, never-refused}
 use Rattle.causes.proofs.Writes.{at-write}

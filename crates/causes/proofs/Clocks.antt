@@ -13,11 +13,11 @@ use Rattle.registers.specs.Names.{BTCON}
 use Rattle.registers.specs.Table.{rowOf, resetValue}
 use Rattle.events.specs.declared.Decoded.the-variants.{Clock, Polarity}
 use Rattle.events.specs.Word.{InRange}
-use Rattle.sync.specs.Sync.{timerOverflows, watchdogFires}
+use Rattle.counters.specs.Count.{timerOverflows, watchdogFires}
 use Rattle.chip.specs.declared.Chip.{Chip}
 use Rattle.chip.specs.State.{resetAt, resetChip, registerAt, withWatchdog, withPolarity}
 use Rattle.clocks.specs.Clocks.{periodClock, timerRuns, timerStep, timerClock, watchdogClock, clockedAs, clocked, polarityFound}
-use Rattle.step.specs.Step.{next}
+use Rattle.outcome.specs.Outcome.{next}
 use Rattle.causes.specs.Causes.{Source, place, flag, raises, clears}
 use Rattle.causes.specs.Causes.Source.{SclFall, DataByte, AddressMatch, TimerOverflow, ExternalRise, VsyncRise}
 use Rattle.causes.proofs.Bools.{always, at-six}

@@ -8,13 +8,15 @@ use Rattle.bits.specs.Byte.{pick, bit}
 use Rattle.bits.proofs.Bitwise.{bit-and}
 use Rattle.registers.specs.Names.{IEX}
 use Rattle.events.specs.declared.Decoded.{Decoded}
-use Rattle.events.specs.Word.{decode, answerWord}
+use Rattle.events.specs.Word.{decode}
+use Rattle.answers.specs.Answer.{answerWord}
 use Rattle.chip.specs.declared.Chip.{Chip}
 use Rattle.chip.specs.State.{requests as requestsOf, registerAt}
 use Rattle.form.specs.Form.{wellFormed}
 use Rattle.step.specs.declared.Stepped.{Stepped}
-use Rattle.step.proofs.Byte.{byte-lt}
-use Rattle.step.specs.Step.{next, numberGiven, byteGiven, watchdogReset, answered, advance, step}
+use Rattle.outcome.proofs.Byte.{byte-lt}
+use Rattle.step.specs.Step.{answered, advance, step}
+use Rattle.outcome.specs.Outcome.{next, numberGiven, byteGiven, watchdogReset}
 use Rattle.causes.specs.Causes.{Source, place, flag, enabled}
 use Rattle.causes.specs.Causes.Source.{SclFall, DataByte, AddressMatch, TimerOverflow, ExternalRise, VsyncRise}
 

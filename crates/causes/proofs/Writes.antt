@@ -14,8 +14,9 @@ use Rattle.events.specs.Word.{InRange}
 use Rattle.chip.specs.declared.Chip.{Chip}
 use Rattle.writes.specs.declared.Target.{Target}
 use Rattle.writes.specs.declared.Target.the-variants.{Stored, Mdcon, Hvcon, Clrflg, Clrwdt, Iiadr, Iidat, Iists, Bt}
-use Rattle.writes.specs.Writes.{target, storedWritten, mdconWritten, clrflgWritten, clrwdtWritten, iiadrWritten, iidatWritten, iistsWritten, writtenTo, written, writeRegister}
-use Rattle.step.specs.Step.{next}
+use Rattle.writes.specs.Writes.{target, storedWritten, clrflgWritten, clrwdtWritten, writtenTo, written, writeRegister}
+use Rattle.ddc_writes.specs.DdcWrites.{mdconWritten, iiadrWritten, iidatWritten, iistsWritten}
+use Rattle.outcome.specs.Outcome.{next}
 use Rattle.causes.specs.Causes.{Source, place, flag, clears}
 use Rattle.causes.proofs.Flags.{after, never-write, clear-bit}
 

@@ -4,7 +4,8 @@ use mathlib.Core.Bool.{Bool, false}
 use lib.Dec.{eqb}
 use Rattle.bits.specs.Byte.{pick, bit, withBit}
 use Rattle.registers.specs.Names.{BTCON, INTR}
-use Rattle.sync.specs.Sync.{onPeriod, timerNext, timerOverflows, watchdogNext, watchdogFires}
+use Rattle.sync.specs.Sync.{onPeriod}
+use Rattle.counters.specs.Count.{timerNext, timerOverflows, watchdogNext, watchdogFires}
 use Rattle.chip.specs.declared.Chip.{Chip}
 use Rattle.chip.specs.State.{registerAt, hselOf, resetChip, raised, withBt, withWatchdog, withSync, withPolarity}
 

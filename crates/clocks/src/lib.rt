@@ -30,9 +30,9 @@ fn timer_runs(btcon: u8, k: u8) -> bool
 fn timer_step(c: Chip) -> Chip
     ensures { λ r. ⌜ r ≡ timerStep c ⌝ }
 {
-    let flags = bits::weight_if(sync::timer_overflows(c.bt), INTR);
+    let flags = bits::weight_if(counters::timer_overflows(c.bt), INTR);
     let mut n = lines::raised(c, flags);
-    n.bt = sync::timer_next(c.bt);
+    n.bt = counters::timer_next(c.bt);
     n
 }
 
@@ -50,11 +50,11 @@ fn timer_clock(c: Chip, k: u8) -> Chip
 fn watchdog_clock(c: Chip) -> Chip
     ensures { λ r. ⌜ r ≡ watchdogClock c ⌝ }
 {
-    if sync::watchdog_fires(c.watchdog) {
+    if counters::watchdog_fires(c.watchdog) {
         chip::reset_chip(c)
     } else {
         let mut n = c;
-        n.watchdog = sync::watchdog_next(c.watchdog);
+        n.watchdog = counters::watchdog_next(c.watchdog);
         n
     }
 }

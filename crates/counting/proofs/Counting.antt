@@ -15,10 +15,10 @@ use Rattle.events.specs.Word.{decode}
 use Rattle.events.proofs.Refusal.{decode-in-range}
 use Rattle.sync.specs.declared.LineCounter.{LineCounter}
 use Rattle.sync.specs.declared.PeriodCounter.{PeriodCounter}
-use Rattle.sync.specs.Count.{counted, overflowed}
+use Rattle.counters.specs.Count.{counted, overflowed}
 use Rattle.sync.specs.Sync.{stepLines, stepsLines, stepPeriods, stepsPeriods}
 use Rattle.chip.specs.declared.Chip.{Chip}
-use Rattle.step.specs.Step.{next}
+use Rattle.outcome.specs.Outcome.{next}
 use Rattle.causes.specs.Causes.{putHigh, isClock}
 use Rattle.counting.specs.Counting.{advanced, hsyncRises, periodClocks, zeroesLines, zeroesPeriods, never}
 use Rattle.counting.proofs.Events.{effect}

@@ -15,11 +15,12 @@ use Rattle.events.specs.declared.Decoded.{Decoded}
 use Rattle.events.specs.declared.Decoded.the-variants.{Read, Write, Pin, Clock, Polarity, Refused}
 use Rattle.events.specs.Word.{InRange}
 use Rattle.events.proofs.Refusal.{pin-lt}
-use Rattle.events.proofs.Level.{pick-by}
+use Rattle.bits.proofs.Level.{pick-by}
 use Rattle.sync.specs.declared.Sync.{Sync}
 use Rattle.sync.specs.declared.LineCounter.{LineCounter}
 use Rattle.sync.specs.declared.PeriodCounter.{PeriodCounter}
-use Rattle.sync.specs.Sync.{stepLines, stepPeriods, clearLines, clearPeriods, linesOnVsync, linesOnPeriod, onHsync, onVsync, onPeriod, hselCleared, clearOverflow, watchdogFires, watchdogNext}
+use Rattle.sync.specs.Sync.{stepLines, stepPeriods, clearLines, clearPeriods, linesOnVsync, linesOnPeriod, onHsync, onVsync, onPeriod, hselCleared, clearOverflow}
+use Rattle.counters.specs.Count.{watchdogFires, watchdogNext}
 use Rattle.bus.specs.declared.Mode.{Mode}
 use Rattle.bus.specs.declared.Mode.the-variants.{Off, Ddc1, Ddc2b}
 use Rattle.bus.specs.declared.Edge.{Edge}
@@ -28,12 +29,13 @@ use Rattle.bus.specs.Lines.{edge}
 use Rattle.chip.specs.declared.Chip.{Chip}
 use Rattle.chip.specs.State.{hselOf, resetAt, resetChip, registerAt, withPolarity, withWatchdog, withReset, withScl, withSda}
 use Rattle.lines.specs.Bus.{onScl, onSclDdc1, onSclDdc2b, sclRise, sclFall, leaveDdc1, sclMoved, onSda, onSdaDdc2b, started, stopped, sdaMoved}
-use Rattle.writes.specs.Writes.{syncAtHsel, updated}
+use Rattle.ddc_writes.specs.DdcWrites.{syncAtHsel}
+use Rattle.registers.specs.Table.{updated}
 use Rattle.pins.specs.declared.PinKind.{PinKind}
 use Rattle.pins.specs.declared.PinKind.the-variants.{Port0, Port1, P16, Port2, Sda, Scl, Hsynci, Vsynci, Reset}
 use Rattle.pins.specs.Pins.{pinKind, rises, port0Moved, port1Moved, port2Moved, p16Moved, hsyncMoved, vsyncLevel, vsyncMoved, vsyncRise, onReset, resetMoved, pinMovedAs, pinMoved}
 use Rattle.clocks.specs.Clocks.{periodClock, timerRuns, timerStep, timerClock, watchdogClock, clockedAs, clocked, polarityFound}
-use Rattle.step.specs.Step.{next}
+use Rattle.outcome.specs.Outcome.{next}
 use Rattle.causes.proofs.Clocks.{watchdog-last}
 use Rattle.causes.specs.Causes.{putHigh, isClock}
 use Rattle.frame.proofs.Fields.{fields, by-write}

@@ -7,7 +7,7 @@ use Prim.Native.Nat.{ℕ, _+_}
 use native.Mathlib.Nat.{zero-add}
 use Rattle.events.specs.Word.{decode}
 use Rattle.chip.specs.declared.Chip.{Chip}
-use Rattle.step.specs.Step.{next}
+use Rattle.outcome.specs.Outcome.{next}
 use Rattle.counting.specs.Counting.{advanced, hsyncRises, periodClocks, zeroesLines, zeroesPeriods, never}
 use Rattle.counting.proofs.Counting.{lines-counted, periods-counted}
 use Rattle.counting.proofs.Zeroed.{lines-zeroed, periods-zeroed}

@@ -7,12 +7,12 @@ use Prim.Native.Nat.{ℕ}
 use Rattle.bits.specs.Byte.{bit, withBit}
 use Rattle.registers.specs.Table.{resets, resetValue, rowOf}
 use Rattle.events.specs.Word.{event, noEvent, noPlace, badByte, decode}
-use Rattle.sync.specs.Count.{counted, overflowed}
+use Rattle.counters.specs.Count.{counted, overflowed}
 use Rattle.sync.specs.Sync.{stepLines, stepPeriods, onHsync, linesOnPeriod, intervalNext, onPeriod, zeroSync}
 use Rattle.chip.specs.State.{resetAt, fresh}
 use Rattle.pins.specs.Pins.{pinKind, hsyncMoved, pinMovedAs, pinMoved}
 use Rattle.clocks.specs.Clocks.{periodClock, clockedAs, clocked}
-use Rattle.step.specs.Step.{next}
+use Rattle.outcome.specs.Outcome.{next}
 use Rattle.counting.specs.Counting.{advanced, hsyncRises, periodClocks, zeroesLines, zeroesPeriods, never}
 
 -- HSYNCI low, high, an 8 µs clock, HSYNCI high again, low, high

@@ -13,19 +13,21 @@ use Rattle.registers.specs.Names.{MDCON, CLRFLG}
 use Rattle.registers.specs.Table.{rowOf, isWritable}
 use Rattle.events.specs.declared.Decoded.{Decoded}
 use Rattle.events.specs.declared.Decoded.the-variants.{Read, Write, Pin, Clock, Polarity, Refused}
-use Rattle.events.proofs.Level.{pick-by}
+use Rattle.bits.proofs.Level.{pick-by}
 use Rattle.sync.specs.declared.Sync.{Sync}
 use Rattle.sync.specs.declared.LineCounter.{LineCounter}
 use Rattle.sync.specs.declared.PeriodCounter.{PeriodCounter}
-use Rattle.sync.specs.Count.{zeroed}
-use Rattle.sync.specs.Sync.{clearLines, clearPeriods, zeroLines, latchLines, latchPeriods, linesOnVsync, linesOnPeriod, onVsync, onPeriod, hselCleared, clearOverflow, zeroSync, watchdogFires}
+use Rattle.counters.specs.Count.{zeroed}
+use Rattle.sync.specs.Sync.{clearLines, clearPeriods, zeroLines, latchLines, latchPeriods, linesOnVsync, linesOnPeriod, onVsync, onPeriod, hselCleared, clearOverflow, zeroSync}
+use Rattle.counters.specs.Count.{watchdogFires}
 use Rattle.bus.specs.Lines.{edge}
 use Rattle.chip.specs.declared.Chip.{Chip}
 use Rattle.chip.specs.State.{hselOf, resetAt, resetChip, withReset}
-use Rattle.writes.specs.Writes.{target, syncAtHsel, mdconWritten, clrflgWritten, writtenTo, written, writeRegister}
+use Rattle.writes.specs.Writes.{target, clrflgWritten, writtenTo, written, writeRegister}
+use Rattle.ddc_writes.specs.DdcWrites.{syncAtHsel, mdconWritten}
 use Rattle.pins.specs.Pins.{pinKind, rises, onReset, resetMoved, vsyncMoved, pinMovedAs, pinMoved}
 use Rattle.clocks.specs.Clocks.{watchdogClock, clockedAs, clocked}
-use Rattle.step.specs.Step.{next}
+use Rattle.outcome.specs.Outcome.{next}
 use Rattle.causes.specs.Causes.{risesVsynci}
 use Rattle.causes.proofs.Clocks.{watchdog-last}
 use Rattle.counting.specs.Counting.{zeroesLines, zeroesPeriods}

@@ -7,7 +7,7 @@ use lib.Dec.{eqb, ltb}
 use borrow.Author.Tests.{ltb-false, le-ltb, eqb-true, eqb-false}
 use Rattle.bits.specs.Byte.{num}
 use Rattle.bits.proofs.Mask.{num-lt}
-use Rattle.events.proofs.Level.{pick-by, eqb-num, num-eqb}
+use Rattle.bits.proofs.Level.{pick-by, eqb-num, num-eqb}
 use Rattle.events.proofs.Refusal.{pin-lt, decode-in-range, number-is}
 use Rattle.events.specs.declared.Decoded.{Decoded}
 use Rattle.events.specs.declared.Decoded.the-variants.{Read, Write, Pin, Clock, Polarity, Refused}

@@ -1,5 +1,3 @@
-pub mod Level
 pub mod Refusal
 pub mod EventWord
-pub mod AnswerWord
 pub mod Worked

@@ -1,4 +1,4 @@
--- Event words, answer words, and the numbers 1 to 3 that refuse a word (document 01, "Event words" and "Numbers given back").
+-- Event words, and the numbers 1 to 3 that refuse a word (document 01, "Event words" and "Numbers given back").
 use Prim.Native.Nat.{ℕ, _+_, _*_, _/_, _%_, _<_}
 use mathlib.Core.Bool.{Bool, true, false, not, _&&_, _||_}
 use mathlib.Core.Path.{_≡_}
@@ -6,7 +6,6 @@ use lib.Dec.{eqb, ltb}
 use Rattle.bits.specs.Byte.{pick, num}
 use Rattle.events.specs.declared.Decoded.{Decoded}
 use Rattle.events.specs.declared.Decoded.the-variants.{Read, Write, Pin, Clock, Polarity, Refused}
-use Rattle.events.specs.declared.AnswerFields.{AnswerFields}
 
 -- "Event words": bits 31..24 of a word
 abbrev pub kind : ℕ → ℕ
@@ -45,19 +44,6 @@ kindOf (Refused number) = 0
 -- "Event words", pins: 0 to 14 and 16 to 28
 abbrev pub isPin : ℕ → Bool
 isPin a = ltb a 15 || (ltb 15 a && ltb a 29)
-
--- "Event words", answers: the word with these parts; bits 23..17 are 0
-abbrev pub answerWord : ℕ → Bool → ℕ → ℕ → ℕ
-answerWord number watchdog requests byte = number * 16777216 + num watchdog * 65536 + requests * 256 + byte
-
--- "Event words", answers: the four parts of a word
-abbrev pub answerFields : ℕ → AnswerFields
-answerFields word = record {
-  number = word / 16777216;
-  watchdog = eqb (word / 65536 % 2) 1;
-  requests = word / 256 % 256;
-  byte = word % 256;
-}
 
 -- "Numbers given back", 1: the kind is none of the five, or a bit of 23..16 is set
 unfoldable pub noEvent : ℕ → Bool

@@ -1,7 +1,7 @@
-// Event words and answer words (document 01, "Event words").
+// Event words, and the numbers that refuse a word (document 01, "Event words" and "Numbers given back").
 ghost use mathlib.Core.Path.{_≡_};
 ghost use Rattle.events.specs.Word.{decode as decodeOf, encode as encodeOf, event as eventOf, isPin, noEvent, noPlace, badByte};
-ghost use Rattle.events.specs.Word.{DecodedCase, answerWord, answerFields, refusedWord, eventWord};
+ghost use Rattle.events.specs.Word.{DecodedCase, refusedWord, eventWord};
 
 // An event, or the number with which a word is refused.
 pub enum Decoded {
@@ -16,14 +16,6 @@ pub enum Decoded {
     // vertical or not, and the polarity found
     Polarity(bool, bool),
     Refused(u8),
-}
-
-// The parts of an answer word.
-pub struct AnswerFields {
-    pub number: u8,
-    pub watchdog: bool,
-    pub requests: u8,
-    pub byte: u8,
 }
 
 // Pins 0 to 14 and 16 to 28.
@@ -133,28 +125,5 @@ pub fn encode(event: Decoded) -> u32
         Decoded::Clock(a) => event_word(4, a, 0),
         Decoded::Polarity(vertical, level) => event_word(5, bits::num(vertical), bits::num(level)),
         Decoded::Refused(number) => refused_word(number),
-    }
-}
-
-// The answer word with these parts; bits 23..17 are 0.
-// Wrong answers: the byte read where the requests stand; the watchdog reset told in bit 17.
-pub fn answer(number: u8, watchdog: bool, requests: u8, byte: u8) -> u32
-    ensures { λ r. ⌜ r ≡ answerWord number watchdog requests byte ⌝ }
-{
-    let low = (requests as u32) * 256 + (byte as u32);
-    let reset = (bits::num(watchdog) as u32) * 65536;
-    (number as u32) * 16777216 + reset + low
-}
-
-// The parts of an answer word; bits 23..17 are not looked at.
-// Wrong answers: the byte read given for the requests; the watchdog reset taken from bit 17.
-pub fn answer_fields(word: u32) -> AnswerFields
-    ensures { λ r. ⌜ r ≡ answerFields word ⌝ }
-{
-    AnswerFields {
-        number: (word / 16777216) as u8,
-        watchdog: word / 65536 % 2 == 1,
-        requests: (word / 256 % 256) as u8,
-        byte: (word % 256) as u8,
     }
 }

@@ -18,7 +18,7 @@ use Rattle.registers.specs.Names.{MDCON, HVCON, IRQX, CLRFLG, CLRWDT, IIADR, II
 use Rattle.registers.specs.Table.{rowOf, writeMask, isWritable}
 use Rattle.registers.proofs.Rules.{writeMask-lt}
 use Rattle.events.specs.declared.Decoded.the-variants.{Write}
-use Rattle.events.proofs.Level.{pick-by}
+use Rattle.bits.proofs.Level.{pick-by}
 use Rattle.bus.specs.Lines.{pullsScl}
 use Rattle.ddc2b.specs.Ddc2b.{dataAtRise, phaseLetGo}
 use Rattle.chip.specs.declared.Bus.{Bus}
@@ -27,8 +27,10 @@ use Rattle.chip.specs.State.{registerAt}
 use Rattle.lines.specs.Bus.{busAtRise}
 use Rattle.writes.specs.declared.Target.{Target}
 use Rattle.writes.specs.declared.Target.the-variants.{Stored, Mdcon, Hvcon, Clrflg, Clrwdt, Iiadr, Iidat, Iists, Bt}
-use Rattle.writes.specs.Writes.{target, updated, busLetGo, busRisen, withIidat, busAtIidat, statusWritten, writeRegister}
-use Rattle.step.specs.Step.{next}
+use Rattle.writes.specs.Writes.{target, writeRegister}
+use Rattle.ddc_writes.specs.DdcWrites.{busLetGo, busRisen, withIidat, busAtIidat, statusWritten}
+use Rattle.registers.specs.Table.{updated}
+use Rattle.outcome.specs.Outcome.{next}
 use Rattle.frame.specs.Frame.{actsElsewhere, keptByte, changeable}
 use Rattle.frame.proofs.Fields.{fields, hasAddress, address-of, plain, written-fields, by-write}
 use Rattle.frame.proofs.Frame.{mode-keeps}

@@ -14,7 +14,7 @@ use Rattle.registers.specs.Names.{MDCON, HVCON, CLRFLG, CLRWDT, IIADR, IIDAT, I
 use Rattle.registers.specs.Table.{isWritable}
 use Rattle.registers.proofs.Rules.{past-writable}
 use Rattle.events.specs.declared.Decoded.the-variants.{Write}
-use Rattle.events.proofs.Level.{pick-by}
+use Rattle.bits.proofs.Level.{pick-by}
 use Rattle.sync.specs.Sync.{clearOverflow}
 use Rattle.bus.specs.Lines.{mode}
 use Rattle.chip.specs.declared.Chip.{Chip}
@@ -22,8 +22,10 @@ use Rattle.chip.specs.State.{busOf, registerAt}
 use Rattle.lines.specs.Bus.{busAtMode}
 use Rattle.writes.specs.declared.Target.{Target}
 use Rattle.writes.specs.declared.Target.the-variants.{Stored, Mdcon, Hvcon, Clrflg, Clrwdt, Iiadr, Iidat, Iists, Bt}
-use Rattle.writes.specs.Writes.{target, updated, storedWritten, syncAtHsel, mdconWritten, clrflgWritten, clrwdtWritten, iiadrWritten, statusWritten, iistsWritten, busAtIidat, iidatWritten, writtenTo, written, writeRegister}
-use Rattle.step.specs.Step.{next}
+use Rattle.writes.specs.Writes.{target, storedWritten, clrflgWritten, clrwdtWritten, writtenTo, written, writeRegister}
+use Rattle.ddc_writes.specs.DdcWrites.{syncAtHsel, mdconWritten, iiadrWritten, statusWritten, iistsWritten, busAtIidat, iidatWritten}
+use Rattle.registers.specs.Table.{updated}
+use Rattle.outcome.specs.Outcome.{next}
 use Rattle.frame.specs.Frame.{actsElsewhere}
 
 -- each field after a write to register a

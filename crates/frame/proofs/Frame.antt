@@ -13,7 +13,7 @@ use Rattle.bits.specs.Byte.{pick, bit}
 use Rattle.bits.proofs.Finite.{neither}
 use Rattle.registers.specs.Names.{MDCON, CLRFLG, IIADR, IIDAT, IISTS}
 use Rattle.events.specs.declared.Decoded.the-variants.{Read, Write}
-use Rattle.events.proofs.Level.{pick-by}
+use Rattle.bits.proofs.Level.{pick-by}
 use Rattle.sync.specs.declared.Sync.{Sync}
 use Rattle.sync.specs.Sync.{clearLines, clearPeriods, zeroLines, hselCleared, clearOverflow}
 use Rattle.bus.specs.declared.Mode.{Mode}
@@ -23,8 +23,8 @@ use Rattle.chip.specs.declared.Bus.{Bus}
 use Rattle.chip.specs.declared.Chip.{Chip}
 use Rattle.chip.specs.State.{released, registerAt}
 use Rattle.lines.specs.Bus.{busAtMode, busAtRise}
-use Rattle.writes.specs.Writes.{syncAtHsel, busLetGo, busRisen, busAtIidat, withIidat}
-use Rattle.step.specs.Step.{next}
+use Rattle.ddc_writes.specs.DdcWrites.{syncAtHsel, busLetGo, busRisen, busAtIidat, withIidat}
+use Rattle.outcome.specs.Outcome.{next}
 use Rattle.frame.specs.Frame.{Part, SameAt, actsElsewhere, alters}
 use Rattle.frame.specs.Frame.Part.{Place, Irqx, Mdcon, Polarity, Bt, Watchdog, LineCount, LineLatch, LineOverflow, PeriodCount, PeriodLatch, PeriodOverflow, Interval, Iists, Iiadr, Iidat, BusPhase, ShiftRegister, PinLevels, SdaLevel, SclLevel, ResetLevel}
 use Rattle.frame.proofs.Fields.{fields, by-write}

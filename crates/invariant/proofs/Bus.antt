@@ -13,7 +13,7 @@ use Rattle.bits.specs.Byte.{pick, bit, withBit}
 use Rattle.bits.proofs.Mask.{num-lt}
 use Rattle.bits.proofs.Bitwise.{bit-or, bit-withBit}
 use Rattle.bits.proofs.Finite.{both}
-use Rattle.events.proofs.Level.{pick-by}
+use Rattle.bits.proofs.Level.{pick-by}
 use Rattle.bus.specs.declared.Mode.{Mode}
 use Rattle.bus.specs.declared.Mode.the-variants.{Off, Ddc1, Ddc2b}
 use Rattle.bus.specs.declared.Phase.{Phase}

@@ -5,9 +5,9 @@ use Prim.Native.Nat.{ℕ, _%_, _^_, _<_}
 use native.Mathlib.Omega.{arith}
 use lib.Dec.{eqb}
 use Rattle.bits.specs.Byte.{pick}
-use Rattle.events.proofs.Level.{pick-by}
-use Rattle.sync.specs.Sync.{watchdogFires, watchdogNext, timerOverflows}
-use Rattle.sync.proofs.Counting.{cycle-within}
+use Rattle.bits.proofs.Level.{pick-by}
+use Rattle.counters.specs.Count.{watchdogFires, watchdogNext, timerOverflows}
+use Rattle.counters.proofs.Counting.{cycle-within}
 use Rattle.sync.proofs.WellFormed.{period-well}
 use Rattle.chip.specs.declared.Chip.{Chip}
 use Rattle.chip.specs.State.{hselOf, registerAt}

@@ -11,19 +11,21 @@ use borrow.Author.Tests.{eqb-true, ne-eqb}
 use Rattle.bits.specs.Byte.{pick}
 use Rattle.bits.proofs.Finite.{both}
 use Rattle.registers.specs.Table.{isReadable, isWritable, readMask}
-use Rattle.events.specs.declared.AnswerFields.{AnswerFields}
+use Rattle.answers.specs.declared.AnswerFields.{AnswerFields}
 use Rattle.events.specs.declared.Decoded.{Decoded}
 use Rattle.events.specs.declared.Decoded.the-variants.{Read, Write, Pin, Clock, Polarity, Refused}
-use Rattle.events.specs.Word.{kind, fieldA, fieldB, event, noEvent, noPlace, badByte, decode, answerFields}
-use Rattle.events.proofs.AnswerWord.{fields-of-answer}
+use Rattle.events.specs.Word.{kind, fieldA, fieldB, event, noEvent, noPlace, badByte, decode}
+use Rattle.answers.specs.Answer.{answerFields}
+use Rattle.answers.proofs.AnswerWord.{fields-of-answer}
 use Rattle.chip.specs.declared.Chip.{Chip}
 use Rattle.chip.specs.State.{requests, registerAt}
 use Rattle.reads.specs.Reads.{shown, readingOf, reading}
 use Rattle.form.specs.Form.{wellFormed}
 use Rattle.writes.specs.Writes.{writeNumber, writeRegister, written}
 use Rattle.step.specs.declared.Stepped.{Stepped}
-use Rattle.step.specs.Step.{next, numberGiven, byteGiven, watchdogReset, answered, advance, step}
-use Rattle.step.proofs.Byte.{byte-lt}
+use Rattle.step.specs.Step.{answered, advance, step}
+use Rattle.outcome.specs.Outcome.{next, numberGiven, byteGiven, watchdogReset}
+use Rattle.outcome.proofs.Byte.{byte-lt}
 use Rattle.invariant.specs.Numbers.{isRead, isWrite, isEvent, illFormed, whileReset, writeOnly, readOnly, firstOf, numberOf01, answerNumber, refusal, illFormedAnswer}
 use Rattle.invariant.proofs.Formed.{impossible, formed}
 use Rattle.invariant.proofs.WellFormed.{advance-well-formed}

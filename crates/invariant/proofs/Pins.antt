@@ -9,7 +9,7 @@ use lib.Dec.{ltb, ltb→lt}
 use Rattle.bits.specs.Byte.{pick, bit}
 use Rattle.bits.proofs.Finite.{at-each}
 use Rattle.events.specs.Word.{isPin}
-use Rattle.events.proofs.Level.{pick-by}
+use Rattle.bits.proofs.Level.{pick-by}
 use Rattle.events.proofs.Refusal.{pin-lt}
 use Rattle.sync.specs.declared.Sync.{Sync}
 use Rattle.sync.specs.Sync.{wellSync}

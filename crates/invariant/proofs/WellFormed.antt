@@ -11,7 +11,8 @@ use Rattle.events.proofs.Refusal.{decode-in-range}
 use Rattle.chip.specs.declared.Chip.{Chip}
 use Rattle.chip.specs.State.{resetChip, fresh, highPins}
 use Rattle.form.specs.Form.{wellFormed}
-use Rattle.step.specs.Step.{next, advance, step}
+use Rattle.step.specs.Step.{advance, step}
+use Rattle.outcome.specs.Outcome.{next}
 use Rattle.invariant.proofs.Formed.{Formed, formed, well}
 use Rattle.invariant.proofs.Reset.{reset-formed, reset-chip-formed}
 use Rattle.invariant.proofs.Pins.{pin-formed}

@@ -10,7 +10,7 @@ use Rattle.bits.specs.Byte.{bit, merge}
 use Rattle.bits.proofs.Bitwise.{bit-merge}
 use Rattle.registers.specs.Names.{HVCON}
 use Rattle.registers.specs.Table.{writeMask, isWritable, rowOf}
-use Rattle.events.proofs.Level.{pick-by}
+use Rattle.bits.proofs.Level.{pick-by}
 use Rattle.sync.specs.declared.Sync.{Sync}
 use Rattle.sync.specs.Sync.{wellSync}
 use Rattle.sync.proofs.WellFormed.{hsel-cleared-well, clear-overflow-well}
@@ -20,7 +20,9 @@ use Rattle.chip.specs.declared.Chip.{Chip}
 use Rattle.chip.specs.State.{busOf, modeOf}
 use Rattle.writes.specs.declared.Target.{Target}
 use Rattle.writes.specs.declared.Target.the-variants.{Stored, Mdcon, Hvcon, Clrflg, Clrwdt, Iiadr, Iidat, Iists, Bt}
-use Rattle.writes.specs.Writes.{target, updated, storedWritten, syncAtHsel, mdconWritten, clrflgWritten, clrwdtWritten, iiadrWritten, statusWritten, iistsWritten, busLetGo, busRisen, busAtIidat, iidatWritten, writtenTo, written, writeRegister}
+use Rattle.writes.specs.Writes.{target, storedWritten, clrflgWritten, clrwdtWritten, writtenTo, written, writeRegister}
+use Rattle.ddc_writes.specs.DdcWrites.{syncAtHsel, mdconWritten, iiadrWritten, statusWritten, iistsWritten, busLetGo, busRisen, busAtIidat, iidatWritten}
+use Rattle.registers.specs.Table.{updated}
 use Rattle.invariant.proofs.Formed.{BusFormed, Formed, with-registers, with-irqx, with-mode, with-polarity, with-bt, with-watchdog, with-sync, with-bus}
 use Rattle.invariant.proofs.Ranges.{and-below, merge-below, pick-below}
 use Rattle.invariant.proofs.Bus.{mode-formed, rise-formed, let-go-formed, held-in-ddc2b}

@@ -5,7 +5,8 @@ use mathlib.Core.List.{List, [], _∷_}
 use lib.Dec.{eqb}
 use Rattle.bits.specs.Byte.{pick}
 use Rattle.registers.specs.Table.{isReadable, isWritable}
-use Rattle.events.specs.Word.{kind, fieldA, noEvent, noPlace, badByte, answerWord, answerFields}
+use Rattle.events.specs.Word.{kind, fieldA, noEvent, noPlace, badByte}
+use Rattle.answers.specs.Answer.{answerWord, answerFields}
 use Rattle.chip.specs.declared.Chip.{Chip}
 use Rattle.chip.specs.State.{requests}
 use Rattle.form.specs.Form.{wellFormed}

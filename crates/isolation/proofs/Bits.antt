@@ -16,7 +16,8 @@ use Rattle.bits.proofs.Mask.{num-lt}
 use Rattle.registers.specs.Names.{MDCON, IIADR, IISTS}
 use Rattle.registers.specs.Table.{table, rowOf, writeMask}
 use Rattle.ddc2b.specs.Ddc2b.{addressBits, gathered}
-use Rattle.writes.specs.Writes.{updated, statusWritten}
+use Rattle.ddc_writes.specs.DdcWrites.{statusWritten}
+use Rattle.registers.specs.Table.{updated}
 use Rattle.isolation.specs.Foreign.{byteOf}
 
 -- ---- registers

@@ -11,7 +11,8 @@ use Rattle.registers.specs.Names.{IIDAT}
 use Rattle.registers.specs.Table.{isReadable}
 use Rattle.events.specs.declared.Decoded.{Decoded}
 use Rattle.events.specs.declared.Decoded.the-variants.{Read, Write, Pin, Clock, Polarity, Refused}
-use Rattle.events.specs.Word.{decode, answerWord, InRange}
+use Rattle.events.specs.Word.{decode, InRange}
+use Rattle.answers.specs.Answer.{answerWord}
 use Rattle.events.proofs.Refusal.{decode-in-range}
 use Rattle.chip.specs.declared.Chip.{Chip}
 use Rattle.reads.specs.declared.Reading.{Reading}
@@ -20,7 +21,8 @@ use Rattle.reads.specs.Reads.{port0, port1, port2, port3, hvcon, shown, reading
 use Rattle.reads.proofs.Bytes.{reading-byte-lt}
 use Rattle.writes.specs.Writes.{writeNumber}
 use Rattle.pins.specs.Pins.{pinKind, pinMovedAs, pinMoved}
-use Rattle.step.specs.Step.{next, numberGiven, byteGiven, watchdogReset, wasReset, answered}
+use Rattle.step.specs.Step.{answered}
+use Rattle.outcome.specs.Outcome.{next, numberGiven, byteGiven, watchdogReset, wasReset}
 use Rattle.isolation.specs.Foreign.{Observer, observe, permitted, touchesSda, untouched, sameButSda, equalAtHigh, comparedAnswer}
 use Rattle.isolation.proofs.Related.{Related, related, enddc-low}
 use Rattle.isolation.proofs.Pins.{pin-related, sda-low-related, sda-equal-related}

@@ -5,4 +5,3 @@ pub mod Writes
 pub mod Events
 pub mod Runs
 pub mod Theorems
-pub mod Worked

@@ -13,7 +13,8 @@ use Rattle.events.specs.Word.{decode}
 use Rattle.bus.specs.declared.Phase.{Phase}
 use Rattle.chip.specs.declared.Chip.{Chip}
 use Rattle.form.specs.Form.{gatheredFits, phaseFits, busFits, reservedApart, wellFormed}
-use Rattle.step.specs.Step.{next, answered, advance, step}
+use Rattle.step.specs.Step.{answered, advance, step}
+use Rattle.outcome.specs.Outcome.{next}
 use Rattle.run.specs.Run.{after, answers, advanced, advancedAnswers}
 use Rattle.isolation.specs.Foreign.{Trace, byteOf, Observer, observe, permitted, touchesSda, sameButSda, alike, equalAtHigh, comparedAnswer, comparedAnswers, comparedPhase, comparedState, SeveralTransfers, Agree}
 use Rattle.isolation.proofs.Bits.{byte-lt}

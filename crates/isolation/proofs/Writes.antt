@@ -13,11 +13,13 @@ use Rattle.bus.specs.declared.Phase.{Phase}
 use Rattle.bus.specs.Lines.{changesMode}
 use Rattle.chip.specs.declared.Chip.{Chip}
 use Rattle.chip.specs.State.{busOf, registerAt, withBus, withMdcon, withSync, withPolarity, withBt, withWatchdog, withReset}
-use Rattle.sync.specs.Count.{cycleNext}
-use Rattle.sync.specs.Sync.{watchdogNext, watchdogFires}
+use Rattle.counters.specs.Count.{cycleNext}
+use Rattle.counters.specs.Count.{watchdogNext, watchdogFires}
 use Rattle.lines.specs.Bus.{busAtMode}
 use Rattle.writes.specs.declared.Target.the-variants.{Stored}
-use Rattle.writes.specs.Writes.{target, updated, storedWritten, syncAtHsel, mdconWritten, clrflgWritten, clrwdtWritten, iiadrWritten, statusWritten, iistsWritten, busAtIidat, iidatWritten, writtenTo, written, writeRegister}
+use Rattle.writes.specs.Writes.{target, storedWritten, clrflgWritten, clrwdtWritten, writtenTo, written, writeRegister}
+use Rattle.ddc_writes.specs.DdcWrites.{syncAtHsel, mdconWritten, iiadrWritten, statusWritten, iistsWritten, busAtIidat, iidatWritten}
+use Rattle.registers.specs.Table.{updated}
 use Rattle.clocks.specs.Clocks.{periodClock, timerRuns, timerStep, timerClock, watchdogClock, clockedAs, clocked, polarityFound}
 use Rattle.isolation.specs.Foreign.{Trace, Observer, observe, permitted, turnsOff, asksDdc1}
 use Rattle.isolation.proofs.Bits.{address-written, md-written, enddc-written}

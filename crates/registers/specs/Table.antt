@@ -4,6 +4,7 @@ use mathlib.Core.List.{List, [], _∷_, map}
 use mathlib.Core.Bool.{Bool, true, false}
 use lib.Dec.{ltb}
 use lib.ListN.{getD}
+use Rattle.bits.specs.Byte.{merge}
 use Rattle.registers.specs.declared.Row.{Row}
 
 -- a row: reset value, bits that a write changes, bits that a read shows, whether a write is taken, whether a read is taken
@@ -74,6 +75,10 @@ resetValue a = rowOf a .reset
 -- the bits that a write changes
 unfoldable pub writeMask : ℕ → ℕ
 writeMask a = rowOf a .write
+
+-- the byte that a write leaves: the bits of the write mask from the byte written, the others as they were
+abbrev pub updated : ℕ → ℕ → ℕ → ℕ
+updated a old b = merge (writeMask a) old b
 
 -- the bits that a read shows
 unfoldable pub readMask : ℕ → ℕ

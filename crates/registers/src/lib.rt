@@ -1,6 +1,6 @@
 // The registers: names of addresses and bits, and the table.
 ghost use mathlib.Core.Path.{_≡_};
-ghost use Rattle.registers.specs.Table.{rowOf, resetValue, writeMask, readMask, isWritable, isReadable, isRegister, resets as resetsOf};
+ghost use Rattle.registers.specs.Table.{updated as updatedOf, rowOf, resetValue, writeMask, readMask, isWritable, isReadable, isRegister, resets as resetsOf};
 
 // Addresses, by the data sheet's names without their blanks. DACH1 to DACH13 follow DACH0.
 pub const PT0: u8 = 0x00;
@@ -499,6 +499,14 @@ pub fn write_mask(address: u8) -> u8
 {
     let row = row_of(address);
     row.write
+}
+
+// The byte that a write leaves.
+// Wrong answers: the byte written, reserved bits with it; the bits that a read shows taken for those that a write changes.
+pub fn updated(address: u8, old: u8, byte: u8) -> u8
+    ensures { λ r. ⌜ r ≡ updatedOf address old byte ⌝ }
+{
+    bits::merge(write_mask(address), old, byte)
 }
 
 // The bits that a read shows.

@@ -3,11 +3,11 @@ use Prim.Native.Nat.{ℕ, zero, suc, _+_, _%_}
 use mathlib.Core.Path.{_≡_, ap}
 use mathlib.Core.Bool.{Bool, false}
 use lib.Dec.{eqb}
-use Rattle.sync.specs.Count.{atLast, steps, cycles}
-use Rattle.sync.specs.Sync.{stepLines, stepsLines, stepPeriods, stepsPeriods, timerOverflows, watchdogFires}
+use Rattle.counters.specs.Count.{atLast, steps, cycles}
+use Rattle.sync.specs.Sync.{stepLines, stepsLines, stepPeriods, stepsPeriods}
 use Rattle.sync.specs.declared.LineCounter.{LineCounter}
 use Rattle.sync.specs.declared.PeriodCounter.{PeriodCounter}
-use Rattle.sync.proofs.Counting.{cycle-due}
+use Rattle.counters.proofs.Counting.{cycle-due}
 
 -- the counter of this count and overflow bit, its latch being as it was
 abbrev pub linesAt : LineCounter → ℕ × Bool → LineCounter
@@ -34,13 +34,3 @@ periods-since-zero (suc n) c h k = ap stepPeriods (periods-since-zero n c h k)
 -- with HSEL 0, every 1,024th clock of 8 µs is the interval's last
 pub interval-due : (n : ℕ) → atLast 1023 (cycles 1023 n) ≡ eqb ((n + 1) % 1024) 0
 interval-due n = cycle-due 1023 n
-
--- from 00, every 256th step of the base timer sets flag R
-pub timer-due : (n : ℕ) → timerOverflows (cycles 255 n) ≡ eqb ((n + 1) % 256) 0
-unfolding timerOverflows
-timer-due n = cycle-due 255 n
-
--- every 64th watchdog clock since reset or clearing resets the chip
-pub watchdog-due : (n : ℕ) → watchdogFires (cycles 63 n) ≡ eqb ((n + 1) % 64) 0
-unfolding watchdogFires
-watchdog-due n = cycle-due 63 n

@@ -1,4 +1,2 @@
-pub mod Tests
-pub mod Counting
 pub mod Counters
 pub mod WellFormed

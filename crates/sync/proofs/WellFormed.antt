@@ -7,12 +7,12 @@ use lib.Dec.{ltb}
 use borrow.Author.Tests.{ltb-true, lt-ltb}
 use Rattle.bits.specs.Byte.{pick}
 use Rattle.bits.proofs.Finite.{both}
-use Rattle.sync.specs.Count.{counted}
+use Rattle.counters.specs.Count.{counted}
 use Rattle.sync.specs.Sync.{stepLines, latchLines, clearLines, zeroLines, stepPeriods, latchPeriods, clearPeriods, onHsync, linesOnVsync, onVsync, intervalNext, linesOnPeriod, onPeriod, hselCleared, clearOverflow, zeroSync, wellSync}
 use Rattle.sync.specs.declared.LineCounter.{LineCounter}
 use Rattle.sync.specs.declared.PeriodCounter.{PeriodCounter}
 use Rattle.sync.specs.declared.Sync.{Sync}
-use Rattle.sync.proofs.Counting.{counted-within, latched-below, zeroed-below, cycle-within}
+use Rattle.counters.proofs.Counting.{counted-within, latched-below, zeroed-below, cycle-within}
 
 -- ---- the ranges as facts on the numbers
 

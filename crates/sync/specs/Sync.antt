@@ -1,9 +1,9 @@
--- The sync counters, the base timer and the watchdog (document 01, "Counting sync" and "Flags, timer, watchdog, reset").
+-- The sync counters (document 01, "Counting sync").
 use Prim.Native.Nat.{ℕ, zero, suc}
 use mathlib.Core.Bool.{Bool, false, _&&_}
 use lib.Dec.{ltb}
 use Rattle.bits.specs.Byte.{pick}
-use Rattle.sync.specs.Count.{atLast, counted, overflowed, latched, zeroed, cycleNext}
+use Rattle.counters.specs.Count.{atLast, counted, overflowed, latched, zeroed, cycleNext}
 use Rattle.sync.specs.declared.LineCounter.{LineCounter}
 use Rattle.sync.specs.declared.PeriodCounter.{PeriodCounter}
 use Rattle.sync.specs.declared.Sync.{Sync}
@@ -136,21 +136,3 @@ wellSync s =
     && ltb (s .periods .count .0) 4096)
     && ltb (s .periods .latch .0) 4096)
     && ltb (s .interval) 1024
-
--- ---- base timer and watchdog
-
--- the base timer steps by one and runs on from 00
-unfoldable pub timerNext : ℕ → ℕ
-timerNext n = cycleNext 255 n
-
--- its step FF to 00 is the one that sets flag R
-unfoldable pub timerOverflows : ℕ → Bool
-timerOverflows n = atLast 255 n
-
--- watchdog clocks since reset or the last clearing
-unfoldable pub watchdogNext : ℕ → ℕ
-watchdogNext n = cycleNext 63 n
-
--- the 64th of them resets the chip
-unfoldable pub watchdogFires : ℕ → Bool
-watchdogFires n = atLast 63 n

@@ -1,7 +1,6 @@
 // Sync counters HCNT and VCNT with their latches and overflow bits, the interval, the base timer and the watchdog.
 ghost use mathlib.Core.Path.{_≡_};
-ghost use Rattle.sync.specs.Count.{counted as countedOf, overflowed as overflowedOf, latched as latchedOf, zeroed as zeroedOf, cycleNext};
-ghost use Rattle.sync.specs.Sync.{stepLines, latchLines, clearLines, zeroLines, stepPeriods, latchPeriods, clearPeriods, onHsync, linesOnVsync, onVsync, intervalNext, linesOnPeriod, onPeriod, hselCleared, clearOverflow, zeroSync, wellSync, timerNext, timerOverflows, watchdogNext, watchdogFires};
+ghost use Rattle.sync.specs.Sync.{stepLines, latchLines, clearLines, zeroLines, stepPeriods, latchPeriods, clearPeriods, onHsync, linesOnVsync, onVsync, intervalNext, linesOnPeriod, onPeriod, hselCleared, clearOverflow, zeroSync, wellSync};
 
 // Lines counted.
 pub struct Lines(pub u16);
@@ -35,49 +34,6 @@ const COUNT_LAST: u16 = 4095;
 // The last value of the interval of 1,024 periods.
 const INTERVAL_LAST: u16 = 1023;
 
-// The count after a step that is due.
-// Wrong answers: 0 after the last value; a step taken in overflow.
-pub fn counted(last: u16, overflow: bool, count: u16) -> u16
-    ensures { λ r. ⌜ r ≡ countedOf last overflow count ⌝ }
-{
-    if overflow {
-        return count;
-    }
-    if count < last { count + 1 } else { count }
-}
-
-// The overflow bit after a step that is due.
-// Wrong answers: set by the step to the last value; an overflow bit dropped by the next step.
-pub fn overflowed(last: u16, overflow: bool, count: u16) -> bool
-    ensures { λ r. ⌜ r ≡ overflowedOf last overflow count ⌝ }
-{
-    overflow | (count >= last)
-}
-
-// The latch after latching.
-// Wrong answers: the count latched in overflow too; 0, the count being zeroed first.
-pub fn latched(overflow: bool, count: u16, latch: u16) -> u16
-    ensures { λ r. ⌜ r ≡ latchedOf overflow count latch ⌝ }
-{
-    if overflow { latch } else { count }
-}
-
-// The count after latching.
-// Wrong answers: 0 in overflow too; the count kept once latched.
-pub fn zeroed(overflow: bool, count: u16) -> u16
-    ensures { λ r. ⌜ r ≡ zeroedOf overflow count ⌝ }
-{
-    if overflow { count } else { 0 }
-}
-
-// The next value of a count that runs on from 0.
-// Wrong answers: the last value kept; 1 after the last value.
-pub fn cycle_next(last: u16, n: u16) -> u16
-    ensures { λ r. ⌜ r ≡ cycleNext last n ⌝ }
-{
-    if n < last { n + 1 } else { 0 }
-}
-
 // HCNT steps.
 // Wrong answers: overflow at the 4,095th step; two added to the count.
 pub fn step_lines(c: LineCounter) -> LineCounter
@@ -85,9 +41,9 @@ pub fn step_lines(c: LineCounter) -> LineCounter
 {
     let latch = c.latch;
     LineCounter {
-        count: Lines(counted(COUNT_LAST, c.overflow, c.count.0)),
+        count: Lines(counters::counted(COUNT_LAST, c.overflow, c.count.0)),
         latch,
-        overflow: overflowed(COUNT_LAST, c.overflow, c.count.0),
+        overflow: counters::overflowed(COUNT_LAST, c.overflow, c.count.0),
     }
 }
 
@@ -97,8 +53,8 @@ pub fn latch_lines(c: LineCounter) -> LineCounter
     ensures { λ r. ⌜ r ≡ latchLines c ⌝ }
 {
     LineCounter {
-        count: Lines(zeroed(c.overflow, c.count.0)),
-        latch: Lines(latched(c.overflow, c.count.0, c.latch.0)),
+        count: Lines(counters::zeroed(c.overflow, c.count.0)),
+        latch: Lines(counters::latched(c.overflow, c.count.0, c.latch.0)),
         overflow: c.overflow,
     }
 }
@@ -140,9 +96,9 @@ pub fn step_periods(c: PeriodCounter) -> PeriodCounter
 {
     let latch = c.latch;
     PeriodCounter {
-        count: Periods(counted(COUNT_LAST, c.overflow, c.count.0)),
+        count: Periods(counters::counted(COUNT_LAST, c.overflow, c.count.0)),
         latch,
-        overflow: overflowed(COUNT_LAST, c.overflow, c.count.0),
+        overflow: counters::overflowed(COUNT_LAST, c.overflow, c.count.0),
     }
 }
 
@@ -152,8 +108,8 @@ pub fn latch_periods(c: PeriodCounter) -> PeriodCounter
     ensures { λ r. ⌜ r ≡ latchPeriods c ⌝ }
 {
     PeriodCounter {
-        count: Periods(zeroed(c.overflow, c.count.0)),
-        latch: Periods(latched(c.overflow, c.count.0, c.latch.0)),
+        count: Periods(counters::zeroed(c.overflow, c.count.0)),
+        latch: Periods(counters::latched(c.overflow, c.count.0, c.latch.0)),
         overflow: c.overflow,
     }
 }
@@ -219,7 +175,7 @@ pub fn interval_next(hsel: bool, n: u16) -> u16
     if hsel {
         n
     } else {
-        cycle_next(INTERVAL_LAST, n)
+        counters::cycle_next(INTERVAL_LAST, n)
     }
 }
 
@@ -306,36 +262,4 @@ pub fn well_sync(s: Sync) -> bool
         & (s.periods.count.0 < 4096)
         & (s.periods.latch.0 < 4096)
         & (s.interval < 1024)
-}
-
-// The base timer after its clock.
-// Wrong answers: 255 kept; 1 after 255.
-pub fn timer_next(n: u8) -> u8
-    ensures { λ r. ⌜ r ≡ timerNext n ⌝ }
-{
-    if n < 255 { n + 1 } else { 0 }
-}
-
-// The base timer's clock sets flag R.
-// Wrong answers: true at 254, the step to FF; false at 255, the step being to 0.
-pub fn timer_overflows(n: u8) -> bool
-    ensures { λ r. ⌜ r ≡ timerOverflows n ⌝ }
-{
-    n >= 255
-}
-
-// The watchdog after its clock.
-// Wrong answers: 64 after 63; 0 after each clock.
-pub fn watchdog_next(n: u8) -> u8
-    ensures { λ r. ⌜ r ≡ watchdogNext n ⌝ }
-{
-    if n < 63 { n + 1 } else { 0 }
-}
-
-// The watchdog's clock resets the chip.
-// Wrong answers: true at 62, the 63rd clock; false at 63, which is in range.
-pub fn watchdog_fires(n: u8) -> bool
-    ensures { λ r. ⌜ r ≡ watchdogFires n ⌝ }
-{
-    n >= 63
 }

@@ -13,12 +13,10 @@ use Rattle.chip.specs.declared.Chip.{Chip}
 use Rattle.step.specs.declared.Stepped.{Stepped}
 use Rattle.step.specs.Step.{advance}
 use Rattle.run.specs.Run.{advanced, advancedAnswers}
-use Rattle.text.specs.Text.{hexLine, hexLines}
+use Rattle.hex.specs.Hex.{hexLine}
+use Rattle.hex.proofs.Line.{length-line}
+use Rattle.text.specs.Text.{hexLines}
 use Rattle.text.proofs.Place.{put, put-take, put-drop, put-length, drop-later}
-
-pub length-line : (a : ℕ) → length (hexLine a) ≡ 9
-unfolding hexLine
-length-line a = refl
 
 -- a line put at an index keeps the length
 pub length-put : (old : List ℕ) (at a : ℕ) → at + 9 ≤ length old → length (take at old ++ (hexLine a ++ drop (at + 9) old)) ≡ length old

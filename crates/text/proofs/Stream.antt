@@ -14,9 +14,11 @@ use Rattle.chip.specs.declared.Chip.{Chip}
 use Rattle.run.specs.Run.{advanced, advancedAnswers}
 use Rattle.run.proofs.Runs.{advanced-append, advancedAnswers-append, length-advancedAnswers}
 use Rattle.text.specs.declared.Answered.{Answered}
-use Rattle.text.specs.Text.{wordsOf, hexLine, hexLines, leftOver, leftOverAnswer, replayText, answered, answeredText}
+use Rattle.hex.specs.Hex.{hexLine}
+use Rattle.hex.proofs.Line.{length-line}
+use Rattle.text.specs.Text.{wordsOf, hexLines, leftOver, leftOverAnswer, replayText, answered, answeredText}
 use Rattle.text.proofs.Words.{length-words, words-append}
-use Rattle.text.proofs.Lines.{length-line, length-lines, lines-append}
+use Rattle.text.proofs.Lines.{length-lines, lines-append}
 
 -- the line for bytes left over, by how many they are
 length-left : (a n : ℕ) → n < 4 → length (pick (eqb n 0) [] (hexLine a)) ≡ 9 * ((n + 3) / 4)

@@ -5,7 +5,8 @@ use mathlib.Core.List.{List, [], _∷_, _++_}
 use lib.Dec.{eqb, ltb}
 use lib.ListN.{length, drop}
 use Rattle.bits.specs.Byte.{pick}
-use Rattle.events.specs.Word.{answerWord}
+use Rattle.hex.specs.Hex.{hexLine}
+use Rattle.answers.specs.Answer.{answerWord}
 use Rattle.chip.specs.declared.Chip.{Chip}
 use Rattle.chip.specs.State.{requests}
 use Rattle.run.specs.Run.{advanced, advancedAnswers}
@@ -26,24 +27,6 @@ wordsOf (a ∷ b ∷ c ∷ []) = []
 wordsOf (a ∷ b ∷ c ∷ d ∷ rest) = wordOf a b c d ∷ wordsOf rest
 
 -- ---- from answers to text
-
--- the ASCII code of a digit below 16: `0` to `9`, then `A` to `F`
-abbrev pub hexDigit : ℕ → ℕ
-hexDigit d = pick (ltb d 10) (48 + d) (55 + d)
-
--- eight digits, the highest first, and a newline
-unfoldable pub hexLine : ℕ → List ℕ
-hexLine a =
-    hexDigit (a / 268435456)
-    ∷ hexDigit (a / 16777216 % 16)
-    ∷ hexDigit (a / 1048576 % 16)
-    ∷ hexDigit (a / 65536 % 16)
-    ∷ hexDigit (a / 4096 % 16)
-    ∷ hexDigit (a / 256 % 16)
-    ∷ hexDigit (a / 16 % 16)
-    ∷ hexDigit (a % 16)
-    ∷ 10
-    ∷ []
 
 -- a line for each answer
 unfoldable pub hexLines : List ℕ → List ℕ

@@ -4,7 +4,8 @@ ghost use Prim.Native.Nat.{_+_, _*_, _/_, _≤_, _<_};
 ghost use mathlib.Core.List.{_++_};
 ghost use lib.ListN.{length, take, drop, getD};
 ghost use Rattle.run.specs.Run.{advanced, advancedAnswers};
-ghost use Rattle.text.specs.Text.{hexDigit, hexLine, hexLines, wordsOf, leftOverAnswer, answered, answeredText};
+ghost use Rattle.hex.specs.Hex.{hexLine};
+ghost use Rattle.text.specs.Text.{hexLines, wordsOf, leftOverAnswer, answered, answeredText};
 use chip::Chip;
 use step::Stepped;
 
@@ -14,38 +15,12 @@ pub struct Answered {
     pub count: usize,
 }
 
-// An upper-case hex digit.
-fn hex_digit(n: u32) -> u8
-    requires { ⌜ n < 16 ⌝ }
-    ensures { λ r. ⌜ r ≡ hexDigit n ⌝ }
-{
-    if n < 10 { 48 + n as u8 } else { 55 + n as u8 }
-}
-
-// Eight hex digits and a newline.
-// Wrong answers: lower-case letters; no newline.
-pub fn hex_line(a: u32) -> [u8; 9]
-    ensures { λ r. ⌜ r ≡ hexLine a ⌝ }
-{
-    [
-        hex_digit(a / 268435456),
-        hex_digit(a / 16777216 % 16),
-        hex_digit(a / 1048576 % 16),
-        hex_digit(a / 65536 % 16),
-        hex_digit(a / 4096 % 16),
-        hex_digit(a / 256 % 16),
-        hex_digit(a / 16 % 16),
-        hex_digit(a % 16),
-        10,
-    ]
-}
-
 // The line of an answer, at an index of the text.
 fn put_line(text: &mut [u8], at: usize, a: u32)
     requires { ⌜ at + 9 ≤ length (now text) ⌝ }
     ensures { λ _. ⌜ now (text .exit) ≡ take at (now (text .entry)) ++ (hexLine a ++ drop (at + 9) (now (text .entry))) ⌝ }
 {
-    let line = hex_line(a);
+    let line = hex::hex_line(a);
     bytes::copy(&line, &mut text[at..]);
 }
 
@@ -93,7 +68,7 @@ fn answer_words(start: Chip, bytes: &[u8], text: &mut [u8]) -> Chip
 fn left_over_answer(c: Chip) -> u32
     ensures { λ r. ⌜ r ≡ leftOverAnswer c ⌝ }
 {
-    events::answer(1, false, chip::requests(c), 0)
+    answers::answer(1, false, chip::requests(c), 0)
 }
 
 // A block of the stream: the text of its answers to the start of `text`, or nothing where that is too short. Only the last

@@ -38,7 +38,7 @@ fn read_all(fd: i32) -> Progress {
 }
 
 fn print_word(w: u32) {
-    let line = text::hex_line(w);
+    let line = hex::hex_line(w);
     io::write_all(STDOUT_FILENO, &line[..8]);
 }
 

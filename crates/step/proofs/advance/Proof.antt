@@ -1,6 +1,7 @@
 -- `step::advance` meets its contract.
 -- Assumes nothing.
-use Rattle.step.specs.Step.{advance, outcome, answered}
+use Rattle.step.specs.Step.{advance, answered}
+use Rattle.outcome.specs.Outcome.{outcome}
 use borrow.Author.Needs.{needs}
 use Rattle.step.proofs.advance.Statement.{statement}
 use Rattle.step.proofs.advance.Tie as tie

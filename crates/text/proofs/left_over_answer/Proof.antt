@@ -4,7 +4,7 @@ use mathlib.Core.Bool.{false}
 use mathlib.Core.Path.{ap, _∙_}
 use Prim.Native.Nat.{ℕ}
 use borrow.Author.Needs.{needs}
-use Rattle.events.specs.Word.{answerWord}
+use Rattle.answers.specs.Answer.{answerWord}
 use Rattle.text.proofs.left_over_answer.Statement.{statement}
 use Rattle.text.proofs.left_over_answer.Tie as tie
 

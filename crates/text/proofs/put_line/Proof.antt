@@ -6,9 +6,9 @@ use Prim.Native.Nat.{ℕ, _+_, _-_}
 use native.Mathlib.Omega.{arith}
 use lib.ListN.{length, take, drop}
 use borrow.Rule.Slice.PartMut.{putMid}
-use Rattle.text.specs.Text.{hexLine}
+use Rattle.hex.specs.Hex.{hexLine}
+use Rattle.hex.proofs.Line.{length-line}
 use Rattle.text.proofs.Place.{placed}
-use Rattle.text.proofs.Lines.{length-line}
 use borrow.Author.Needs.{needs}
 use Rattle.text.proofs.put_line.Statement.{statement}
 use Rattle.text.proofs.put_line.Tie as tie

@@ -4,7 +4,7 @@ use mathlib.Core.Path.{sym, ap}
 use native.Mathlib.Omega.{arith}
 use lib.ListN.{length}
 use lib.Seq.{length-take-le}
-use Rattle.text.proofs.Lines.{length-line}
+use Rattle.hex.proofs.Line.{length-line}
 use borrow.Author.Needs.{needs}
 use Rattle.vectors.proofs.print_word.Statement.{statement}
 use Rattle.vectors.proofs.print_word.Tie as tie

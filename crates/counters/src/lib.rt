@@ -1,0 +1,78 @@
+// Counters by plain numbers, over their last value: counting, overflow and latching; the base timer and the watchdog.
+ghost use mathlib.Core.Path.{_≡_};
+ghost use Rattle.counters.specs.Count.{counted as countedOf, overflowed as overflowedOf, latched as latchedOf, zeroed as zeroedOf, cycleNext, timerNext, timerOverflows, watchdogNext, watchdogFires};
+
+// The count after a step that is due.
+// Wrong answers: 0 after the last value; a step taken in overflow.
+pub fn counted(last: u16, overflow: bool, count: u16) -> u16
+    ensures { λ r. ⌜ r ≡ countedOf last overflow count ⌝ }
+{
+    if overflow {
+        return count;
+    }
+    if count < last { count + 1 } else { count }
+}
+
+// The overflow bit after a step that is due.
+// Wrong answers: set by the step to the last value; an overflow bit dropped by the next step.
+pub fn overflowed(last: u16, overflow: bool, count: u16) -> bool
+    ensures { λ r. ⌜ r ≡ overflowedOf last overflow count ⌝ }
+{
+    overflow | (count >= last)
+}
+
+// The latch after latching.
+// Wrong answers: the count latched in overflow too; 0, the count being zeroed first.
+pub fn latched(overflow: bool, count: u16, latch: u16) -> u16
+    ensures { λ r. ⌜ r ≡ latchedOf overflow count latch ⌝ }
+{
+    if overflow { latch } else { count }
+}
+
+// The count after latching.
+// Wrong answers: 0 in overflow too; the count kept once latched.
+pub fn zeroed(overflow: bool, count: u16) -> u16
+    ensures { λ r. ⌜ r ≡ zeroedOf overflow count ⌝ }
+{
+    if overflow { count } else { 0 }
+}
+
+// The next value of a count that runs on from 0.
+// Wrong answers: the last value kept; 1 after the last value.
+pub fn cycle_next(last: u16, n: u16) -> u16
+    ensures { λ r. ⌜ r ≡ cycleNext last n ⌝ }
+{
+    if n < last { n + 1 } else { 0 }
+}
+
+// The base timer after its clock.
+// Wrong answers: 255 kept; 1 after 255.
+pub fn timer_next(n: u8) -> u8
+    ensures { λ r. ⌜ r ≡ timerNext n ⌝ }
+{
+    if n < 255 { n + 1 } else { 0 }
+}
+
+// The base timer's clock sets flag R.
+// Wrong answers: true at 254, the step to FF; false at 255, the step being to 0.
+pub fn timer_overflows(n: u8) -> bool
+    ensures { λ r. ⌜ r ≡ timerOverflows n ⌝ }
+{
+    n >= 255
+}
+
+// The watchdog after its clock.
+// Wrong answers: 64 after 63; 0 after each clock.
+pub fn watchdog_next(n: u8) -> u8
+    ensures { λ r. ⌜ r ≡ watchdogNext n ⌝ }
+{
+    if n < 63 { n + 1 } else { 0 }
+}
+
+// The watchdog's clock resets the chip.
+// Wrong answers: true at 62, the 63rd clock; false at 63, which is in range.
+pub fn watchdog_fires(n: u8) -> bool
+    ensures { λ r. ⌜ r ≡ watchdogFires n ⌝ }
+{
+    n >= 63
+}

@@ -1,0 +1,16 @@
+-- `ddc_writes::bus_risen` meets its contract.
+-- Assumes nothing.
+use Rattle.ddc_writes.specs.DdcWrites.{busRisen}
+use borrow.Author.Needs.{needs}
+use Rattle.ddc_writes.proofs.bus_risen.Statement.{statement}
+use Rattle.ddc_writes.proofs.bus_risen.Tie as tie
+
+pub bus-risen-spec : {M : Type 1} → statement M
+unfolding busRisen
+bus-risen-spec =
+    tie.close
+    (tie.spec
+    (λ c κs. search needs)
+    (λ c κs. search needs)
+    (λ c. simp (c .bus-at-rise .ensures, c .before .sda-line .ensures, c .before .before .if1 .taken))
+    (λ c. simp (c .if1 .left)))

@@ -1,0 +1,14 @@
+-- `ddc_writes::iidat_written` meets its contract.
+-- Assumes nothing.
+use Rattle.ddc_writes.specs.DdcWrites.{iidatWritten}
+use borrow.Author.Needs.{needs}
+use Rattle.ddc_writes.proofs.iidat_written.Statement.{statement}
+use Rattle.ddc_writes.proofs.iidat_written.Tie as tie
+
+pub iidat-written-spec : {M : Type 1} → statement M
+unfolding iidatWritten
+iidat-written-spec =
+    tie.close
+    (tie.spec
+    (λ c κs. search needs)
+    (λ c. simp (c .bus-at-iidat .ensures)))

@@ -1,0 +1,20 @@
+-- `ddc_writes::mdcon_written` meets its contract.
+-- Assumes nothing.
+use Rattle.ddc_writes.specs.DdcWrites.{mdconWritten}
+use borrow.Author.Needs.{needs}
+use Rattle.ddc_writes.proofs.mdcon_written.Statement.{statement}
+use Rattle.ddc_writes.proofs.mdcon_written.Tie as tie
+
+pub mdcon-written-spec : {M : Type 1} → statement M
+unfolding mdconWritten
+mdcon-written-spec =
+    tie.close
+    (tie.spec
+    (λ c κs. search needs)
+    (λ c κs. search needs)
+    (λ c κs. search needs)
+    (λ c κs. search needs)
+    (λ c κs. search needs)
+    (λ c κs. search needs)
+    (λ c κs. search needs)
+    (λ c. simp (c .bus-at-mode .ensures, c .before .mode-of2 .ensures, c .before .before .mode-of .ensures, c .before .before .before .sync-at-hsel .ensures, c .before .before .before .before .bit2 .ensures, c .before .before .before .before .before .bit .ensures, c .before .before .before .before .before .before .before .before .updated .ensures)))

@@ -1,0 +1,132 @@
+// Writes to the registers of DDC: II ADR, II DAT, II STS, and MDCON, whose HSEL is in it too.
+ghost use mathlib.Core.Path.{_≡_};
+ghost use Rattle.ddc_writes.specs.DdcWrites.{syncAtHsel, mdconWritten, iiadrWritten, statusWritten, iistsWritten, withIidat, busLetGo, busRisen, busAtIidat, iidatWritten};
+use chip::Bus;
+use chip::Chip;
+use registers::IIADR;
+use registers::IIDAT;
+use registers::IISTS;
+use registers::MDCON;
+use sync::Sync;
+
+fn sync_at_hsel(old: bool, new: bool, s: Sync) -> Sync
+    ensures { λ r. ⌜ r ≡ syncAtHsel old new s ⌝ }
+{
+    if old {
+        if new { s } else { sync::hsel_cleared(s) }
+    } else {
+        s
+    }
+}
+
+// MDCON: HSEL cleared starts the count of lines anew, MD1/2 changed while DDC is on releases the bus.
+// Wrong answers: the count of lines started anew where HSEL is set; the bus kept where MD1/2 changes.
+pub fn mdcon_written(c: Chip, b: u8) -> Chip
+    ensures { λ r. ⌜ r ≡ mdconWritten c b ⌝ }
+{
+    let old = c.mdcon;
+    let new = registers::updated(MDCON, old, b);
+    let counters = c.sync;
+    let wires = c.bus;
+    let after = sync_at_hsel(bits::bit(2, old), bits::bit(2, new), counters);
+    let moved = lines::bus_at_mode(
+        bus::mode_of(wires.iists, old),
+        bus::mode_of(wires.iists, new),
+        wires,
+    );
+    let mut n = c;
+    n.mdcon = new;
+    n.sync = after;
+    n.bus = moved;
+    n
+}
+
+// II ADR: bits 7 to 1 are stored.
+// Wrong answers: bit 0 stored with them; the phase of a transfer given up.
+pub fn iiadr_written(c: Chip, b: u8) -> Chip
+    ensures { λ r. ⌜ r ≡ iiadrWritten c b ⌝ }
+{
+    let value = registers::updated(IIADR, c.bus.iiadr, b);
+    let mut n = c;
+    n.bus.iiadr = value;
+    n
+}
+
+fn status_written(old: u8, b: u8) -> u8
+    ensures { λ r. ⌜ r ≡ statusWritten old b ⌝ }
+{
+    registers::updated(IISTS, old, b) & (b | 0xcf)
+}
+
+// II STS: ENDDC, TRX and TXAK are stored, START and STOP cleared by a 0; ENDDC changed releases the bus.
+// Wrong answers: STOP kept where a 0 is written; RXAK stored.
+pub fn iists_written(c: Chip, b: u8) -> Chip
+    ensures { λ r. ⌜ r ≡ iistsWritten c b ⌝ }
+{
+    let mut wires = c.bus;
+    let old = wires.iists;
+    let new = status_written(old, b);
+    wires.iists = new;
+    let after = lines::bus_at_mode(
+        bus::mode_of(old, c.mdcon),
+        bus::mode_of(new, c.mdcon),
+        wires,
+    );
+    let mut n = c;
+    n.bus = after;
+    n
+}
+
+fn with_iidat(b: u8, wires: Bus) -> Bus
+    ensures { λ r. ⌜ r ≡ withIidat b wires ⌝ }
+{
+    let mut n = wires;
+    n.iidat = registers::updated(IIDAT, n.iidat, b);
+    n
+}
+
+fn bus_let_go(b: u8, wires: Bus) -> Bus
+    ensures { λ r. ⌜ r ≡ busLetGo b wires ⌝ }
+{
+    let shifter = wires.shifter;
+    Bus {
+        iists: wires.iists,
+        iiadr: wires.iiadr,
+        iidat: registers::updated(IIDAT, wires.iidat, b),
+        phase: ddc2b::phase_let_go(bits::bit(2, wires.iists), b),
+        shifter: shifter,
+    }
+}
+
+fn bus_risen(scl: bool, sda: bool, wires: Bus) -> Bus
+    ensures { λ r. ⌜ r ≡ busRisen scl sda wires ⌝ }
+{
+    if scl {
+        lines::bus_at_rise(lines::sda_line(wires, sda), wires)
+    } else {
+        wires
+    }
+}
+
+fn bus_at_iidat(scl: bool, sda: bool, b: u8, wires: Bus) -> Bus
+    ensures { λ r. ⌜ r ≡ busAtIidat scl sda b wires ⌝ }
+{
+    let phase = wires.phase;
+    if bus::pulls_scl(phase) {
+        bus_risen(scl, sda, bus_let_go(b, wires))
+    } else {
+        with_iidat(b, wires)
+    }
+}
+
+// II DAT: stored; while SCL is held, it is let go too.
+// Wrong answers: the way of the next byte told by TXAK; the rise left out where the outside level of SCL is 1.
+pub fn iidat_written(c: Chip, b: u8) -> Chip
+    ensures { λ r. ⌜ r ≡ iidatWritten c b ⌝ }
+{
+    let wires = c.bus;
+    let after = bus_at_iidat(c.scl, c.sda, b, wires);
+    let mut n = c;
+    n.bus = after;
+    n
+}

@@ -1,0 +1,14 @@
+-- `outcome::polarity_outcome` meets its contract.
+-- Assumes nothing.
+use Rattle.outcome.specs.Outcome.{outcome, next, numberGiven, byteGiven, watchdogReset, wasReset}
+use borrow.Author.Needs.{needs}
+use Rattle.outcome.proofs.polarity_outcome.Statement.{statement}
+use Rattle.outcome.proofs.polarity_outcome.Tie as tie
+
+pub polarity-outcome-spec : {M : Type 1} → statement M
+unfolding byteGiven next numberGiven outcome wasReset watchdogReset
+polarity-outcome-spec =
+    tie.close
+    (tie.spec
+    (λ c κs. search needs)
+    (λ c. simp (c .polarity-found .ensures)))
