@@ -9,8 +9,8 @@ abbrev pub shifter : ℕ → ℕ → Shifter
 shifter register edges = record { register = register; edges = edges }
 
 -- after a reset or a change of mode: ones, and nine edges before the first load
-abbrev pub emptyShifter : Shifter
-emptyShifter = shifter 255 9
+abbrev pub unusedShifter : Shifter
+unusedShifter = shifter 255 9
 
 -- with no edge left a rise loads II DAT, and flag D is set
 unfoldable pub loadsAtRise : Shifter → Bool

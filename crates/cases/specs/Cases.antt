@@ -12,7 +12,7 @@ use Rattle.report.specs.declared.Scan.the-variants.{Field, Line}
 use Rattle.report.specs.Report.{rateReport}
 use Rattle.chip.specs.declared.Chip.{Chip}
 use Rattle.chip.specs.State.{fresh}
-use Rattle.run.specs.Run.{ran, ranAnswers}
+use Rattle.run.specs.Run.{run, runAnswers}
 use Rattle.cases.specs.Words.{times, read, write, high, low, clock, pulse, start, send, P16, HSYNCI, VSYNCI, period, base, watchdog}
 
 -- what a case claims of the chip after its words, beside the answers; a rate is in Hz, as a fraction
@@ -59,9 +59,9 @@ places words = replicate (length words) 0
 -- from fresh, the list call returns 0, gives these answers and leaves a chip that meets the claim
 abbrev pub Holds : Case → Type 0
 Holds k =
-    (ran fresh (k .words) (places (k .words)) .number ≡ 0)
-    × (ranAnswers fresh (k .words) (places (k .words)) ≡ k .answers)
-    × Meets (ran fresh (k .words) (places (k .words)) .chip) (k .claim)
+    (run fresh (k .words) (places (k .words)) .number ≡ 0)
+    × (runAnswers fresh (k .words) (places (k .words)) ≡ k .answers)
+    × Meets (run fresh (k .words) (places (k .words)) .chip) (k .claim)
 
 -- ---- answers
 

@@ -14,7 +14,7 @@ use Rattle.bus.specs.declared.Phase.{Phase}
 use Rattle.bus.specs.declared.Phase.the-variants.{Idle}
 use Rattle.bus.specs.declared.Shifter.{Shifter}
 use Rattle.bus.specs.Lines.{mode}
-use Rattle.bus.specs.Ddc1.{emptyShifter}
+use Rattle.bus.specs.Ddc1.{unusedShifter}
 use Rattle.chip.specs.declared.Bus.{Bus}
 use Rattle.chip.specs.declared.Pins.{Pins}
 use Rattle.chip.specs.declared.Chip.{Chip}
@@ -64,7 +64,7 @@ busOf iists iiadr iidat phase shifter = record { iists = iists; iiadr = iiadr; i
 
 -- lines released, by a change of mode and by a reset alike: no transfer, ones, nine edges
 abbrev pub idleBus : ℕ → ℕ → ℕ → Bus
-idleBus iists iiadr iidat = busOf iists iiadr iidat Idle emptyShifter
+idleBus iists iiadr iidat = busOf iists iiadr iidat Idle unusedShifter
 
 unfoldable pub released : Bus → Bus
 released b = idleBus (b .iists) (b .iiadr) (b .iidat)

@@ -20,7 +20,9 @@ use Rattle.sync.specs.Sync.{stepLines, stepsLines, stepPeriods, stepsPeriods}
 use Rattle.chip.specs.declared.Chip.{Chip}
 use Rattle.outcome.specs.Outcome.{next}
 use Rattle.causes.specs.Causes.{putHigh, isClock}
-use Rattle.counting.specs.Counting.{advanced, hsyncRises, periodClocks, zeroesLines, zeroesPeriods, never}
+use Rattle.step.specs.Step.{advance}
+use Rattle.run.specs.Run.{advanced}
+use Rattle.counting.specs.Counting.{hsyncRises, periodClocks, zeroesLines, zeroesPeriods, never}
 use Rattle.counting.proofs.Events.{effect}
 
 both : (x y : Bool) → (not x && y) ≡ true → (x ≡ false) × (y ≡ true)
@@ -52,7 +54,7 @@ periods-more false n p = rw (zero-add n)
 -- HCNT, its latch and its overflow bit: a step for each rise of HSYNCI
 pub lines-stepped : (c : Chip) (ws : List ℕ) → never zeroesLines c ws ≡ true →
     advanced c ws .sync .lines ≡ stepsLines (hsyncRises (c .reset) (c .pins .hsynci) ws) (c .sync .lines)
-unfolding stepsLines
+unfolding stepsLines advance
 lines-stepped c [] q = refl
 lines-stepped c (w ∷ ws) q =
     let e : Decoded = decode w in
@@ -64,7 +66,7 @@ lines-stepped c (w ∷ ws) q =
 -- VCNT likewise: a step for each 8 µs clock
 pub periods-stepped : (c : Chip) (ws : List ℕ) → never zeroesPeriods c ws ≡ true →
     advanced c ws .sync .periods ≡ stepsPeriods (periodClocks (c .reset) ws) (c .sync .periods)
-unfolding stepsPeriods
+unfolding stepsPeriods advance
 periods-stepped c [] q = refl
 periods-stepped c (w ∷ ws) q =
     let e : Decoded = decode w in

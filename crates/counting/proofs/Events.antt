@@ -4,7 +4,7 @@ use mathlib.Core.Path.{_≡_, refl, ap, _∙_}
 use mathlib.Core.Bool.{Bool, true, false, not, _&&_, _||_}
 use Prim.Native.Nat.{ℕ, zero, suc, _<_}
 use native.Mathlib.Omega.{arith}
-use borrow.Author.Tests.{ltb-false, lt-ltb}
+use borrow.Author.Tests.{ltb-true, ltb-false, lt-ltb, le-ltb, not-false}
 use lib.Dec.{T, eqb, ltb, eqb→eq}
 use Rattle.bits.specs.Byte.{pick, bit}
 use Rattle.bits.proofs.Finite.{at-each, neither}
@@ -19,8 +19,8 @@ use Rattle.bits.proofs.Level.{pick-by}
 use Rattle.sync.specs.declared.Sync.{Sync}
 use Rattle.sync.specs.declared.LineCounter.{LineCounter}
 use Rattle.sync.specs.declared.PeriodCounter.{PeriodCounter}
-use Rattle.sync.specs.Sync.{stepLines, stepPeriods, clearLines, clearPeriods, linesOnVsync, linesOnPeriod, onHsync, onVsync, onPeriod, hselCleared, clearOverflow}
-use Rattle.counters.specs.Count.{watchdogFires, watchdogNext}
+use Rattle.sync.specs.Sync.{stepLines, stepPeriods, latchLines, latchPeriods, clearLines, clearPeriods, linesOnVsync, linesOnPeriod, onHsync, onVsync, onPeriod, hselCleared, clearOverflow}
+use Rattle.counters.specs.Count.{latched, zeroed, watchdogFires, watchdogNext}
 use Rattle.bus.specs.declared.Mode.{Mode}
 use Rattle.bus.specs.declared.Mode.the-variants.{Off, Ddc1, Ddc2b}
 use Rattle.bus.specs.declared.Edge.{Edge}
@@ -214,18 +214,37 @@ unfolding vsyncRise
 vsync-moves true c level = record { sync = refl; reset = refl; hsynci = refl }
 vsync-moves false c level = record { sync = refl; reset = refl; hsynci = refl }
 
-vsync-lines : (rise hsel : Bool) (s : Sync) → (rise && hsel) ≡ false → (pick rise (onVsync hsel s) s) .lines ≡ s .lines
+-- in overflow latching moves neither count nor latch
+zeroed-kept : (overflow : Bool) (n : ℕ) → overflow ≡ true → zeroed overflow n ≡ n
+unfolding zeroed
+zeroed-kept overflow n h = rw h
+
+latched-kept : (overflow : Bool) (n latch : ℕ) → overflow ≡ true → latched overflow n latch ≡ latch
+unfolding latched
+latched-kept overflow n latch h = rw h
+
+lines-kept : (l : LineCounter) → l .overflow ≡ true → latchLines l ≡ l
+unfolding latchLines
+lines-kept l o = rw (zeroed-kept (l .overflow) (l .count .0) o, latched-kept (l .overflow) (l .count .0) (l .latch .0) o)
+
+periods-kept : (p : PeriodCounter) → p .overflow ≡ true → latchPeriods p ≡ p
+unfolding latchPeriods
+periods-kept p o = rw (zeroed-kept (p .overflow) (p .count .0) o, latched-kept (p .overflow) (p .count .0) (p .latch .0) o)
+
+vsync-lines : (rise hsel : Bool) (s : Sync) → (rise && (hsel && not (s .lines .overflow))) ≡ false → (pick rise (onVsync hsel s) s) .lines ≡ s .lines
 unfolding onVsync linesOnVsync
-vsync-lines true true s h = cc
+vsync-lines true true s h = lines-kept (s .lines) (not-false (s .lines .overflow) h)
 vsync-lines true false s h = refl
 vsync-lines false hsel s h = refl
 
-vsync-periods : (rise : Bool) (hsel : Bool) (s : Sync) → rise ≡ false → (pick rise (onVsync hsel s) s) .periods ≡ s .periods
-vsync-periods rise hsel s h = rw h
+vsync-periods : (rise : Bool) (hsel : Bool) (s : Sync) → (rise && not (s .periods .overflow)) ≡ false → (pick rise (onVsync hsel s) s) .periods ≡ s .periods
+unfolding onVsync
+vsync-periods true hsel s h = periods-kept (s .periods) (not-false (s .periods .overflow) h)
+vsync-periods false hsel s h = refl
 
-vsync-kept : (c : Chip) (level : Bool) → zeroesLines c (Pin 27 level) ≡ false → ((level && (c .reset && not (c .pins .vsynci))) && hselOf c) ≡ false
+vsync-kept : (c : Chip) (level : Bool) → zeroesLines c (Pin 27 level) ≡ false → ((level && (c .reset && not (c .pins .vsynci))) && (hselOf c && not (c .sync .lines .overflow))) ≡ false
 unfolding zeroesLines
-vsync-kept c level h = neither ((level && (c .reset && not (c .pins .vsynci))) && hselOf c) false h .0
+vsync-kept c level h = neither ((level && (c .reset && not (c .pins .vsynci))) && (hselOf c && not (c .sync .lines .overflow))) false h .0
 
 at-vsynci : (c : Chip) (level : Bool) → Effect c (vsyncMoved c level) (Pin 27 level)
 unfolding vsyncMoved zeroesPeriods
@@ -309,10 +328,15 @@ unfolding periodClock
 period-moves true c = record { sync = refl; reset = refl; pins = refl }
 period-moves false c = record { sync = refl; reset = refl; pins = refl }
 
-period-lines : (reset hsel : Bool) (s : Sync) → (reset && (not hsel && ltb 1022 (s .interval))) ≡ false → (pick reset (onPeriod hsel s) s) .lines ≡ s .lines
+period-by : (last : Bool) (s : Sync) → ltb 1022 (s .interval) ≡ last → (last && not (s .lines .overflow)) ≡ false → linesOnPeriod false (s .interval) (s .lines) ≡ s .lines
+unfolding linesOnPeriod
+period-by true s t h = rw (le-ltb (s .interval) 1023 (omega (arith, ltb-true 1022 (s .interval) t))) (lines-kept (s .lines) (not-false (s .lines .overflow) h))
+period-by false s t h = rw (lt-ltb (s .interval) 1023 (omega (arith, ltb-false 1022 (s .interval) t)))
+
+period-lines : (reset hsel : Bool) (s : Sync) → (reset && (not hsel && (ltb 1022 (s .interval) && not (s .lines .overflow)))) ≡ false → (pick reset (onPeriod hsel s) s) .lines ≡ s .lines
 unfolding onPeriod linesOnPeriod
 period-lines true true s h = refl
-period-lines true false s h = rw (lt-ltb (s .interval) 1023 (omega (arith, ltb-false 1022 (s .interval) h)))
+period-lines true false s h = period-by (ltb 1022 (s .interval)) s refl h
 period-lines false hsel s h = refl
 
 period-periods : (reset hsel : Bool) (s : Sync) → (pick reset (onPeriod hsel s) s) .periods ≡ pick reset (stepPeriods (s .periods)) (s .periods)

@@ -8,18 +8,22 @@ use native.Mathlib.Nat.{zero-add}
 use Rattle.events.specs.Word.{decode}
 use Rattle.chip.specs.declared.Chip.{Chip}
 use Rattle.outcome.specs.Outcome.{next}
-use Rattle.counting.specs.Counting.{advanced, hsyncRises, periodClocks, zeroesLines, zeroesPeriods, never}
+use Rattle.step.specs.Step.{advance}
+use Rattle.run.specs.Run.{advanced}
+use Rattle.counting.specs.Counting.{hsyncRises, periodClocks, zeroesLines, zeroesPeriods, never}
 use Rattle.counting.proofs.Counting.{lines-counted, periods-counted}
 use Rattle.counting.proofs.Zeroed.{lines-zeroed, periods-zeroed}
 
 -- HCNT: rises of HSYNCI since the word that zeroed it
-pub lines-since : (c : Chip) (w : ℕ) (ws : List ℕ) → c .sync .lines .overflow ≡ false → zeroesLines c (decode w) ≡ true
+pub lines-since : (c : Chip) (w : ℕ) (ws : List ℕ) → zeroesLines c (decode w) ≡ true
     → never zeroesLines (next c (decode w)) ws ≡ true → advanced c (w ∷ ws) .sync .lines .overflow ≡ false
     → advanced c (w ∷ ws) .sync .lines .count .0 ≡ hsyncRises (next c (decode w) .reset) (next c (decode w) .pins .hsynci) ws
-lines-since c w ws o z q n = lines-counted (next c (decode w)) ws q n ∙ rw (lines-zeroed c (decode w) o z) (zero-add _)
+unfolding advance
+lines-since c w ws z q n = lines-counted (next c (decode w)) ws q n ∙ rw (lines-zeroed c (decode w) z) (zero-add _)
 
 -- VCNT: 8 µs clocks since the word that zeroed it
-pub periods-since : (c : Chip) (w : ℕ) (ws : List ℕ) → c .sync .periods .overflow ≡ false → zeroesPeriods c (decode w) ≡ true
+pub periods-since : (c : Chip) (w : ℕ) (ws : List ℕ) → zeroesPeriods c (decode w) ≡ true
     → never zeroesPeriods (next c (decode w)) ws ≡ true → advanced c (w ∷ ws) .sync .periods .overflow ≡ false
     → advanced c (w ∷ ws) .sync .periods .count .0 ≡ periodClocks (next c (decode w) .reset) ws
-periods-since c w ws o z q n = periods-counted (next c (decode w)) ws q n ∙ rw (periods-zeroed c (decode w) o z) (zero-add _)
+unfolding advance
+periods-since c w ws z q n = periods-counted (next c (decode w)) ws q n ∙ rw (periods-zeroed c (decode w) z) (zero-add _)

@@ -13,7 +13,9 @@ use Rattle.chip.specs.State.{resetAt, fresh}
 use Rattle.pins.specs.Pins.{pinKind, hsyncMoved, pinMovedAs, pinMoved}
 use Rattle.clocks.specs.Clocks.{periodClock, clockedAs, clocked}
 use Rattle.outcome.specs.Outcome.{next}
-use Rattle.counting.specs.Counting.{advanced, hsyncRises, periodClocks, zeroesLines, zeroesPeriods, never}
+use Rattle.step.specs.Step.{advance}
+use Rattle.run.specs.Run.{advanced}
+use Rattle.counting.specs.Counting.{hsyncRises, periodClocks, zeroesLines, zeroesPeriods, never}
 
 -- HSYNCI low, high, an 8 µs clock, HSYNCI high again, low, high
 abbrev words : List ℕ
@@ -28,5 +30,5 @@ pub counted-at : _≡_ {A = Bool × Bool × ℕ × ℕ × ℕ × ℕ} (
   advanced fresh words .sync .periods .count .0,
 )
     (true, true, 2, 1, 2, 1)
-unfolding bit withBit resets resetValue rowOf event noEvent noPlace badByte decode counted overflowed stepLines stepPeriods onHsync linesOnPeriod intervalNext onPeriod zeroSync resetAt fresh pinKind hsyncMoved pinMovedAs pinMoved periodClock clockedAs clocked next zeroesLines zeroesPeriods
+unfolding bit withBit resets resetValue rowOf event noEvent noPlace badByte decode counted overflowed stepLines stepPeriods onHsync linesOnPeriod intervalNext onPeriod zeroSync resetAt fresh pinKind hsyncMoved pinMovedAs pinMoved periodClock clockedAs clocked next advance zeroesLines zeroesPeriods
 counted-at = refl

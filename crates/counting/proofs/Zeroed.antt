@@ -1,4 +1,4 @@
--- Each event that the tables name does zero its count, where no overflow stands: the tables leave no more of a run out than must be.
+-- Each event that the tables name zeroes its count: the tables leave no more of a run out than must be.
 -- Assumes nothing.
 use mathlib.Core.Path.{_≡_, refl, _∙_}
 use mathlib.Core.Bool.{Bool, true, false, not, _&&_, _||_}
@@ -122,24 +122,32 @@ vsync-sync c p level h =
     rw (eqb-true p 27 (e .0))
     (vsync-moves (rises (c .reset) (c .pins .vsynci) level) c level .sync ∙ pick-by (λ (s : Sync). s ≡ onVsync (hselOf c) (c .sync)) (rises (c .reset) (c .pins .vsynci) level) (λ _. refl) (clash _ rise))
 
-vsync-lines : (c : Chip) (p : ℕ) (level : Bool) → c .sync .lines .overflow ≡ false → (risesVsynci c (Pin p level) && hselOf c) ≡ true →
-    next c (Pin p level) .sync .lines .count .0 ≡ 0
+vsync-lines : (c : Chip) (p : ℕ) (level : Bool) → (risesVsynci c (Pin p level) && (hselOf c && not (c .sync .lines .overflow))) ≡ true → next c (Pin p level) .sync .lines .count .0 ≡ 0
 unfolding onVsync linesOnVsync
-vsync-lines c p level o h =
-    let k = both (risesVsynci c (Pin p level)) (hselOf c) h in
-    rw (vsync-sync c p level (k .0)) (pick-by (λ (l : LineCounter). l .count .0 ≡ 0) (hselOf c) (λ _. latch-lines (c .sync .lines) o) (clash _ (k .1)))
+vsync-lines c p level h =
+    let k = both (risesVsynci c (Pin p level)) (hselOf c && not (c .sync .lines .overflow)) h in
+    let d = both (hselOf c) (not (c .sync .lines .overflow)) (k .1) in
+    rw (vsync-sync c p level (k .0))
+    (pick-by (λ (l : LineCounter). l .count .0 ≡ 0) (hselOf c) (λ _. latch-lines (c .sync .lines) (not-true (c .sync .lines .overflow) (d .1))) (clash _ (d .0)))
 
-period-lines : (c : Chip) (k : ℕ) → c .sync .lines .overflow ≡ false →
-    (eqb k 0 && (c .reset && (not (hselOf c) && ltb 1022 (c .sync .interval)))) ≡ true → next c (Clock k) .sync .lines .count .0 ≡ 0
+vsync-periods : (c : Chip) (p : ℕ) (level : Bool) → (risesVsynci c (Pin p level) && not (c .sync .periods .overflow)) ≡ true → next c (Pin p level) .sync .periods .count .0 ≡ 0
+unfolding onVsync
+vsync-periods c p level h =
+    let k = both (risesVsynci c (Pin p level)) (not (c .sync .periods .overflow)) h in
+    rw (vsync-sync c p level (k .0)) (latch-periods (c .sync .periods) (not-true (c .sync .periods .overflow) (k .1)))
+
+period-lines : (c : Chip) (k : ℕ) →
+    (eqb k 0 && (c .reset && (not (hselOf c) && (ltb 1022 (c .sync .interval) && not (c .sync .lines .overflow))))) ≡ true → next c (Clock k) .sync .lines .count .0 ≡ 0
 unfolding next clocked clockedAs onPeriod linesOnPeriod
-period-lines c k o h =
-    let e = both (eqb k 0) (c .reset && (not (hselOf c) && ltb 1022 (c .sync .interval))) h in
-    let d = both (c .reset) (not (hselOf c) && ltb 1022 (c .sync .interval)) (e .1) in
-    let f = both (not (hselOf c)) (ltb 1022 (c .sync .interval)) (d .1) in
-    let most : ltb (c .sync .interval) 1023 ≡ false = le-ltb (c .sync .interval) 1023 (omega (arith, ltb-true 1022 (c .sync .interval) (f .1))) in
+period-lines c k h =
+    let e = both (eqb k 0) (c .reset && (not (hselOf c) && (ltb 1022 (c .sync .interval) && not (c .sync .lines .overflow)))) h in
+    let d = both (c .reset) (not (hselOf c) && (ltb 1022 (c .sync .interval) && not (c .sync .lines .overflow))) (e .1) in
+    let f = both (not (hselOf c)) (ltb 1022 (c .sync .interval) && not (c .sync .lines .overflow)) (d .1) in
+    let g = both (ltb 1022 (c .sync .interval)) (not (c .sync .lines .overflow)) (f .1) in
+    let most : ltb (c .sync .interval) 1023 ≡ false = le-ltb (c .sync .interval) 1023 (omega (arith, ltb-true 1022 (c .sync .interval) (g .0))) in
     rw (eqb-true k 0 (e .0), period-moves (c .reset) c .sync)
     (pick-by (λ (s : Sync). s .lines .count .0 ≡ 0) (c .reset)
-    (λ _. rw (not-true (hselOf c) (f .0), most) (latch-lines (c .sync .lines) o))
+    (λ _. rw (not-true (hselOf c) (f .0), most) (latch-lines (c .sync .lines) (not-true (c .sync .lines .overflow) (g .1))))
     (clash _ (d .0)))
 
 -- ---- the theorems
@@ -147,29 +155,29 @@ period-lines c k o h =
 impossible : {A : Type 0} → false ≡ true → A
 impossible h = clash false h refl
 
-pub lines-zeroed : (c : Chip) (e : Decoded) → c .sync .lines .overflow ≡ false → zeroesLines c e ≡ true → next c e .sync .lines .count .0 ≡ 0
+pub lines-zeroed : (c : Chip) (e : Decoded) → zeroesLines c e ≡ true → next c e .sync .lines .count .0 ≡ 0
 unfolding zeroesLines zeroSync
-lines-zeroed c (Read a) o h = impossible h
-lines-zeroed c (Write a b) o h =
+lines-zeroed c (Read a) h = impossible h
+lines-zeroed c (Write a b) h =
     ⊎-elim (clrflg-lines c a b)
     (λ k. ⊎-elim (mdcon-lines c a b) impossible (either ((eqb a MDCON && (c .reset && not (bit 2 b))) && hselOf c) false k))
     (either (eqb a CLRFLG && (c .reset && bit 7 b)) _ h)
-lines-zeroed c (Pin p level) o h =
+lines-zeroed c (Pin p level) h =
     ⊎-elim (λ k. rw (reset-pin c p level k))
-    (λ k. ⊎-elim (vsync-lines c p level o) impossible (either (risesVsynci c (Pin p level) && hselOf c) false k))
+    (λ k. ⊎-elim (vsync-lines c p level) impossible (either (risesVsynci c (Pin p level) && (hselOf c && not (c .sync .lines .overflow))) false k))
     (either (eqb p 28 && (c .reset && not level)) _ h)
-lines-zeroed c (Clock k) o h =
-    ⊎-elim (λ e. rw (reset-clock c k e)) (period-lines c k o) (either (eqb k 3 && (c .reset && ltb 62 (c .watchdog))) _ h)
-lines-zeroed c (Polarity vertical level) o h = impossible h
-lines-zeroed c (Refused n) o h = impossible h
+lines-zeroed c (Clock k) h =
+    ⊎-elim (λ e. rw (reset-clock c k e)) (period-lines c k) (either (eqb k 3 && (c .reset && ltb 62 (c .watchdog))) _ h)
+lines-zeroed c (Polarity vertical level) h = impossible h
+lines-zeroed c (Refused n) h = impossible h
 
-pub periods-zeroed : (c : Chip) (e : Decoded) → c .sync .periods .overflow ≡ false → zeroesPeriods c e ≡ true → next c e .sync .periods .count .0 ≡ 0
-unfolding zeroesPeriods zeroSync onVsync
-periods-zeroed c (Read a) o h = impossible h
-periods-zeroed c (Write a b) o h = ⊎-elim (clrflg-periods c a b) impossible (either (eqb a CLRFLG && (c .reset && bit 6 b)) false h)
-periods-zeroed c (Pin p level) o h =
-    ⊎-elim (λ k. rw (reset-pin c p level k)) (λ k. rw (vsync-sync c p level k) (latch-periods (c .sync .periods) o))
+pub periods-zeroed : (c : Chip) (e : Decoded) → zeroesPeriods c e ≡ true → next c e .sync .periods .count .0 ≡ 0
+unfolding zeroesPeriods zeroSync
+periods-zeroed c (Read a) h = impossible h
+periods-zeroed c (Write a b) h = ⊎-elim (clrflg-periods c a b) impossible (either (eqb a CLRFLG && (c .reset && bit 6 b)) false h)
+periods-zeroed c (Pin p level) h =
+    ⊎-elim (λ k. rw (reset-pin c p level k)) (vsync-periods c p level)
     (either (eqb p 28 && (c .reset && not level)) _ h)
-periods-zeroed c (Clock k) o h = ⊎-elim (λ e. rw (reset-clock c k e)) impossible (either (eqb k 3 && (c .reset && ltb 62 (c .watchdog))) false h)
-periods-zeroed c (Polarity vertical level) o h = impossible h
-periods-zeroed c (Refused n) o h = impossible h
+periods-zeroed c (Clock k) h = ⊎-elim (λ e. rw (reset-clock c k e)) impossible (either (eqb k 3 && (c .reset && ltb 62 (c .watchdog))) false h)
+periods-zeroed c (Polarity vertical level) h = impossible h
+periods-zeroed c (Refused n) h = impossible h

@@ -13,11 +13,6 @@ use Rattle.chip.specs.State.{hselOf}
 use Rattle.outcome.specs.Outcome.{next}
 use Rattle.causes.specs.Causes.{putHigh, isClock, risesVsynci}
 
--- the chip after the words, in order
-abbrev pub advanced : Chip → List ℕ → Chip
-advanced c [] = c
-advanced c (w ∷ ws) = advanced (next c (decode w)) ws
-
 -- ---- what is counted, told by the words and the levels before them
 
 -- the level of a pin after an event
@@ -61,19 +56,19 @@ writes register k value c (Clock j) = false
 writes register k value c (Polarity vertical level) = false
 writes register k value c (Refused n) = false
 
--- HCNT: a reset, a 1 in bit 7 of CLRFLG, HSEL written from 1 to 0, a rise of VSYNCI with HSEL 1, and with HSEL 0 the 1,024th
--- 8 µs clock, which finds the interval at 1,023
+-- HCNT: a reset, a 1 in bit 7 of CLRFLG, HSEL written from 1 to 0; and, as latching does not in overflow, a rise of VSYNCI with
+-- HSEL 1, and with HSEL 0 the 1,024th 8 µs clock, which finds the interval at 1,023
 unfoldable pub zeroesLines : Chip → Decoded → Bool
 zeroesLines c e =
     resets c e
     || (writes CLRFLG 7 true c e
     || ((writes MDCON 2 false c e && hselOf c)
-    || ((risesVsynci c e && hselOf c)
-    || (isClock 0 e && (c .reset && (not (hselOf c) && ltb 1022 (c .sync .interval)))))))
+    || ((risesVsynci c e && (hselOf c && not (c .sync .lines .overflow)))
+    || (isClock 0 e && (c .reset && (not (hselOf c) && (ltb 1022 (c .sync .interval) && not (c .sync .lines .overflow))))))))
 
--- VCNT: a reset, a 1 in bit 6 of CLRFLG, and a rise of VSYNCI
+-- VCNT: a reset, a 1 in bit 6 of CLRFLG, and, not in overflow, a rise of VSYNCI
 unfoldable pub zeroesPeriods : Chip → Decoded → Bool
-zeroesPeriods c e = resets c e || (writes CLRFLG 6 true c e || risesVsynci c e)
+zeroesPeriods c e = resets c e || (writes CLRFLG 6 true c e || (risesVsynci c e && not (c .sync .periods .overflow)))
 
 -- no word of the list zeroes the count
 abbrev pub never : (Chip → Decoded → Bool) → Chip → List ℕ → Bool

@@ -51,7 +51,7 @@ busLetGo b bus = busOf (bus .iists) (bus .iiadr) (updated IIDAT (bus .iidat) b) 
 unfoldable pub busRisen : Bool → Bool → Bus → Bus
 busRisen scl sda bus = pick scl (busAtRise (sdaLine bus sda) bus) bus
 
--- held, a write to II DAT releases SCL; at any other time it stores
+-- a write to II DAT is stored; held, it also lets SCL go
 unfoldable pub busAtIidat : Bool → Bool → ℕ → Bus → Bus
 busAtIidat scl sda b bus = pick (pullsScl (bus .phase)) (busRisen scl sda (busLetGo b bus)) (withIidat b bus)
 

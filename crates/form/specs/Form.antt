@@ -67,15 +67,15 @@ isIdle (Transmit count byte) = false
 isIdle Held = false
 
 -- the shift register unused since the last release
-unfoldable pub isEmpty : Shifter → Bool
-isEmpty s = eqb (s .edges) 9 && eqb (s .register) 255
+unfoldable pub isUnused : Shifter → Bool
+isUnused s = eqb (s .edges) 9 && eqb (s .register) 255
 
 -- off: no transfer, and the shift register unused; DDC1: no transfer; DDC2B: the shift register unused. What the lines are
 -- pulled by is computed from these, so that no state can disagree with it
 unfoldable pub busFits : Mode → Phase → Shifter → Bool
-busFits Off phase s = isIdle phase && isEmpty s
-busFits Ddc1 phase s = isIdle phase && (ltb (s .edges) 9 || isEmpty s)
-busFits Ddc2b phase s = phaseFits phase && isEmpty s
+busFits Off phase s = isIdle phase && isUnused s
+busFits Ddc1 phase s = isIdle phase && (ltb (s .edges) 9 || isUnused s)
+busFits Ddc2b phase s = phaseFits phase && isUnused s
 
 -- ---- all of it: ranges, reserved bits, the bus
 unfoldable pub wellFormed : Chip → Bool

@@ -2,7 +2,7 @@
 ghost use mathlib.Core.Path.{_≡_};
 ghost use Prim.Native.Nat.{_<_};
 ghost use Rattle.bits.specs.Finite.{allBelow};
-ghost use Rattle.form.specs.Form.{keptApart, reservedMask, reservedAt, reservedApart, gatheredFits, phaseFits, isIdle, isEmpty, busFits, wellFormed};
+ghost use Rattle.form.specs.Form.{keptApart, reservedMask, reservedAt, reservedApart, gatheredFits, phaseFits, isIdle, isUnused, busFits, wellFormed};
 use bus::Mode;
 use bus::Phase;
 use bus::Shifter;
@@ -120,8 +120,8 @@ fn is_idle(phase: Phase) -> bool
     }
 }
 
-fn is_empty(s: Shifter) -> bool
-    ensures { λ r. ⌜ r ≡ isEmpty s ⌝ }
+fn is_unused(s: Shifter) -> bool
+    ensures { λ r. ⌜ r ≡ isUnused s ⌝ }
 {
     (s.edges == 9) & (s.register == 255)
 }
@@ -130,9 +130,9 @@ fn bus_fits(mode: Mode, phase: Phase, s: Shifter) -> bool
     ensures { λ r. ⌜ r ≡ busFits mode phase s ⌝ }
 {
     match mode {
-        Mode::Off => is_idle(phase) & is_empty(s),
-        Mode::Ddc1 => is_idle(phase) & ((s.edges < 9) | is_empty(s)),
-        Mode::Ddc2b => phase_fits(phase) & is_empty(s),
+        Mode::Off => is_idle(phase) & is_unused(s),
+        Mode::Ddc1 => is_idle(phase) & ((s.edges < 9) | is_unused(s)),
+        Mode::Ddc2b => phase_fits(phase) & is_unused(s),
     }
 }
 

@@ -20,11 +20,11 @@ use Rattle.bus.specs.declared.Phase.{Phase}
 use Rattle.bus.specs.declared.Phase.the-variants.{Idle, Address, Ignoring, Receive, Transmit, Held}
 use Rattle.bus.specs.declared.Shifter.{Shifter}
 use Rattle.bus.specs.Lines.{mode, modeBy, changesMode, pullsScl}
-use Rattle.bus.specs.Ddc1.{shifter, emptyShifter, shifterAtRise}
+use Rattle.bus.specs.Ddc1.{shifter, unusedShifter, shifterAtRise}
 use Rattle.ddc2b.specs.Ddc2b.{matches, gathered, startStatus, startPhase, stopStatus, addressed, phaseAtRise, statusAtRise, acknowledges, phaseAtFall, phaseLetGo}
 use Rattle.chip.specs.declared.Bus.{Bus}
 use Rattle.chip.specs.State.{busOf, released}
-use Rattle.form.specs.Form.{gatheredFits, phaseFits, isIdle, isEmpty, busFits}
+use Rattle.form.specs.Form.{gatheredFits, phaseFits, isIdle, isUnused, busFits}
 use Rattle.lines.specs.Bus.{busAtMode, busAtRise, busAtVsync, withPhase}
 use Rattle.invariant.proofs.Formed.{and-both, impossible, BusFormed}
 use Rattle.invariant.proofs.Ranges.{with-bit-below, pick-below}
@@ -176,8 +176,8 @@ mode-same Ddc2b Ddc1 e = absurd (impossible (sym e))
 mode-same Ddc2b Ddc2b e = refl
 
 -- lines released fit every mode
-pub released-fits : (m : Mode) → busFits m Idle emptyShifter ≡ true
-unfolding busFits isIdle isEmpty phaseFits
+pub released-fits : (m : Mode) → busFits m Idle unusedShifter ≡ true
+unfolding busFits isIdle isUnused phaseFits
 released-fits Off = refl
 released-fits Ddc1 = refl
 released-fits Ddc2b = refl
@@ -198,13 +198,13 @@ mode-formed old mdcon b h k t =
 -- ---- DDC2B
 
 -- what fits DDC2B
-in-ddc2b : (m : Mode) (p : Phase) (s : Shifter) → m ≡ Ddc2b → busFits m p s ≡ true → Fits p × (isEmpty s ≡ true)
+in-ddc2b : (m : Mode) (p : Phase) (s : Shifter) → m ≡ Ddc2b → busFits m p s ≡ true → Fits p × (isUnused s ≡ true)
 unfolding busFits
-in-ddc2b m p s e t = both (phaseFits p) (isEmpty s) (rw e at t)
+in-ddc2b m p s e t = both (phaseFits p) (isUnused s) (rw e at t)
 
-ddc2b-in : (m : Mode) (p : Phase) (s : Shifter) → m ≡ Ddc2b → Fits p → isEmpty s ≡ true → busFits m p s ≡ true
+ddc2b-in : (m : Mode) (p : Phase) (s : Shifter) → m ≡ Ddc2b → Fits p → isUnused s ≡ true → busFits m p s ≡ true
 unfolding busFits
-ddc2b-in m p s e t u = rw e (and-both (phaseFits p) (isEmpty s) t u)
+ddc2b-in m p s e t u = rw e (and-both (phaseFits p) (isUnused s) t u)
 
 -- the bus in DDC2B with another phase and an II STS whose ENDDC is as it was
 module _ (mdcon : ℕ) (b : Bus) (f : BusFormed mdcon b) (e : mode (b .iists) mdcon ≡ Ddc2b) where
@@ -265,14 +265,14 @@ edges-by true nine full n p q t = omega (arith, ltb-true n 9 p)
 edges-by false true full n p q t = omega (arith, eqb-true n 9 q)
 edges-by false false full n p q t = absurd (impossible t)
 
-edges-left : (s : Shifter) → (ltb (s .edges) 9 || isEmpty s) ≡ true → s .edges ≤ 9
-unfolding isEmpty
+edges-left : (s : Shifter) → (ltb (s .edges) 9 || isUnused s) ≡ true → s .edges ≤ 9
+unfolding isUnused
 edges-left s t = edges-by (ltb (s .edges) 9) (eqb (s .edges) 9) (eqb (s .register) 255) (s .edges) refl refl t
 
-shifter-fits : (byte : ℕ) (s : Shifter) → s .edges ≤ 9 → (ltb (shifterAtRise byte s .edges) 9 || isEmpty (shifterAtRise byte s)) ≡ true
+shifter-fits : (byte : ℕ) (s : Shifter) → s .edges ≤ 9 → (ltb (shifterAtRise byte s .edges) 9 || isUnused (shifterAtRise byte s)) ≡ true
 unfolding shifterAtRise
 shifter-fits byte s h =
-    pick-by (λ (r : Shifter). (ltb (r .edges) 9 || isEmpty r) ≡ true) (eqb (s .edges) 0)
+    pick-by (λ (r : Shifter). (ltb (r .edges) 9 || isUnused r) ≡ true) (eqb (s .edges) 0)
     (λ _. refl)
     (λ e. let n = eqb-false (s .edges) 0 e in rw (lt-ltb (s .edges - 1) 9 (omega arith)))
 
@@ -281,7 +281,7 @@ vsync-fits : (m : Mode) (b : Bus) → busFits m (b .phase) (b .shifter) ≡ true
 unfolding busAtVsync busFits
 vsync-fits Off b t = t
 vsync-fits Ddc1 b t =
-    let two = both (isIdle (b .phase)) (ltb (b .shifter .edges) 9 || isEmpty (b .shifter)) t in
+    let two = both (isIdle (b .phase)) (ltb (b .shifter .edges) 9 || isUnused (b .shifter)) t in
     and-both (isIdle (b .phase)) _ (two .0) (shifter-fits (b .iidat) (b .shifter) (edges-left (b .shifter) (two .1)))
 vsync-fits Ddc2b b t = t
 

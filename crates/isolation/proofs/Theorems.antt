@@ -16,7 +16,7 @@ use Rattle.chip.specs.declared.Chip.{Chip}
 use Rattle.chip.specs.State.{modeOf}
 use Rattle.form.specs.Form.{wellFormed}
 use Rattle.step.specs.Step.{advance}
-use Rattle.run.specs.Run.{advanced, advancedAnswers, ranTo, ran, ranAnswers}
+use Rattle.run.specs.Run.{advanced, advancedAnswers, runResult, run, runAnswers}
 use Rattle.isolation.specs.Foreign.{alike, Trace, since, Observer, observerOf, observe, untouched, throughout, equalThroughout, comparedAnswer, comparedAnswers, comparedState, OneTransfer, SeveralTransfers, RunsAgree, CallsAgree, Begun, start-seen, bus-idle}
 use Rattle.isolation.proofs.Related.{Apart, idle, address, Related, related}
 use Rattle.isolation.proofs.Runs.{advanced-agree, ill-formed-runs, run-agree}
@@ -74,28 +74,28 @@ record Called (c d : Chip) (ws xs : List ℕ) : Type 0 where
   answer : comparedAnswers ws xs ≡ comparedAnswers ws (advancedAnswers c ws)
 
 called-by : (c : Chip) (ws xs : List ℕ) (well short : Bool)
-    → pick well (pick short (ranTo c 7) (ranTo (advanced c ws) 0)) (ranTo c 8) .number ≡ 0
-    → Called c (pick well (pick short (ranTo c 7) (ranTo (advanced c ws) 0)) (ranTo c 8) .chip) ws (pick well (pick short xs (advancedAnswers c ws ++ drop (length ws) xs)) xs)
+    → pick well (pick short (runResult c 7) (runResult (advanced c ws) 0)) (runResult c 8) .number ≡ 0
+    → Called c (pick well (pick short (runResult c 7) (runResult (advanced c ws) 0)) (runResult c 8) .chip) ws (pick well (pick short xs (advancedAnswers c ws ++ drop (length ws) xs)) xs)
 called-by c ws xs true true h = absurd (omega arith)
 called-by c ws xs true false h = record { state = refl; answer = compared-append c ws (drop (length ws) xs) }
 called-by c ws xs false short h = absurd (omega arith)
 
-called : (c : Chip) (ws xs : List ℕ) → ran c ws xs .number ≡ 0 → Called c (ran c ws xs .chip) ws (ranAnswers c ws xs)
-unfolding ran ranAnswers
+called : (c : Chip) (ws xs : List ℕ) → run c ws xs .number ≡ 0 → Called c (run c ws xs .chip) ws (runAnswers c ws xs)
+unfolding run runAnswers
 called c ws xs h = called-by c ws xs (wellFormed c) (ltb (length xs) (length ws)) h
 
 -- two list calls that return 0, with the answer places xs and ys
 pub several-transfers-called : (c : Chip) → modeOf c ≡ Ddc2b → {t : Trace} → Begun (c .bus .phase) t → (ws vs xs ys : List ℕ) → SeveralTransfers (observerOf c t) (observerOf c t) ws vs
-    → ran c ws xs .number ≡ 0 → ran c vs ys .number ≡ 0 → CallsAgree c ws vs xs ys
+    → run c ws xs .number ≡ 0 → run c vs ys .number ≡ 0 → CallsAgree c ws vs xs ys
 several-transfers-called c h b ws vs xs ys p n n′ =
     let one = called c ws xs n in
     let other = called c vs ys n′ in
-    let run = advanced-agree (self-related c h b) ws vs p in
+    let both = advanced-agree (self-related c h b) ws vs p in
     record {
-      answers-agree = one .answer ∙ run .answers-agree ∙ sym (other .answer);
-      states-agree = ap comparedState (one .state) ∙ run .states-agree ∙ sym (ap comparedState (other .state));
+      answers-agree = one .answer ∙ both .answers-agree ∙ sym (other .answer);
+      states-agree = ap comparedState (one .state) ∙ both .states-agree ∙ sym (ap comparedState (other .state));
     }
 
 pub one-transfer-called : (c : Chip) → modeOf c ≡ Ddc2b → c .bus .phase ≡ startPhase → (ws vs xs ys : List ℕ) → OneTransfer (observerOf c (since [])) ws vs
-    → ran c ws xs .number ≡ 0 → ran c vs ys .number ≡ 0 → CallsAgree c ws vs xs ys
+    → run c ws xs .number ≡ 0 → run c vs ys .number ≡ 0 → CallsAgree c ws vs xs ys
 one-transfer-called c h b ws vs xs ys p n n′ = several-transfers-called c h (started-at b) ws vs xs ys (several-of p) n n′

@@ -17,7 +17,7 @@ use Rattle.bus.specs.declared.Phase.the-variants.{Idle, Address, Ignoring, Rece
 use Rattle.ddc2b.specs.Ddc2b.{startPhase, matches}
 use Rattle.chip.specs.declared.Chip.{Chip}
 use Rattle.chip.specs.State.{busOf}
-use Rattle.run.specs.Run.{after, answers, ran, ranAnswers}
+use Rattle.run.specs.Run.{after, answers, run, runAnswers}
 
 -- ---- the two lists
 
@@ -264,4 +264,4 @@ RunsAgree c ws vs = Agree ws vs (answers c ws) (answers c vs) (after c ws) (afte
 
 -- two list calls from one state, with the answer places xs and ys
 abbrev pub CallsAgree : Chip → List ℕ → List ℕ → List ℕ → List ℕ → Type 0
-CallsAgree c ws vs xs ys = Agree ws vs (ranAnswers c ws xs) (ranAnswers c vs ys) (ran c ws xs .chip) (ran c vs ys .chip)
+CallsAgree c ws vs xs ys = Agree ws vs (runAnswers c ws xs) (runAnswers c vs ys) (run c ws xs .chip) (run c vs ys .chip)

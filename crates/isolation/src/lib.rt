@@ -1,1 +1,2 @@
-// Transfers to other devices leave no mark (document 01, "How tight each statement is"): definitions and theorems alone.
+// Two transfers to other devices end in equal answers and states, but for II DAT, the level of SDA and address bits not yet
+// whole (document 01, "How tight each statement is"): definitions and theorems alone.

@@ -1,4 +1,5 @@
--- What a pin's outside level does (document 01, "Event words", "Ports", "Flags, timer, watchdog, reset", "Counting sync").
+-- What a pin's outside level does (document 01, "Event words", "Ports", "Flags, timer, watchdog, reset",
+-- "Counting sync" and "The bus").
 use Prim.Native.Nat.{ℕ}
 use mathlib.Core.Bool.{Bool, not, _&&_}
 use lib.Bits.{bitOr}

@@ -35,21 +35,37 @@ fieldReport s = pick (wellSync s) (byPeriods (s .periods)) IllFormed
 unfoldable pub lineReport : Sync → Bool → Rate
 lineReport s hsel = pick (wellSync s) (pick hsel (byField (s .lines) (s .periods)) (byInterval (s .lines))) IllFormed
 
--- ---- what the cases say
+-- ---- what the cases say: each what it is told for, and that nothing told before it holds
+
+abbrev pub SaysOverflow : Sync → Bool → Type 0
+SaysOverflow s overflow = (wellSync s ≡ true) × (overflow ≡ true)
+
+abbrev pub SaysNothingLatched : Sync → Bool → Bool → Type 0
+SaysNothingLatched s overflow unlatched = (wellSync s ≡ true) × (overflow ≡ false) × (unlatched ≡ true)
+
+abbrev pub SaysRate : Sync → Bool → Bool → Type 0
+SaysRate s overflow unlatched = (wellSync s ≡ true) × (overflow ≡ false) × (unlatched ≡ false)
 
 -- of a field report
 unfoldable pub FieldCase : Sync → Rate → Type 0
 FieldCase s IllFormed = wellSync s ≡ false
-FieldCase s Overflow = s .periods .overflow ≡ true
-FieldCase s NothingLatched = s .periods .latch .0 ≡ 0
-FieldCase s (FieldRate x) = (x ≡ fieldHz (s .periods .latch)) × Between 30 125000 x
+FieldCase s Overflow = SaysOverflow s (s .periods .overflow)
+FieldCase s NothingLatched = SaysNothingLatched s (s .periods .overflow) (eqb (s .periods .latch .0) 0)
+FieldCase s (FieldRate x) = SaysRate s (s .periods .overflow) (eqb (s .periods .latch .0) 0) × (x ≡ fieldHz (s .periods .latch)) × Between 30 125000 x
 FieldCase s (LineRate x) = ⊥
+
+-- the overflow bits and the latches that a line report needs: those of VCNT at HSEL 1 only
+abbrev pub lineOverflow : Sync → Bool → Bool
+lineOverflow s hsel = s .lines .overflow || pick hsel (s .periods .overflow) false
+
+abbrev pub lineUnlatched : Sync → Bool → Bool
+lineUnlatched s hsel = eqb (s .lines .latch .0) 0 || pick hsel (eqb (s .periods .latch .0) 0) false
 
 -- of a line report
 unfoldable pub LineCase : Sync → Bool → Rate → Type 0
 LineCase s hsel IllFormed = wellSync s ≡ false
-LineCase s hsel Overflow = (s .lines .overflow || pick hsel (s .periods .overflow) false) ≡ true
-LineCase s hsel NothingLatched = (eqb (s .lines .latch .0) 0 || pick hsel (eqb (s .periods .latch .0) 0) false) ≡ true
-LineCase s true (LineRate x) = x ≡ lineHz (s .lines .latch) (s .periods .latch)
-LineCase s false (LineRate x) = Exactly x (s .lines .latch .0 * 15625) 128
+LineCase s hsel Overflow = SaysOverflow s (lineOverflow s hsel)
+LineCase s hsel NothingLatched = SaysNothingLatched s (lineOverflow s hsel) (lineUnlatched s hsel)
+LineCase s true (LineRate x) = SaysRate s (lineOverflow s true) (lineUnlatched s true) × (x ≡ lineHz (s .lines .latch) (s .periods .latch))
+LineCase s false (LineRate x) = SaysRate s (lineOverflow s false) (lineUnlatched s false) × Exactly x (s .lines .latch .0 * 15625) 128
 LineCase s hsel (FieldRate x) = ⊥

@@ -4,7 +4,7 @@ use mathlib.Core.Bool.{Bool}
 use lib.Bits.{bitAnd, bitOr}
 use lib.Dec.{eqb}
 use Rattle.bits.specs.Byte.{pick, bit, merge}
-use Rattle.registers.specs.Names.{PT0, PT1, PT2DIR, PT2, PT3, MDCON, HVCON, HCNTL, HCNTH, VCNTL, VCNTH, SYNCON, ENDAC, IRQX, IIDAT, IISTS}
+use Rattle.registers.specs.Names.{PT0, PT1, PT2DIR, PT2, PT3, MDCON, HVCON, HCNTL, HCNTH, VCNTL, VCNTH, SYNCON, ENDAC, IRQX, IIDAT, IISTS, HCNTOV, VCNTOV, HSYNCI, VSYNCI}
 use Rattle.registers.specs.Table.{readMask, isReadable}
 use Rattle.chip.specs.declared.Chip.{Chip}
 use Rattle.reads.specs.declared.Reading.{Reading}
@@ -45,8 +45,8 @@ port3 c = pick (bit 3 (c .bus .iists)) (bitAnd (registerAt c PT3) (bitOr (weight
 unfoldable pub hvcon : Chip → ℕ
 hvcon c =
     bitOr
-    (bitOr (weight (c .sync .lines .overflow) 0x80) (weight (c .sync .periods .overflow) 0x40))
-    (bitOr (bitOr (weight (c .pins .hsynci) 0x20) (weight (c .pins .vsynci) 0x10)) (c .polarity))
+    (bitOr (weight (c .sync .lines .overflow) HCNTOV) (weight (c .sync .periods .overflow) VCNTOV))
+    (bitOr (bitOr (weight (c .pins .hsynci) HSYNCI) (weight (c .pins .vsynci) VSYNCI)) (c .polarity))
 
 -- what a register shows before its read mask
 unfoldable pub shown : Chip → ℕ → ℕ

@@ -5,6 +5,8 @@ use chip::Chip;
 use registers::ENDAC;
 use registers::HCNTH;
 use registers::HCNTL;
+use registers::HCNTOV;
+use registers::HSYNCI;
 use registers::HVCON;
 use registers::IIDAT;
 use registers::IISTS;
@@ -18,6 +20,8 @@ use registers::PT3;
 use registers::SYNCON;
 use registers::VCNTH;
 use registers::VCNTL;
+use registers::VCNTOV;
+use registers::VSYNCI;
 
 // What a read gives: its number, and the byte where that is 0.
 pub struct Reading {
@@ -91,8 +95,9 @@ fn port3(c: Chip) -> u8
 fn hvcon(c: Chip) -> u8
     ensures { λ r. ⌜ r ≡ hvconOf c ⌝ }
 {
-    (bits::weight_if(c.sync.lines.overflow, 0x80) | bits::weight_if(c.sync.periods.overflow, 0x40))
-        | ((bits::weight_if(c.pins.hsynci, 0x20) | bits::weight_if(c.pins.vsynci, 0x10))
+    (bits::weight_if(c.sync.lines.overflow, HCNTOV)
+        | bits::weight_if(c.sync.periods.overflow, VCNTOV))
+        | ((bits::weight_if(c.pins.hsynci, HSYNCI) | bits::weight_if(c.pins.vsynci, VSYNCI))
             | c.polarity)
 }
 

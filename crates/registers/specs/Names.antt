@@ -1,4 +1,5 @@
--- Addresses of the registers and weights of their bits, by the data sheet's names without their blanks (document 01, "Registers"). DACH1 to DACH13 follow DACH0.
+-- Addresses of the registers and weights of their bits, after the data sheet's names, without blanks and slashes (document 01,
+-- "Registers"). DACH1 to DACH13 follow DACH0; INTS to INTV are the sources that IEX and IRQX have a bit each for.
 use Prim.Native.Nat.{ℕ}
 
 abbrev pub PT0 : ℕ

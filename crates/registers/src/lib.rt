@@ -2,7 +2,7 @@
 ghost use mathlib.Core.Path.{_≡_};
 ghost use Rattle.registers.specs.Table.{updated as updatedOf, rowOf, resetValue, writeMask, readMask, isWritable, isReadable, isRegister, resets as resetsOf};
 
-// Addresses, by the data sheet's names without their blanks. DACH1 to DACH13 follow DACH0.
+// Addresses, after the data sheet's names, without blanks and slashes. DACH1 to DACH13 follow DACH0.
 pub const PT0: u8 = 0x00;
 
 pub const PT1: u8 = 0x01;

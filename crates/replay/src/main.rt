@@ -4,14 +4,15 @@ use chip::Chip;
 use libc::STDIN_FILENO;
 use libc::STDOUT_FILENO;
 
-struct Turn {
+// The chip after a block, and whether another may follow.
+struct BlockResult {
     chip: Chip,
     more: bool,
 }
 
 // Reads a block, answers it, and tells whether to go on. `read_full` fills the buffer, whose length is a multiple of four,
 // unless the input ends or fails, so that only the last block ends within a word. The text has 9 bytes for each 4.
-fn answer_block(c: Chip) -> Turn {
+fn answer_block(c: Chip) -> BlockResult {
     let mut input = io::large_buffer();
     let n = io::read_full(STDIN_FILENO, &mut input);
     let mut out = [0u8; 147456];
@@ -19,22 +20,22 @@ fn answer_block(c: Chip) -> Turn {
     let count = answered.count;
     let is_written = io::write_all(STDOUT_FILENO, &out[..count]);
     let next = answered.chip;
-    Turn {
+    BlockResult {
         chip: next,
         more: is_written & (n == 65536),
     }
 }
 
-// A proved loop has to end, and nothing says that the input does, so the loop counts its turns down, from a number that no
+// A proved loop has to end, and nothing says that the input does, so the loop counts blocks down, from a number that no
 // run uses up.
 fn main() {
     let mut c = chip::fresh();
-    let mut turns = u64::MAX;
-    while turns > 0 {
-        let t = answer_block(c);
-        if t.more {
-            c = t.chip;
-            turns -= 1;
+    let mut blocks = u64::MAX;
+    while blocks > 0 {
+        let done = answer_block(c);
+        if done.more {
+            c = done.chip;
+            blocks -= 1;
         } else {
             return;
         }

@@ -8,7 +8,7 @@ use Rattle.events.specs.Word.{decode}
 use Rattle.chip.specs.declared.Chip.{Chip}
 use Rattle.form.specs.Form.{wellFormed}
 use Rattle.step.specs.Step.{step, advance}
-use Rattle.run.specs.declared.Ran.{Ran}
+use Rattle.run.specs.declared.RunResult.{RunResult}
 
 -- ---- a run: the step folded over the words
 
@@ -32,21 +32,21 @@ advancedAnswers c (w ∷ ws) = advance c (decode w) .answer ∷ advancedAnswers 
 
 -- ---- the list call
 
-abbrev pub ranTo : Chip → ℕ → Ran
-ranTo c number = record { chip = c; number = number }
+abbrev pub runResult : Chip → ℕ → RunResult
+runResult c number = record { chip = c; number = number }
 
 -- what it gives back: 8 at an ill formed state, then 7 where there are fewer answer places than words, else 0 and the chip
 -- after the words
-unfoldable pub ran : Chip → List ℕ → List ℕ → Ran
-ran c words places =
+unfoldable pub run : Chip → List ℕ → List ℕ → RunResult
+run c words places =
     pick (wellFormed c)
-    (pick (ltb (length places) (length words)) (ranTo c 7) (ranTo (advanced c words) 0))
-    (ranTo c 8)
+    (pick (ltb (length places) (length words)) (runResult c 7) (runResult (advanced c words) 0))
+    (runResult c 8)
 
 -- what it leaves in the answer places: an answer for each word and, past them, what was there; nothing is written where it is
 -- refused
-unfoldable pub ranAnswers : Chip → List ℕ → List ℕ → List ℕ
-ranAnswers c words places =
+unfoldable pub runAnswers : Chip → List ℕ → List ℕ → List ℕ
+runAnswers c words places =
     pick (wellFormed c)
     (pick (ltb (length places) (length words)) places (advancedAnswers c words ++ drop (length words) places))
     places

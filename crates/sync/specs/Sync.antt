@@ -8,15 +8,22 @@ use Rattle.sync.specs.declared.LineCounter.{LineCounter}
 use Rattle.sync.specs.declared.PeriodCounter.{PeriodCounter}
 use Rattle.sync.specs.declared.Sync.{Sync}
 
+-- the last value of a count of 12 bits, and of the interval of 1,024 periods
+abbrev pub countLast : ℕ
+countLast = 4095
+
+abbrev pub intervalLast : ℕ
+intervalLast = 1023
+
 -- ---- HCNT
 
 -- a rise of HSYNCI is a step
 unfoldable pub stepLines : LineCounter → LineCounter
 stepLines c =
     record {
-      count = record { 0 = counted 4095 (c .overflow) (c .count .0) };
+      count = record { 0 = counted countLast (c .overflow) (c .count .0) };
       latch = c .latch;
-      overflow = overflowed 4095 (c .overflow) (c .count .0);
+      overflow = overflowed countLast (c .overflow) (c .count .0);
     }
 
 -- n rises of HSYNCI
@@ -47,9 +54,9 @@ zeroLines c = record { count = record { 0 = 0 }; latch = c .latch; overflow = c 
 unfoldable pub stepPeriods : PeriodCounter → PeriodCounter
 stepPeriods c =
     record {
-      count = record { 0 = counted 4095 (c .overflow) (c .count .0) };
+      count = record { 0 = counted countLast (c .overflow) (c .count .0) };
       latch = c .latch;
-      overflow = overflowed 4095 (c .overflow) (c .count .0);
+      overflow = overflowed countLast (c .overflow) (c .count .0);
     }
 
 -- n clocks of 8 µs
@@ -91,11 +98,11 @@ onVsync hsel s =
 
 -- the interval after an 8 µs clock: it stands while HSEL is 1, else it runs through 1,024 values, whatever HCNT's overflow bit
 unfoldable pub intervalNext : Bool → ℕ → ℕ
-intervalNext hsel n = pick hsel n (cycleNext 1023 n)
+intervalNext hsel n = pick hsel n (cycleNext intervalLast n)
 
 -- HCNT at an 8 µs clock: with HSEL 0, every 1,024th latches and zeroes it
 unfoldable pub linesOnPeriod : Bool → ℕ → LineCounter → LineCounter
-linesOnPeriod hsel n c = pick hsel c (pick (ltb n 1023) c (latchLines c))
+linesOnPeriod hsel n c = pick hsel c (pick (ltb n intervalLast) c (latchLines c))
 
 -- an 8 µs clock
 unfoldable pub onPeriod : Bool → Sync → Sync

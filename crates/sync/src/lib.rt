@@ -1,4 +1,4 @@
-// Sync counters HCNT and VCNT with their latches and overflow bits, the interval, the base timer and the watchdog.
+// Sync counters HCNT and VCNT with their latches and overflow bits, and the interval.
 ghost use mathlib.Core.Path.{_≡_};
 ghost use Rattle.sync.specs.Sync.{stepLines, latchLines, clearLines, zeroLines, stepPeriods, latchPeriods, clearPeriods, onHsync, linesOnVsync, onVsync, intervalNext, linesOnPeriod, onPeriod, hselCleared, clearOverflow, zeroSync, wellSync};
 

@@ -2,7 +2,7 @@
 -- Assumes nothing.
 use mathlib.Core.Path.{ap}
 use borrow.Author.Needs.{needs}
-use Rattle.run.specs.declared.Ran.{Ran}
+use Rattle.run.specs.declared.RunResult.{RunResult}
 use Rattle.capi.proofs.nt6861_run.Statement.{statement}
 use Rattle.capi.proofs.nt6861_run.Tie as tie
 
@@ -13,4 +13,4 @@ nt6861-run-spec =
     (λ c κs. search needs)
     (λ c κs. search needs)
     (λ c. search needs)
-    (λ c. simp (← (c .before .before .before .before .fresh .ensures)) (ap (λ (r : Ran). r .number) (c .before .before .run .ensures .0), c .before .before .run .ensures .1)))
+    (λ c. simp (← (c .before .before .before .before .fresh .ensures)) (ap (λ (r : RunResult). r .number) (c .before .before .run .ensures .0), c .before .before .run .ensures .1)))

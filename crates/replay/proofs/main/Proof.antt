@@ -1,14 +1,14 @@
--- `replay::main` is safe and ends: the measure is the number of turns that are left.
+-- `replay::main` is safe and ends: the measure is the number of blocks that may still come.
 -- Assumes nothing.
 use borrow.Author.Needs.{needs}
 use Rattle.replay.proofs.main.Statement.{statement}
 use Rattle.replay.proofs.main.Tie as tie
 
 abbrev Inv-loop : tie.InvT-loop
-Inv-loop c₀ turns₀ c turns = Unit {0}
+Inv-loop c₀ blocks₀ c blocks = Unit {0}
 
 abbrev μ-loop : tie.MeasureT-loop
-μ-loop c₀ turns₀ c turns = turns
+μ-loop c₀ blocks₀ c blocks = blocks
 
 fresh-requires : tie.Need-fresh-requires Inv-loop μ-loop
 fresh-requires c κs = search needs
@@ -19,8 +19,8 @@ loop-holds c = search needs
 answer-block-requires : tie.Need-answer-block-requires Inv-loop μ-loop
 answer-block-requires c κs = search needs
 
-sub-turns : tie.Need-sub-turns Inv-loop μ-loop
-sub-turns c = search needs
+sub-blocks : tie.Need-sub-blocks Inv-loop μ-loop
+sub-blocks c = search needs
 
 loop-less : tie.Need-loop-less Inv-loop μ-loop
 loop-less c = search needs
@@ -43,7 +43,7 @@ main-spec =
     fresh-requires
     loop-holds
     answer-block-requires
-    sub-turns
+    sub-blocks
     loop-less
     loop-again
     returns

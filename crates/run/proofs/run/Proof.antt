@@ -4,12 +4,12 @@ use mathlib.Core.Path.{refl, ap}
 use borrow.Author.Needs.{needs}
 use borrow.Author.Tests.{lt-ltb, le-ltb}
 use Rattle.chip.specs.declared.Chip.{Chip}
-use Rattle.run.specs.Run.{ran, ranAnswers, ranTo}
+use Rattle.run.specs.Run.{run, runAnswers, runResult}
 use Rattle.run.proofs.run.Statement.{statement}
 use Rattle.run.proofs.run.Tie as tie
 
 pub run-spec : {M : Type 1} → statement M
-unfolding ran ranAnswers
+unfolding run runAnswers
 run-spec =
     tie.close
     (tie.spec
@@ -21,5 +21,5 @@ run-spec =
       le-ltb _ _ (c .before .before .before .before .if2 .left),
       ← (c .before .before .before .before .before .before .well-formed .ensures),
       c .before .before .before .before .before .if1 .taken,
-    ) (ap (λ (s : Chip). ranTo s 0) (c .before .before .run-all .ensures .0), c .before .before .run-all .ensures .1))
+    ) (ap (λ (s : Chip). runResult s 0) (c .before .before .run-all .ensures .0), c .before .before .run-all .ensures .1))
     (λ c. simp (← (c .before .well-formed .ensures), c .if1 .left) (refl, refl)))

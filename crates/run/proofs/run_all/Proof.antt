@@ -10,10 +10,10 @@ use Rattle.run.proofs.run_all.Statement.{statement}
 use Rattle.run.proofs.run_all.Tie as tie
 
 abbrev Inv-loop : tie.InvT-loop
-Inv-loop words answers₀ s₀ i₀ answers s i = Done words answers₀ s₀ answers s i
+Inv-loop words answers₀ r₀ i₀ answers r i = Done words answers₀ (r₀ .chip) answers (r .chip) i
 
 abbrev μ-loop : tie.MeasureT-loop
-μ-loop words answers₀ s₀ i₀ answers s i = length words - i
+μ-loop words answers₀ r₀ i₀ answers r i = length words - i
 
 loop-holds : tie.Need-loop-holds Inv-loop μ-loop
 loop-holds c = record { within = search needs; same = refl; state = refl; written = refl; rest = refl }
@@ -45,13 +45,13 @@ loop-less c = omega arith
 loop-again : tie.Need-loop-again Inv-loop μ-loop
 loop-again c =
     let l = c .before .before .before .before .before in
-    more _ _ _ _ _ _ (l .loop .inv) (c .before .before .before .before .loop-test .taken) (l .before .before .before .pre) _ (c .before .before .decode .ensures .0) _ (c .before .advance .ensures)
+    more _ _ _ _ _ _ (l .loop .inv) (c .before .before .before .before .loop-test .taken) (l .before .before .before .pre) _ (c .before .decode .ensures .0) _ (c .advance .ensures)
 
 same-length : tie.Need-same-length Inv-loop μ-loop
-same-length c = c .before .loop .inv .same
+same-length c = c .before .before .loop .inv .same
 
 returns : tie.Need-returns Inv-loop μ-loop
-returns c = all _ _ _ _ _ _ (c .before .loop .inv) (c .loop-test .left) (c .before .before .before .before .pre)
+returns c = all _ _ _ _ _ _ (c .before .before .loop .inv) (c .before .loop-test .left) (c .before .before .before .before .before .pre)
 
 pub run-all-spec : {M : Type 1} → statement M
 run-all-spec =
