@@ -14,6 +14,14 @@ abbrev pub num : Bool → ℕ
 num true = 1
 num false = 0
 
+-- the weight of bit k
+abbrev pub weight : ℕ → ℕ
+weight k = 2 ^ k
+
+-- the weight of bit k, counted modulo 8, where the test holds, else 0
+abbrev pub weightIf : Bool → ℕ → ℕ
+weightIf v k = pick v (weight (k % 8)) 0
+
 -- bit k of n is 1; bit 0 is the lowest
 unfoldable pub bit : ℕ → ℕ → Bool
 bit k n = eqb (n / 2 ^ k % 2) 1

@@ -1,7 +1,7 @@
 // Bytes, their bits, and a write under a mask.
 ghost use mathlib.Core.Path.{_≡_};
 ghost use Prim.Native.Nat.{_%_};
-ghost use Rattle.bits.specs.Byte.{bit as bitOf, merge as mergeOf, withBit, num as numOf, pick};
+ghost use Rattle.bits.specs.Byte.{bit as bitOf, merge as mergeOf, withBit, num as numOf, weightIf};
 
 // The bits of `mask` from `new`, the others from `old`.
 // Wrong answers: old and new exchanged; a written 0 that leaves the old 1.
@@ -36,10 +36,10 @@ pub fn num(v: bool) -> u8
     if v { 1 } else { 0 }
 }
 
-// A weight where its bit is 1, else 0.
+// The weight of bit k, counted modulo 8, where the bit is 1, else 0.
 // Wrong answers: 1, the bit without its weight; the weight where the bit is 0.
-pub fn weight_if(v: bool, w: u8) -> u8
-    ensures { λ r. ⌜ r ≡ pick v w 0 ⌝ }
+pub fn weight_if(v: bool, k: u8) -> u8
+    ensures { λ r. ⌜ r ≡ weightIf v k ⌝ }
 {
-    if v { w } else { 0 }
+    if v { 1 << (k % 8) } else { 0 }
 }

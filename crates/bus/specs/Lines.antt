@@ -3,6 +3,7 @@ use Prim.Native.Nat.{ℕ, _-_, _%_}
 use mathlib.Core.Bool.{Bool, true, false, not}
 use lib.Dec.{eqb, ltb}
 use Rattle.bits.specs.Byte.{pick, bit}
+use Rattle.registers.specs.Names.{MD12, ENDDC}
 use Rattle.bus.specs.declared.Mode.{Mode}
 use Rattle.bus.specs.declared.Mode.the-variants.{Off, Ddc1, Ddc2b}
 use Rattle.bus.specs.declared.Edge.{Edge}
@@ -23,9 +24,9 @@ modeBy true md = Off
 modeBy false true = Ddc1
 modeBy false false = Ddc2b
 
--- ENDDC (II STS bit 3) at 0 turns DDC on; then MD1/2 (MDCON bit 0) at 1 is DDC1 and at 0 DDC2B
+-- ENDDC of II STS at 0 turns DDC on; then MD1/2 of MDCON at 1 is DDC1 and at 0 DDC2B
 unfoldable pub mode : ℕ → ℕ → Mode
-mode status mdcon = modeBy (bit 3 status) (bit 0 mdcon)
+mode status mdcon = modeBy (bit ENDDC status) (bit MD12 mdcon)
 
 -- each mode by a number, to tell two apart
 abbrev pub modeNumber : Mode → ℕ

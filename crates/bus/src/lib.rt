@@ -2,6 +2,8 @@
 ghost use mathlib.Core.Path.{_≡_};
 ghost use Rattle.bus.specs.Lines.{edge, mode, modeNumber, changesMode, line, pullsAtBit, pullsSda, pullsScl, sdaPulled, sclPulled};
 ghost use Rattle.bus.specs.Ddc1.{loadsAtRise, shifterAtRise};
+use registers::ENDDC;
+use registers::MD12;
 
 // DDC off, or on in one of its two modes.
 pub enum Mode {
@@ -57,15 +59,15 @@ pub fn edge_between(old: bool, new: bool) -> Edge
     }
 }
 
-// The mode by ENDDC (II STS bit 3) and MD1/2 (MDCON bit 0).
+// The mode by ENDDC of II STS and MD1/2 of MDCON.
 // Wrong answers: DDC on where ENDDC is 1; DDC2B where MD1/2 is 1.
 pub fn mode_of(status: u8, mdcon: u8) -> Mode
     ensures { λ r. ⌜ r ≡ mode status mdcon ⌝ }
 {
-    if bits::bit(3, status) {
+    if bits::bit(ENDDC, status) {
         return Mode::Off;
     }
-    if bits::bit(0, mdcon) {
+    if bits::bit(MD12, mdcon) {
         Mode::Ddc1
     } else {
         Mode::Ddc2b

@@ -5,6 +5,9 @@ use mathlib.Core.Path.{_≡_}
 use mathlib.Core.List.{List, [], _∷_, _++_}
 use lib.ListN.{length, replicate}
 use Rattle.registers.specs.Names.{MDCON, HVCON, IEX, IRQX, CLRFLG, CLRWDT, IISTS, BT, BTCON, DACH0, INTA, INTD}
+use Rattle.bits.specs.Byte.{weight}
+use Rattle.events.specs.Pins.{P16, HSYNCI, VSYNCI}
+use Rattle.events.specs.Clocks.{period, base0, watchdog}
 use Rattle.rates.specs.Hertz.{Exactly}
 use Rattle.rates.specs.declared.Rate.{Rate}
 use Rattle.rates.specs.declared.Rate.the-variants.{IllFormed, NothingLatched, Overflow, FieldRate, LineRate}
@@ -13,7 +16,7 @@ use Rattle.report.specs.Report.{rateReport}
 use Rattle.chip.specs.declared.Chip.{Chip}
 use Rattle.chip.specs.State.{fresh}
 use Rattle.run.specs.Run.{run, runAnswers}
-use Rattle.cases.specs.Words.{times, read, write, high, low, clock, pulse, start, send, P16, HSYNCI, VSYNCI, period, base, watchdog}
+use Rattle.cases.specs.Words.{times, read, write, high, low, clock, pulse, start, send}
 
 -- what a case claims of the chip after its words, beside the answers; a rate is in Hz, as a fraction
 pub data Claim : Type 0 where
@@ -75,12 +78,12 @@ gives answer = answer ∷ []
 -- ---- P8 and P9: DDC2B with flag A enabled, START, and an address
 
 abbrev pub addressed : ℕ → List ℕ
-addressed byte = write IEX INTA ++ write MDCON 0x06 ++ write IISTS 0x00 ++ start ++ send byte
+addressed byte = write IEX (weight INTA) ++ write MDCON 0x06 ++ write IISTS 0x00 ++ start ++ send byte
 
 -- ---- P10: a rise of VSYNCI, then flag D cleared, so that each rise is seen by itself
 
 abbrev pub rise : List ℕ
-rise = pulse VSYNCI ++ write CLRFLG INTD
+rise = pulse VSYNCI ++ write CLRFLG (weight INTD)
 
 abbrev pub setsD : List ℕ
 setsD = gives 0x00000000 ++ gives 0x00001000 ++ gives 0x00000000
@@ -98,7 +101,7 @@ table =
     ∷  -- BT FE, enabled: flag R (IRQX bit 2) on the second clock
     record {
       number = 4;
-      words = write BT 0xfe ++ write BTCON 0x00 ++ clock base ++ read IRQX ++ clock base ++ read IRQX;
+      words = write BT 0xfe ++ write BTCON 0x00 ++ clock base0 ++ read IRQX ++ clock base0 ++ read IRQX;
       answers = zeros 5 ++ gives 0x00000004;
       claim = none;
     }
@@ -134,7 +137,7 @@ table =
     ∷  -- DDC1 turned on with flag D enabled: of rises 1 to 27, 10 and 19 set D
     record {
       number = 10;
-      words = write IEX INTD ++ write IISTS 0x00 ++ times 27 rise;
+      words = write IEX (weight INTD) ++ write IISTS 0x00 ++ times 27 rise;
       answers = zeros 2 ++ zeros 27 ++ setsD ++ zeros 24 ++ setsD ++ zeros 24;
       claim = none;
     }

@@ -5,6 +5,7 @@ use mathlib.Core.List.{List, [], _∷_, _++_}
 use Rattle.bits.specs.Byte.{bit}
 use Rattle.events.specs.declared.Decoded.the-variants.{Read, Write, Pin, Clock}
 use Rattle.events.specs.Word.{encode}
+use Rattle.events.specs.Pins.{SDA, SCL}
 
 -- a list n times over
 abbrev pub times : ℕ → List ℕ → List ℕ
@@ -25,33 +26,6 @@ low pin = encode (Pin pin false) ∷ []
 
 abbrev pub clock : ℕ → List ℕ
 clock k = encode (Clock k) ∷ []
-
--- ---- pins and clocks by their numbers
-
-abbrev pub P16 : ℕ
-P16 = 14
-
-abbrev pub SDA : ℕ
-SDA = 24
-
-abbrev pub SCL : ℕ
-SCL = 25
-
-abbrev pub HSYNCI : ℕ
-HSYNCI = 26
-
-abbrev pub VSYNCI : ℕ
-VSYNCI = 27
-
--- the clock of 8 µs, the base clock for TBS 0, the watchdog clock
-abbrev pub period : ℕ
-period = 0
-
-abbrev pub base : ℕ
-base = 1
-
-abbrev pub watchdog : ℕ
-watchdog = 3
 
 -- a pulse: the pin falls and rises
 abbrev pub pulse : ℕ → List ℕ

@@ -1,10 +1,12 @@
 -- The six interrupt sources: what sets each flag of IRQX and what clears it (document 01, "Flags, timer, watchdog, reset" and
 -- "The bus"), told by the event and the state before it alone.
-use Prim.Native.Nat.{ℕ}
+use Prim.Native.Nat.{ℕ, _%_}
 use mathlib.Core.Bool.{Bool, false, not, _&&_, _||_}
 use lib.Dec.{eqb, ltb}
 use Rattle.bits.specs.Byte.{pick, bit}
-use Rattle.registers.specs.Names.{IEX, CLRFLG, BTCON}
+use Rattle.registers.specs.Names.{IEX, CLRFLG, BTCON, MD12, INTS, INTD, INTA, INTR, INTE, INTV, ENDDC, TBS, ENBT}
+use Rattle.events.specs.Pins as pin
+use Rattle.events.specs.Clocks as clock
 use Rattle.events.specs.declared.Decoded.{Decoded}
 use Rattle.events.specs.declared.Decoded.the-variants.{Read, Write, Pin, Clock, Polarity, Refused}
 use Rattle.bus.specs.declared.Phase.{Phase}
@@ -18,14 +20,14 @@ use Rattle.chip.specs.State.{registerAt}
 pub data Source : Type 0 where
   SclFall DataByte AddressMatch TimerOverflow ExternalRise VsyncRise : Source
 
--- "Registers", 10: bits 5..0 of IRQX, and of IEX and CLRFLG with it
+-- "Registers", 10: its bit in IRQX, and in IEX and CLRFLG with it
 abbrev pub place : Source → ℕ
-place SclFall = 5
-place DataByte = 4
-place AddressMatch = 3
-place TimerOverflow = 2
-place ExternalRise = 1
-place VsyncRise = 0
+place SclFall = INTS
+place DataByte = INTD
+place AddressMatch = INTA
+place TimerOverflow = INTR
+place ExternalRise = INTE
+place VsyncRise = INTV
 
 -- the source's flag in IRQX
 abbrev pub flag : Source → Chip → Bool
@@ -66,35 +68,35 @@ isClock k (Refused n) = false
 
 -- ---- the mode of DDC
 
--- ENDDC, bit 3 of II STS, is 0
+-- ENDDC of II STS is 0
 abbrev pub ddcOn : Chip → Bool
-ddcOn c = not (bit 3 (c .bus .iists))
+ddcOn c = not (bit ENDDC (c .bus .iists))
 
--- on, with MD1/2, bit 0 of MDCON, at 1
+-- on, with MD1/2 of MDCON at 1
 abbrev pub inDdc1 : Chip → Bool
-inDdc1 c = ddcOn c && bit 0 (c .mdcon)
+inDdc1 c = ddcOn c && bit MD12 (c .mdcon)
 
 -- on, with MD1/2 at 0
 abbrev pub inDdc2b : Chip → Bool
-inDdc2b c = ddcOn c && not (bit 0 (c .mdcon))
+inDdc2b c = ddcOn c && not (bit MD12 (c .mdcon))
 
 -- ---- edges that the chip acts on: none while RESET is low, none where the level is there already
 
 abbrev pub risesP16 : Chip → Decoded → Bool
-risesP16 c e = putHigh 14 e && (c .reset && not (bit 6 (c .pins .port1)))
+risesP16 c e = putHigh pin.P16 e && (c .reset && not (bit (pin.P16 % 8) (c .pins .port1)))
 
 abbrev pub risesVsynci : Chip → Decoded → Bool
-risesVsynci c e = putHigh 27 e && (c .reset && not (c .pins .vsynci))
+risesVsynci c e = putHigh pin.VSYNCI e && (c .reset && not (c .pins .vsynci))
 
 -- the SCL line follows its outside level unless the chip holds it low, in DDC2B
 abbrev pub sclFree : Chip → Bool
 sclFree c = not (inDdc2b c && pullsScl (c .bus .phase))
 
 abbrev pub risesScl : Chip → Decoded → Bool
-risesScl c e = putHigh 25 e && (c .reset && (not (c .scl) && sclFree c))
+risesScl c e = putHigh pin.SCL e && (c .reset && (not (c .scl) && sclFree c))
 
 abbrev pub fallsScl : Chip → Decoded → Bool
-fallsScl c e = putLow 25 e && (c .reset && (c .scl && sclFree c))
+fallsScl c e = putLow pin.SCL e && (c .reset && (c .scl && sclFree c))
 
 -- ---- where a byte on the bus stands
 
@@ -122,7 +124,7 @@ inNinthClock Held = false
 -- S: a fall of the SCL line with DDC on.
 -- D: in DDC1 a rise of VSYNCI with no edges left; in DDC2B the fall that ends the ninth clock of a byte.
 -- A: in DDC2B the rise of the SCL line that completes an address of the chip.
--- R: the base clock that TBS (BTCON bit 1) selects, with ENBT (bit 0) 0 and BT at FF.
+-- R: the base clock that TBS of BTCON selects, with ENBT 0 and BT at FF.
 -- E: a rise of P16.
 -- V: a rise of VSYNCI
 unfoldable pub raises : Source → Chip → Decoded → Bool
@@ -133,7 +135,8 @@ raises DataByte c e =
 raises AddressMatch c e =
     risesScl c e && (inDdc2b c && completesMatch (c .bus .iiadr) (line (pullsSda (c .bus .phase)) (c .sda)) (c .bus .phase))
 raises TimerOverflow c e =
-    isClock (pick (bit 1 (registerAt c BTCON)) 2 1) e && (c .reset && (not (bit 0 (registerAt c BTCON)) && ltb 0xfe (c .bt)))
+    isClock (pick (bit TBS (registerAt c BTCON)) clock.base1 clock.base0) e
+    && (c .reset && (not (bit ENBT (registerAt c BTCON)) && ltb 0xfe (c .bt)))
 raises ExternalRise c e = risesP16 c e
 raises VsyncRise c e = risesVsynci c e
 
@@ -141,7 +144,7 @@ raises VsyncRise c e = risesVsynci c e
 unfoldable pub clears : Source → Chip → Decoded → Bool
 clears s c (Read a) = false
 clears s c (Write a b) = eqb a CLRFLG && (c .reset && bit (place s) b)
-clears s c (Pin p level) = eqb p 28 && (c .reset && not level)
-clears s c (Clock k) = eqb k 3 && (c .reset && ltb 62 (c .watchdog))
+clears s c (Pin p level) = eqb p pin.RESET && (c .reset && not level)
+clears s c (Clock k) = eqb k clock.watchdog && (c .reset && ltb 62 (c .watchdog))
 clears s c (Polarity vertical level) = false
 clears s c (Refused n) = false

@@ -5,7 +5,7 @@ use mathlib.Core.List.{List}
 use lib.Bits.{bitAnd, bitOr}
 use lib.ListN.{getD}
 use Rattle.bits.specs.Byte.{bit}
-use Rattle.registers.specs.Names.{MDCON, HVCON, IEX, IRQX, IIADR, IIDAT, IISTS, BT}
+use Rattle.registers.specs.Names.{MDCON, HVCON, IEX, IRQX, IIADR, IIDAT, IISTS, BT, HSEL}
 use Rattle.registers.specs.Table.{resetValue, resets}
 use Rattle.sync.specs.declared.Sync.{Sync}
 use Rattle.sync.specs.Sync.{zeroSync}
@@ -78,9 +78,9 @@ registerAt c a = getD (c .registers) a 0
 abbrev pub modeOf : Chip → Mode
 modeOf c = mode (c .bus .iists) (c .mdcon)
 
--- HSEL, bit 2 of MDCON
+-- HSEL of MDCON
 abbrev pub hselOf : Chip → Bool
-hselOf c = bit 2 (c .mdcon)
+hselOf c = bit HSEL (c .mdcon)
 
 -- a request is a flag that is enabled
 unfoldable pub requests : Chip → ℕ

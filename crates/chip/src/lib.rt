@@ -5,6 +5,7 @@ use bus::Mode;
 use bus::Phase;
 use bus::Shifter;
 use registers::BT;
+use registers::HSEL;
 use registers::HVCON;
 use registers::IEX;
 use registers::IIADR;
@@ -81,12 +82,12 @@ pub fn mode_of(c: Chip) -> Mode
     bus::mode_of(c.bus.iists, c.mdcon)
 }
 
-// HSEL of a chip, bit 2 of MDCON.
+// HSEL of a chip, in MDCON.
 // Wrong answers: S/C, the bit below; HSEL inverted.
 pub fn hsel(c: Chip) -> bool
     ensures { λ r. ⌜ r ≡ hselOf c ⌝ }
 {
-    bits::bit(2, c.mdcon)
+    bits::bit(HSEL, c.mdcon)
 }
 
 // The request lines: the flags of IRQX that IEX enables.

@@ -1,10 +1,19 @@
 // Clocks, and a polarity that is found.
 ghost use mathlib.Core.Path.{_≡_};
 ghost use Rattle.bits.specs.Byte.{pick};
+ghost use Rattle.registers.specs.Names.{HPOLI, VPOLI};
 ghost use Rattle.clocks.specs.Clocks.{periodClock, timerRuns, timerStep, timerClock, watchdogClock, clockedAs, clocked as clockedOf, polarityFound};
 use chip::Chip;
+use events::BASE0;
+use events::BASE1;
+use events::PERIOD;
+use events::WATCHDOG;
 use registers::BTCON;
+use registers::ENBT;
+use registers::HPOLI;
 use registers::INTR;
+use registers::TBS;
+use registers::VPOLI;
 
 // A clock of 8 µs: VCNT steps, and with HSEL 0 the interval runs.
 // Wrong answers: HSEL taken inverted; the base timer stepped too.
@@ -21,10 +30,14 @@ pub fn period_clock(c: Chip) -> Chip
 fn timer_runs(btcon: u8, k: u8) -> bool
     ensures { λ r. ⌜ r ≡ timerRuns btcon k ⌝ }
 {
-    if bits::bit(0, btcon) {
+    if bits::bit(ENBT, btcon) {
         return false;
     }
-    if bits::bit(1, btcon) { k == 2 } else { k == 1 }
+    if bits::bit(TBS, btcon) {
+        k == BASE1
+    } else {
+        k == BASE0
+    }
 }
 
 fn timer_step(c: Chip) -> Chip
@@ -63,8 +76,8 @@ fn clocked_as(c: Chip, k: u8) -> Chip
     ensures { λ r. ⌜ r ≡ clockedAs c k ⌝ }
 {
     match k {
-        0 => period_clock(c),
-        3 => watchdog_clock(c),
+        PERIOD => period_clock(c),
+        WATCHDOG => watchdog_clock(c),
         _ => timer_clock(c, k),
     }
 }
@@ -79,9 +92,9 @@ pub fn clocked(c: Chip, k: u8) -> Chip
 
 // The bit of HVCON that a polarity goes to.
 fn polarity_bit(vertical: bool) -> u8
-    ensures { λ r. ⌜ r ≡ pick vertical 2 3 ⌝ }
+    ensures { λ r. ⌜ r ≡ pick vertical VPOLI HPOLI ⌝ }
 {
-    if vertical { 2 } else { 3 }
+    if vertical { VPOLI } else { HPOLI }
 }
 
 // A polarity is found: VPOLI or HPOLI takes it, except while RESET is low.

@@ -4,7 +4,9 @@ use mathlib.Core.Bool.{Bool, true, false, not, _&&_, _||_}
 use mathlib.Core.List.{List, [], _∷_}
 use lib.Dec.{eqb, ltb}
 use Rattle.bits.specs.Byte.{pick, num, bit}
-use Rattle.registers.specs.Names.{MDCON, CLRFLG}
+use Rattle.registers.specs.Names.{MDCON, CLRFLG, HSEL, CLRHOV, CLRVOV}
+use Rattle.events.specs.Pins as pin
+use Rattle.events.specs.Clocks as clock
 use Rattle.events.specs.declared.Decoded.{Decoded}
 use Rattle.events.specs.declared.Decoded.the-variants.{Read, Write, Pin, Clock, Polarity, Refused}
 use Rattle.events.specs.Word.{decode}
@@ -24,17 +26,17 @@ levelAfter p (Clock k) old = old
 levelAfter p (Polarity vertical level) old = old
 levelAfter p (Refused n) old = old
 
--- rises of HSYNCI (pin 26) while RESET (pin 28) is high
+-- rises of HSYNCI while RESET is high
 abbrev pub hsyncRises : Bool → Bool → List ℕ → ℕ
 hsyncRises reset hsynci [] = 0
 hsyncRises reset hsynci (w ∷ ws) =
-    num (putHigh 26 (decode w) && (reset && not hsynci))
-    + hsyncRises (levelAfter 28 (decode w) reset) (levelAfter 26 (decode w) hsynci) ws
+    num (putHigh pin.HSYNCI (decode w) && (reset && not hsynci))
+    + hsyncRises (levelAfter pin.RESET (decode w) reset) (levelAfter pin.HSYNCI (decode w) hsynci) ws
 
--- 8 µs clocks (number 0) while RESET is high
+-- 8 µs clocks while RESET is high
 abbrev pub periodClocks : Bool → List ℕ → ℕ
 periodClocks reset [] = 0
-periodClocks reset (w ∷ ws) = num (isClock 0 (decode w) && reset) + periodClocks (levelAfter 28 (decode w) reset) ws
+periodClocks reset (w ∷ ws) = num (isClock clock.period (decode w) && reset) + periodClocks (levelAfter pin.RESET (decode w) reset) ws
 
 -- ---- what zeroes a count
 
@@ -42,8 +44,8 @@ periodClocks reset (w ∷ ws) = num (isClock 0 (decode w) && reset) + periodCloc
 abbrev pub resets : Chip → Decoded → Bool
 resets c (Read a) = false
 resets c (Write a b) = false
-resets c (Pin p level) = eqb p 28 && (c .reset && not level)
-resets c (Clock k) = eqb k 3 && (c .reset && ltb 62 (c .watchdog))
+resets c (Pin p level) = eqb p pin.RESET && (c .reset && not level)
+resets c (Clock k) = eqb k clock.watchdog && (c .reset && ltb 62 (c .watchdog))
 resets c (Polarity vertical level) = false
 resets c (Refused n) = false
 
@@ -56,19 +58,19 @@ writes register k value c (Clock j) = false
 writes register k value c (Polarity vertical level) = false
 writes register k value c (Refused n) = false
 
--- HCNT: a reset, a 1 in bit 7 of CLRFLG, HSEL written from 1 to 0; and, as latching does not in overflow, a rise of VSYNCI with
+-- HCNT: a reset, a 1 in CLRHOV of CLRFLG, HSEL written from 1 to 0; and, as latching does not in overflow, a rise of VSYNCI with
 -- HSEL 1, and with HSEL 0 the 1,024th 8 µs clock, which finds the interval at 1,023
 unfoldable pub zeroesLines : Chip → Decoded → Bool
 zeroesLines c e =
     resets c e
-    || (writes CLRFLG 7 true c e
-    || ((writes MDCON 2 false c e && hselOf c)
+    || (writes CLRFLG CLRHOV true c e
+    || ((writes MDCON HSEL false c e && hselOf c)
     || ((risesVsynci c e && (hselOf c && not (c .sync .lines .overflow)))
-    || (isClock 0 e && (c .reset && (not (hselOf c) && (ltb 1022 (c .sync .interval) && not (c .sync .lines .overflow))))))))
+    || (isClock clock.period e && (c .reset && (not (hselOf c) && (ltb 1022 (c .sync .interval) && not (c .sync .lines .overflow))))))))
 
--- VCNT: a reset, a 1 in bit 6 of CLRFLG, and, not in overflow, a rise of VSYNCI
+-- VCNT: a reset, a 1 in CLRVOV of CLRFLG, and, not in overflow, a rise of VSYNCI
 unfoldable pub zeroesPeriods : Chip → Decoded → Bool
-zeroesPeriods c e = resets c e || (writes CLRFLG 6 true c e || (risesVsynci c e && not (c .sync .periods .overflow)))
+zeroesPeriods c e = resets c e || (writes CLRFLG CLRVOV true c e || (risesVsynci c e && not (c .sync .periods .overflow)))
 
 -- no word of the list zeroes the count
 abbrev pub never : (Chip → Decoded → Bool) → Chip → List ℕ → Bool

@@ -3,7 +3,8 @@ use Prim.Native.Nat.{ℕ, _+_, _*_, _/_, _%_}
 use mathlib.Core.Bool.{Bool, true, false, _||_}
 use lib.Bits.{bitOr}
 use lib.Dec.{eqb, ltb}
-use Rattle.bits.specs.Byte.{pick, num, withBit}
+use Rattle.bits.specs.Byte.{pick, num, weight, withBit}
+use Rattle.registers.specs.Names.{START, STOP, RXAK}
 use Rattle.bus.specs.declared.Phase.{Phase}
 use Rattle.bus.specs.declared.Phase.the-variants.{Idle, Address, Ignoring, Receive, Transmit, Held}
 
@@ -20,16 +21,16 @@ unfoldable pub gathered : ℕ → Bool → ℕ
 gathered bits sda = bits % 128 * 2 + num sda
 
 -- ---- START and STOP
--- START sets bit 5 of II STS, and the address follows; nothing is gathered yet
+-- START is set in II STS, and the address follows; nothing is gathered yet
 abbrev pub startStatus : ℕ → ℕ
-startStatus status = bitOr status 0x20
+startStatus status = bitOr status (weight START)
 
 abbrev pub startPhase : Phase
 startPhase = Address 0 0 false
 
--- STOP sets bit 4 of II STS, and the bus is idle
+-- STOP is set in II STS, and the bus is idle
 abbrev pub stopStatus : ℕ → ℕ
-stopStatus status = bitOr status 0x10
+stopStatus status = bitOr status (weight STOP)
 
 -- ---- a rise of the SCL line
 -- the phase once the eighth address bit is gathered: the chip's own, or somebody else's
@@ -66,13 +67,13 @@ matchesAtRise own sda (Receive count bits acknowledged) = false
 matchesAtRise own sda (Transmit count byte) = false
 matchesAtRise own sda Held = false
 
--- the first rise after the eighth fall of a transmit puts SDA in RXAK, bit 1 of II STS
+-- the first rise after the eighth fall of a transmit puts SDA in RXAK of II STS
 unfoldable pub statusAtRise : Bool → Phase → ℕ → ℕ
 statusAtRise sda Idle status = status
 statusAtRise sda (Address count bits acknowledged) status = status
 statusAtRise sda Ignoring status = status
 statusAtRise sda (Receive count bits acknowledged) status = status
-statusAtRise sda (Transmit count byte) status = pick (eqb count 9) (withBit status 1 sda) status
+statusAtRise sda (Transmit count byte) status = pick (eqb count 9) (withBit status RXAK sda) status
 statusAtRise sda Held status = status
 
 -- ---- a fall of the SCL line
@@ -100,7 +101,7 @@ phaseAtFall (Transmit count byte) = pick (ltb count 9) (Transmit (count + 1) byt
 phaseAtFall Held = Held
 
 -- ---- letting SCL go
--- a write to II DAT while held: TRX, bit 2 of II STS, at 1 puts bit 7 of the byte on SDA; at 0 a receive begins
+-- a write to II DAT while held: TRX of II STS at 1 puts bit 7 of the byte on SDA; at 0 a receive begins
 abbrev pub phaseLetGo : Bool → ℕ → Phase
 phaseLetGo true byte = Transmit 1 byte
 phaseLetGo false byte = Receive 0 0 false

@@ -3,6 +3,7 @@ ghost use mathlib.Core.Path.{_≡_};
 ghost use Rattle.bus.specs.declared.Phase.{Phase};
 ghost use Rattle.ddc2b.specs.Ddc2b.{matches as matchesOf, gathered as gatheredBits, addressed as addressedOf, phaseAtRise, dataAtRise, matchesAtRise, statusAtRise, holdsAtFall, acknowledges as acknowledgesOf, phaseAtFall, phaseLetGo};
 use bus::Phase;
+use registers::RXAK;
 
 // An address is the chip's own by A0H or by II ADR, the direction bit left aside.
 // Wrong answers: A2H taken for A0H; the direction bit compared.
@@ -197,7 +198,7 @@ pub fn status_at_rise(sda: bool, phase: Phase, status: u8) -> u8
         } => status,
         Phase::Transmit { count, byte: _ } => {
             if count == 9 {
-                bits::with_bit(status, 1, sda)
+                bits::with_bit(status, RXAK, sda)
             } else {
                 status
             }

@@ -3,7 +3,7 @@ use Prim.Native.Nat.{ℕ}
 use mathlib.Core.Bool.{Bool}
 use lib.Bits.{bitAnd, bitOr}
 use Rattle.bits.specs.Byte.{pick, bit}
-use Rattle.registers.specs.Names.{MDCON, IIADR, IIDAT, IISTS}
+use Rattle.registers.specs.Names.{MDCON, IIADR, IIDAT, IISTS, HSEL, TRX}
 use Rattle.registers.specs.Table.{updated}
 use Rattle.sync.specs.declared.Sync.{Sync}
 use Rattle.sync.specs.Sync.{hselCleared}
@@ -22,7 +22,7 @@ syncAtHsel old new s = pick old (pick new s (hselCleared s)) s
 unfoldable pub mdconWritten : Chip → ℕ → Chip
 mdconWritten c b =
     let new : ℕ = updated MDCON (c .mdcon) b in
-    withBus (withSync (withMdcon c new) (syncAtHsel (bit 2 (c .mdcon)) (bit 2 new) (c .sync)))
+    withBus (withSync (withMdcon c new) (syncAtHsel (bit HSEL (c .mdcon)) (bit HSEL new) (c .sync)))
     (busAtMode (mode (c .bus .iists) (c .mdcon)) (mode (c .bus .iists) new) (c .bus))
 
 unfoldable pub iiadrWritten : Chip → ℕ → Chip
@@ -45,7 +45,7 @@ withIidat b bus = busOf (bus .iists) (bus .iiadr) (updated IIDAT (bus .iidat) b)
 
 -- SCL let go: TRX says which way the next byte goes
 abbrev pub busLetGo : ℕ → Bus → Bus
-busLetGo b bus = busOf (bus .iists) (bus .iiadr) (updated IIDAT (bus .iidat) b) (phaseLetGo (bit 2 (bus .iists)) b) (bus .shifter)
+busLetGo b bus = busOf (bus .iists) (bus .iiadr) (updated IIDAT (bus .iidat) b) (phaseLetGo (bit TRX (bus .iists)) b) (bus .shifter)
 
 -- with SCL's outside level already 1 the line rises as it is let go
 unfoldable pub busRisen : Bool → Bool → Bus → Bus

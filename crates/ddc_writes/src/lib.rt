@@ -3,10 +3,12 @@ ghost use mathlib.Core.Path.{_≡_};
 ghost use Rattle.ddc_writes.specs.DdcWrites.{syncAtHsel, mdconWritten, iiadrWritten, statusWritten, iistsWritten, withIidat, busLetGo, busRisen, busAtIidat, iidatWritten};
 use chip::Bus;
 use chip::Chip;
+use registers::HSEL;
 use registers::IIADR;
 use registers::IIDAT;
 use registers::IISTS;
 use registers::MDCON;
+use registers::TRX;
 use sync::Sync;
 
 fn sync_at_hsel(old: bool, new: bool, s: Sync) -> Sync
@@ -28,7 +30,7 @@ pub fn mdcon_written(c: Chip, b: u8) -> Chip
     let new = registers::updated(MDCON, old, b);
     let counters = c.sync;
     let wires = c.bus;
-    let after = sync_at_hsel(bits::bit(2, old), bits::bit(2, new), counters);
+    let after = sync_at_hsel(bits::bit(HSEL, old), bits::bit(HSEL, new), counters);
     let moved = lines::bus_at_mode(
         bus::mode_of(wires.iists, old),
         bus::mode_of(wires.iists, new),
@@ -93,7 +95,7 @@ fn bus_let_go(b: u8, wires: Bus) -> Bus
         iists: wires.iists,
         iiadr: wires.iiadr,
         iidat: registers::updated(IIDAT, wires.iidat, b),
-        phase: ddc2b::phase_let_go(bits::bit(2, wires.iists), b),
+        phase: ddc2b::phase_let_go(bits::bit(TRX, wires.iists), b),
         shifter: shifter,
     }
 }

@@ -3,6 +3,28 @@ ghost use mathlib.Core.Path.{_≡_};
 ghost use Rattle.events.specs.Word.{decode as decodeOf, encode as encodeOf, event as eventOf, isPin, noEvent, noPlace, badByte};
 ghost use Rattle.events.specs.Word.{DecodedCase, refusedWord, eventWord};
 
+// Pins that a rule names, by their number.
+pub const P16: u8 = 14;
+
+pub const SDA: u8 = 24;
+
+pub const SCL: u8 = 25;
+
+pub const HSYNCI: u8 = 26;
+
+pub const VSYNCI: u8 = 27;
+
+pub const RESET: u8 = 28;
+
+// Clocks: that of 8 µs, the base clocks for TBS 0 and 1, that of the watchdog.
+pub const PERIOD: u8 = 0;
+
+pub const BASE0: u8 = 1;
+
+pub const BASE1: u8 = 2;
+
+pub const WATCHDOG: u8 = 3;
+
 // An event, or the number with which a word is refused.
 pub enum Decoded {
     // a register
@@ -11,7 +33,7 @@ pub enum Decoded {
     Write(u8, u8),
     // a pin and its level
     Pin(u8, bool),
-    // a clock: 0 of 8 µs, 1 and 2 of the base timer, 3 of the watchdog
+    // a clock
     Clock(u8),
     // vertical or not, and the polarity found
     Polarity(bool, bool),

@@ -7,7 +7,9 @@ use mathlib.Core.Bool.{Bool, true, false, not, _&&_, _||_, Bool·beq}
 use lib.ListN.{length}
 use lib.Dec.{eqb, ltb}
 use Rattle.bits.specs.Byte.{pick, num, bit}
-use Rattle.registers.specs.Names.{MDCON, CLRWDT, IIADR, IIDAT, IISTS}
+use Rattle.registers.specs.Names.{MDCON, CLRWDT, IIADR, IIDAT, IISTS, MD12, ENDDC}
+use Rattle.events.specs.Pins as pin
+use Rattle.events.specs.Clocks as clock
 use Rattle.registers.specs.Table.{isWritable}
 use Rattle.events.specs.declared.Decoded.{Decoded}
 use Rattle.events.specs.declared.Decoded.the-variants.{Read, Write, Pin, Clock, Polarity, Refused}
@@ -21,11 +23,11 @@ use Rattle.run.specs.Run.{after, answers, run, runAnswers}
 
 -- ---- the two lists
 
--- a pin event at SDA, pin 24, whatever level it brings
+-- a pin event at SDA, whatever level it brings
 abbrev pub touchesSda : Decoded → Bool
 touchesSda (Read a) = false
 touchesSda (Write a b) = false
-touchesSda (Pin p level) = eqb p 24
+touchesSda (Pin p level) = eqb p pin.SDA
 touchesSda (Clock k) = false
 touchesSda (Polarity vertical level) = false
 touchesSda (Refused n) = false
@@ -100,19 +102,19 @@ gather sda (since levels) = since (sda ∷ levels)
 abbrev pub traceAtScl : Observer → Bool → Trace
 traceAtScl o level = pick (sclRises o level) (gather (o .sda) (o .trace)) (o .trace)
 
--- pins 24, 25 and 28 are SDA, SCL and RESET
+-- SDA, SCL and RESET put their levels; the other pins are not looked at
 abbrev pub observePin : Observer → ℕ → Bool → Observer
 observePin o p level =
     record {
-      sda = pick (eqb p 24) level (o .sda);
-      scl = pick (eqb p 25) level (o .scl);
-      reset = pick (eqb p 28) level (o .reset);
+      sda = pick (eqb p pin.SDA) level (o .sda);
+      scl = pick (eqb p pin.SCL) level (o .scl);
+      reset = pick (eqb p pin.RESET) level (o .reset);
       own = o .own;
       watchdog = o .watchdog;
-      trace = pick (eqb p 24) (traceAtSda o level) (pick (eqb p 25) (traceAtScl o level) (o .trace));
+      trace = pick (eqb p pin.SDA) (traceAtSda o level) (pick (eqb p pin.SCL) (traceAtScl o level) (o .trace));
     }
 
--- clock 3 is that of the watchdog, which stands while RESET is low
+-- the watchdog's count stands while RESET is low
 abbrev pub observeClock : Observer → ℕ → Observer
 observeClock o k =
     record {
@@ -120,7 +122,7 @@ observeClock o k =
       scl = o .scl;
       reset = o .reset;
       own = o .own;
-      watchdog = pick (o .reset && eqb k 3) (o .watchdog + 1) (o .watchdog);
+      watchdog = pick (o .reset && eqb k clock.watchdog) (o .watchdog + 1) (o .watchdog);
       trace = o .trace;
     }
 
@@ -134,13 +136,13 @@ observe o (Refused n) = o
 
 -- ---- what a run may not do
 
--- ENDDC is bit 3 of II STS; at 1 the chip leaves the bus
+-- a 1 to ENDDC of II STS turns DDC off
 abbrev pub turnsOff : ℕ → ℕ → Bool
-turnsOff a b = eqb a IISTS && bit 3 b
+turnsOff a b = eqb a IISTS && bit ENDDC b
 
--- MD1/2 is bit 0 of MDCON; at 1 it selects DDC1
+-- a 1 to MD1/2 of MDCON asks for DDC1
 abbrev pub asksDdc1 : ℕ → ℕ → Bool
-asksDdc1 a b = eqb a MDCON && bit 0 b
+asksDdc1 a b = eqb a MDCON && bit MD12 b
 
 -- with seven levels gathered the next one makes a whole address; this one is the chip's ("The bus")
 abbrev pub completesMatch : ℕ → Bool → Trace → Bool
@@ -153,15 +155,15 @@ resetFalls o level = o .reset && not level
 
 -- the watchdog clock that resets the chip: 63 were counted before it
 abbrev pub watchdogExpires : Observer → ℕ → Bool
-watchdogExpires o k = o .reset && (eqb k 3 && not (ltb (o .watchdog) 63))
+watchdogExpires o k = o .reset && (eqb k clock.watchdog && not (ltb (o .watchdog) 63))
 
 -- what each event of a run must keep to: DDC2B stays selected, no address is the chip's, and nothing resets it
 unfoldable pub permitted : Observer → Decoded → Bool
 permitted o (Read a) = true
 permitted o (Write a b) = not (accepted o a && turnsOff a b) && not (accepted o a && asksDdc1 a b)
 permitted o (Pin p level) =
-    pick (eqb p 25) (not (sclRises o level && completesMatch (o .own) (o .sda) (o .trace)))
-    (pick (eqb p 28) (not (resetFalls o level)) true)
+    pick (eqb p pin.SCL) (not (sclRises o level && completesMatch (o .own) (o .sda) (o .trace)))
+    (pick (eqb p pin.RESET) (not (resetFalls o level)) true)
 permitted o (Clock k) = not (watchdogExpires o k)
 permitted o (Polarity vertical level) = true
 permitted o (Refused n) = true

@@ -1,8 +1,8 @@
 -- What the lines of the bus do to the chip (document 01, "The bus").
 use mathlib.Core.Bool.{Bool, false}
 use lib.Bits.{bitOr}
-use Rattle.bits.specs.Byte.{pick, withBit}
-use Rattle.registers.specs.Names.{INTS, INTD, INTA}
+use Rattle.bits.specs.Byte.{pick, weight, weightIf, withBit}
+use Rattle.registers.specs.Names.{MD12, INTS, INTD, INTA}
 use Rattle.bus.specs.declared.Mode.{Mode}
 use Rattle.bus.specs.declared.Mode.the-variants.{Off, Ddc1, Ddc2b}
 use Rattle.bus.specs.declared.Edge.{Edge}
@@ -43,18 +43,18 @@ sdaLine b level = line (pullsSda (b .phase)) level
 -- a rise of the SCL line in DDC2B; a matched address sets flag A
 unfoldable pub sclRise : Chip → Chip
 sclRise c =
-    withBus (raised c (pick (matchesAtRise (c .bus .iiadr) (sdaLine (c .bus) (c .sda)) (c .bus .phase)) INTA 0))
+    withBus (raised c (weightIf (matchesAtRise (c .bus .iiadr) (sdaLine (c .bus) (c .sda)) (c .bus .phase)) INTA))
     (busAtRise (sdaLine (c .bus) (c .sda)) (c .bus))
 
 -- a fall of the SCL line in DDC2B sets flag S, and D where the chip takes hold of SCL
 unfoldable pub sclFall : Chip → Chip
 sclFall c =
-    withBus (raised c (bitOr INTS (pick (holdsAtFall (c .bus .phase)) INTD 0)))
+    withBus (raised c (bitOr (weight INTS) (weightIf (holdsAtFall (c .bus .phase)) INTD)))
     (withPhase (c .bus) (phaseAtFall (c .bus .phase)))
 
 -- a fall of the SCL line in DDC1 sets flag S and clears MD1/2, which is a change of mode
 unfoldable pub leaveDdc1 : Chip → Chip
-leaveDdc1 c = withBus (withMdcon (raised c INTS) (withBit (c .mdcon) 0 false)) (released (c .bus))
+leaveDdc1 c = withBus (withMdcon (raised c (weight INTS)) (withBit (c .mdcon) MD12 false)) (released (c .bus))
 
 unfoldable pub onSclDdc1 : Edge → Chip → Chip
 onSclDdc1 Flat c = c

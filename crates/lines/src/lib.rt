@@ -11,6 +11,7 @@ use chip::Chip;
 use registers::INTA;
 use registers::INTD;
 use registers::INTS;
+use registers::MD12;
 use registers::START;
 use registers::STOP;
 
@@ -101,7 +102,7 @@ fn scl_fall(c: Chip) -> Chip
     let b = c.bus;
     let phase = b.phase;
     let flags = bits::weight_if(ddc2b::holds_at_fall(phase), INTD);
-    let mut n = raised(c, INTS | flags);
+    let mut n = raised(c, (1 << INTS) | flags);
     let after = with_phase(b, ddc2b::phase_at_fall(phase));
     n.bus = after;
     n
@@ -111,8 +112,8 @@ fn leave_ddc1(c: Chip) -> Chip
     ensures { λ r. ⌜ r ≡ leaveDdc1 c ⌝ }
 {
     let b = c.bus;
-    let mut n = raised(c, INTS);
-    n.mdcon = bits::with_bit(c.mdcon, 0, false);
+    let mut n = raised(c, 1 << INTS);
+    n.mdcon = bits::with_bit(c.mdcon, MD12, false);
     let after = chip::released(b);
     n.bus = after;
     n
@@ -172,7 +173,7 @@ fn started(c: Chip) -> Chip
     let b = c.bus;
     let shifter = b.shifter;
     let after = Bus {
-        iists: b.iists | START,
+        iists: b.iists | (1 << START),
         iiadr: b.iiadr,
         iidat: b.iidat,
         phase: Phase::Address {
@@ -193,7 +194,7 @@ fn stopped(c: Chip) -> Chip
     let b = c.bus;
     let shifter = b.shifter;
     let after = Bus {
-        iists: b.iists | STOP,
+        iists: b.iists | (1 << STOP),
         iiadr: b.iiadr,
         iidat: b.iidat,
         phase: Phase::Idle,

@@ -2,6 +2,8 @@
 use Prim.Native.Nat.{ℕ}
 use mathlib.Core.Bool.{Bool, false, not, _&&_}
 use lib.Dec.{eqb}
+use Rattle.events.specs.Pins as pin
+use Rattle.events.specs.Clocks as clock
 use Rattle.events.specs.declared.Decoded.{Decoded}
 use Rattle.events.specs.declared.Decoded.the-variants.{Read, Write, Pin, Clock, Polarity, Refused}
 use Rattle.counters.specs.Count.{watchdogFires}
@@ -44,7 +46,7 @@ unfoldable pub watchdogReset : Chip → Decoded → Bool
 watchdogReset c (Read a) = false
 watchdogReset c (Write a b) = false
 watchdogReset c (Pin p level) = false
-watchdogReset c (Clock k) = c .reset && (eqb k 3 && watchdogFires (c .watchdog))
+watchdogReset c (Clock k) = c .reset && (eqb k clock.watchdog && watchdogFires (c .watchdog))
 watchdogReset c (Polarity vertical level) = false
 watchdogReset c (Refused n) = false
 
@@ -52,8 +54,8 @@ watchdogReset c (Refused n) = false
 unfoldable pub wasReset : Chip → Decoded → Bool
 wasReset c (Read a) = false
 wasReset c (Write a b) = false
-wasReset c (Pin p level) = eqb p 28 && (c .reset && not level)
-wasReset c (Clock k) = c .reset && (eqb k 3 && watchdogFires (c .watchdog))
+wasReset c (Pin p level) = eqb p pin.RESET && (c .reset && not level)
+wasReset c (Clock k) = c .reset && (eqb k clock.watchdog && watchdogFires (c .watchdog))
 wasReset c (Polarity vertical level) = false
 wasReset c (Refused n) = false
 

@@ -4,6 +4,8 @@ ghost use Rattle.events.specs.declared.Decoded.{Decoded};
 ghost use Rattle.outcome.specs.Outcome.{outcome as outcomeOf};
 use chip::Chip;
 use events::Decoded;
+use events::RESET;
+use events::WATCHDOG;
 
 // What an event did: the chip after it, the number given back, whether the watchdog reset the chip, whether anything reset
 // it, and the byte read.
@@ -47,7 +49,7 @@ fn pin_outcome(c: Chip, p: u8, level: bool) -> Outcome
         chip: pins::pin_moved(c, p, level),
         number: 0,
         watchdog: false,
-        reset: (p == 28) & (c.reset & !level),
+        reset: (p == RESET) & (c.reset & !level),
         byte: 0,
     }
 }
@@ -55,7 +57,7 @@ fn pin_outcome(c: Chip, p: u8, level: bool) -> Outcome
 fn clock_outcome(c: Chip, k: u8) -> Outcome
     ensures { λ r. ⌜ r ≡ outcomeOf c (Decoded.Clock k) ⌝ }
 {
-    let fired = c.reset & ((k == 3) & counters::watchdog_fires(c.watchdog));
+    let fired = c.reset & ((k == WATCHDOG) & counters::watchdog_fires(c.watchdog));
     Outcome {
         chip: clocks::clocked(c, k),
         number: 0,

@@ -1,11 +1,12 @@
 -- What a pin's outside level does (document 01, "Event words", "Ports", "Flags, timer, watchdog, reset",
 -- "Counting sync" and "The bus").
-use Prim.Native.Nat.{ℕ}
+use Prim.Native.Nat.{ℕ, _%_}
 use mathlib.Core.Bool.{Bool, not, _&&_}
 use lib.Bits.{bitOr}
 use lib.Dec.{eqb, ltb}
-use Rattle.bits.specs.Byte.{pick, bit, withBit}
+use Rattle.bits.specs.Byte.{pick, weight, weightIf, bit, withBit}
 use Rattle.registers.specs.Names.{INTD, INTE, INTV}
+use Rattle.events.specs.Pins as pin
 use Rattle.sync.specs.Sync.{onHsync, onVsync}
 use Rattle.bus.specs.declared.Edge.{Edge}
 use Rattle.bus.specs.declared.Edge.the-variants.{Flat, Rise, Fall}
@@ -21,13 +22,13 @@ use Rattle.lines.specs.Bus.{sclMoved, sdaMoved, busAtVsync, loadsAtVsync}
 unfoldable pub pinKind : ℕ → PinKind
 pinKind p =
     pick (ltb p 8) Port0
-    (pick (eqb p 14) P16
+    (pick (eqb p pin.P16) P16
     (pick (ltb p 16) Port1
     (pick (ltb p 24) Port2
-    (pick (eqb p 24) Sda
-    (pick (eqb p 25) Scl
-    (pick (eqb p 26) Hsynci
-    (pick (eqb p 27) Vsynci
+    (pick (eqb p pin.SDA) Sda
+    (pick (eqb p pin.SCL) Scl
+    (pick (eqb p pin.HSYNCI) Hsynci
+    (pick (eqb p pin.VSYNCI) Vsynci
     Reset)))))))
 
 abbrev pub pinsOf : ℕ → ℕ → ℕ → Bool → Bool → Pins
@@ -49,7 +50,7 @@ port2Moved c p level = withPins c (pinsOf (c .pins .port0) (c .pins .port1) (wit
 
 -- a rise of P16 sets flag E
 unfoldable pub p16Moved : Chip → Bool → Chip
-p16Moved c level = port1Moved (raised c (pick (rises (c .reset) (bit 6 (c .pins .port1)) level) INTE 0)) 14 level
+p16Moved c level = port1Moved (raised c (weightIf (rises (c .reset) (bit (pin.P16 % 8) (c .pins .port1)) level) INTE)) pin.P16 level
 
 -- ---- sync inputs
 abbrev pub hsyncLevel : Chip → Bool → Chip
@@ -66,7 +67,7 @@ hsyncMoved c level = withSync (hsyncLevel c level) (pick (rises (c .reset) (c .p
 unfoldable pub vsyncRise : Chip → Chip
 vsyncRise c =
     withBus
-    (withSync (raised c (bitOr INTV (pick (loadsAtVsync (modeOf c) (c .bus .shifter)) INTD 0))) (onVsync (hselOf c) (c .sync)))
+    (withSync (raised c (bitOr (weight INTV) (weightIf (loadsAtVsync (modeOf c) (c .bus .shifter)) INTD))) (onVsync (hselOf c) (c .sync)))
     (busAtVsync (modeOf c) (c .bus))
 
 unfoldable pub vsyncMoved : Chip → Bool → Chip

@@ -3,6 +3,11 @@ ghost use mathlib.Core.Path.{_≡_};
 ghost use Rattle.pins.specs.Pins.{pinKind, rises as risesOf, port0Moved, port1Moved, port2Moved, p16Moved, hsyncLevel, vsyncLevel, hsyncMoved, vsyncRise, vsyncMoved, onReset, resetMoved, pinMovedAs, pinMoved};
 use bus::Edge;
 use chip::Chip;
+use events::HSYNCI;
+use events::P16;
+use events::SCL;
+use events::SDA;
+use events::VSYNCI;
 use registers::INTD;
 use registers::INTE;
 use registers::INTV;
@@ -28,7 +33,7 @@ pub fn pin_kind(p: u8) -> PinKind
     if p < 8 {
         return PinKind::Port0;
     }
-    if p == 14 {
+    if p == P16 {
         return PinKind::P16;
     }
     if p < 16 {
@@ -38,10 +43,10 @@ pub fn pin_kind(p: u8) -> PinKind
         return PinKind::Port2;
     }
     match p {
-        24 => PinKind::Sda,
-        25 => PinKind::Scl,
-        26 => PinKind::Hsynci,
-        27 => PinKind::Vsynci,
+        SDA => PinKind::Sda,
+        SCL => PinKind::Scl,
+        HSYNCI => PinKind::Hsynci,
+        VSYNCI => PinKind::Vsynci,
         _ => PinKind::Reset,
     }
 }
@@ -83,9 +88,9 @@ fn port2_moved(c: Chip, p: u8, level: bool) -> Chip
 fn p16_moved(c: Chip, level: bool) -> Chip
     ensures { λ r. ⌜ r ≡ p16Moved c level ⌝ }
 {
-    let rise = rises(c.reset, bits::bit(6, c.pins.port1), level);
+    let rise = rises(c.reset, bits::bit(P16, c.pins.port1), level);
     let flags = bits::weight_if(rise, INTE);
-    port1_moved(lines::raised(c, flags), 14, level)
+    port1_moved(lines::raised(c, flags), P16, level)
 }
 
 fn hsync_level(c: Chip, level: bool) -> Chip
@@ -126,7 +131,7 @@ fn vsync_rise(c: Chip) -> Chip
     let counters = c.sync;
     let mode = chip::mode_of(c);
     let flags = bits::weight_if(lines::loads_at_vsync(mode, shifter), INTD);
-    let mut n = lines::raised(c, INTV | flags);
+    let mut n = lines::raised(c, (1 << INTV) | flags);
     let latched = sync::on_vsync(chip::hsel(c), counters);
     n.sync = latched;
     let shifted = lines::bus_at_vsync(mode, b);

@@ -3,16 +3,12 @@ use Prim.Native.Nat.{ℕ, _+_, _-_, _*_, _/_, _%_}
 use mathlib.Core.Bool.{Bool}
 use lib.Bits.{bitAnd, bitOr}
 use lib.Dec.{eqb}
-use Rattle.bits.specs.Byte.{pick, bit, merge}
-use Rattle.registers.specs.Names.{PT0, PT1, PT2DIR, PT2, PT3, MDCON, HVCON, HCNTL, HCNTH, VCNTL, VCNTH, SYNCON, ENDAC, IRQX, IIDAT, IISTS, HCNTOV, VCNTOV, HSYNCI, VSYNCI}
+use Rattle.bits.specs.Byte.{pick, weightIf, bit, merge}
+use Rattle.registers.specs.Names.{PT0, PT1, PT2DIR, PT2, PT3, MDCON, HVCON, HCNTL, HCNTH, VCNTL, VCNTH, SYNCON, ENDAC, IRQX, IIDAT, IISTS, HCNTOV, VCNTOV, HSYNCI, VSYNCI, ENDDC}
 use Rattle.registers.specs.Table.{readMask, isReadable}
 use Rattle.chip.specs.declared.Chip.{Chip}
 use Rattle.reads.specs.declared.Reading.{Reading}
 use Rattle.chip.specs.State.{registerAt}
-
--- a bit's weight where it is 1
-abbrev pub weight : Bool → ℕ → ℕ
-weight v w = pick v w 0
 
 -- "Ports": a pin reads 1 where neither its latch nor the outside is 0; one that is given away does not look outside
 abbrev pub portRead : ℕ → ℕ → ℕ → ℕ
@@ -37,16 +33,16 @@ port1 c = portRead (registerAt c PT1) (c .pins .port1) (given1 (registerAt c END
 unfoldable pub port2 : Chip → ℕ
 port2 c = merge (registerAt c PT2DIR) (c .pins .port2) (registerAt c PT2)
 
--- "Ports": with DDC on both pins of port 3 belong to the bus
+-- "Ports": with DDC on both pins of port 3 belong to the bus; SCL is P31 and SDA P30
 unfoldable pub port3 : Chip → ℕ
-port3 c = pick (bit 3 (c .bus .iists)) (bitAnd (registerAt c PT3) (bitOr (weight (c .scl) 2) (weight (c .sda) 1))) (registerAt c PT3)
+port3 c = pick (bit ENDDC (c .bus .iists)) (bitAnd (registerAt c PT3) (bitOr (weightIf (c .scl) 1) (weightIf (c .sda) 0))) (registerAt c PT3)
 
 -- HVCON: the overflow bits, the outside sync pins, the polarities
 unfoldable pub hvcon : Chip → ℕ
 hvcon c =
     bitOr
-    (bitOr (weight (c .sync .lines .overflow) HCNTOV) (weight (c .sync .periods .overflow) VCNTOV))
-    (bitOr (bitOr (weight (c .pins .hsynci) HSYNCI) (weight (c .pins .vsynci) VSYNCI)) (c .polarity))
+    (bitOr (weightIf (c .sync .lines .overflow) HCNTOV) (weightIf (c .sync .periods .overflow) VCNTOV))
+    (bitOr (bitOr (weightIf (c .pins .hsynci) HSYNCI) (weightIf (c .pins .vsynci) VSYNCI)) (c .polarity))
 
 -- what a register shows before its read mask
 unfoldable pub shown : Chip → ℕ → ℕ

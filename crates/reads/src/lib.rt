@@ -3,6 +3,7 @@ ghost use mathlib.Core.Path.{_≡_};
 ghost use Rattle.reads.specs.Reads.{portRead, given0 as givenOf0, given1 as givenOf1, port0 as portOf0, port1 as portOf1, port2 as portOf2, port3 as portOf3, hvcon as hvconOf, shown as shownOf, readingOf, reading};
 use chip::Chip;
 use registers::ENDAC;
+use registers::ENDDC;
 use registers::HCNTH;
 use registers::HCNTL;
 use registers::HCNTOV;
@@ -85,8 +86,8 @@ fn port3(c: Chip) -> u8
 {
     let registers = c.registers;
     let latch = registers[PT3 as usize];
-    if bits::bit(3, c.bus.iists) {
-        latch & (bits::weight_if(c.scl, 2) | bits::weight_if(c.sda, 1))
+    if bits::bit(ENDDC, c.bus.iists) {
+        latch & (bits::weight_if(c.scl, 1) | bits::weight_if(c.sda, 0))
     } else {
         latch
     }

@@ -1,5 +1,6 @@
--- Addresses of the registers and weights of their bits, after the data sheet's names, without blanks and slashes (document 01,
--- "Registers"). DACH1 to DACH13 follow DACH0; INTS to INTV are the sources that IEX and IRQX have a bit each for.
+-- Addresses of the registers, and the bits that a rule names by their number, after the data sheet's names, without blanks and
+-- slashes (document 01, "Registers"). DACH1 to DACH13 follow DACH0; INTS to INTV are the sources that IEX and IRQX have a bit
+-- each for, CLRHOV and CLRVOV the bits of CLRFLG that clear HCNTOV and VCNTOV.
 use Prim.Native.Nat.{ℕ}
 
 abbrev pub PT0 : ℕ
@@ -79,133 +80,81 @@ DACH0 = 0x18
 
 -- ---- bits of MDCON
 
-abbrev pub INSEN : ℕ
-INSEN = 0x08
-
 abbrev pub HSEL : ℕ
-HSEL = 0x04
-
-abbrev pub SC : ℕ
-SC = 0x02
+HSEL = 2
 
 abbrev pub MD12 : ℕ
-MD12 = 0x01
+MD12 = 0
 
 -- ---- bits of HVCON
 
 abbrev pub HCNTOV : ℕ
-HCNTOV = 0x80
+HCNTOV = 7
 
 abbrev pub VCNTOV : ℕ
-VCNTOV = 0x40
+VCNTOV = 6
 
 abbrev pub HSYNCI : ℕ
-HSYNCI = 0x20
+HSYNCI = 5
 
 abbrev pub VSYNCI : ℕ
-VSYNCI = 0x10
+VSYNCI = 4
 
 abbrev pub HPOLI : ℕ
-HPOLI = 0x08
+HPOLI = 3
 
 abbrev pub VPOLI : ℕ
-VPOLI = 0x04
-
-abbrev pub HPOLO : ℕ
-HPOLO = 0x02
-
-abbrev pub VPOLO : ℕ
-VPOLO = 0x01
-
--- ---- bits of SYNCON
-
-abbrev pub ENHALF : ℕ
-ENHALF = 0x40
-
-abbrev pub ENH : ℕ
-ENH = 0x02
-
-abbrev pub ENV : ℕ
-ENV = 0x01
-
--- ---- bits of ENDAC
-
-abbrev pub ENAD1 : ℕ
-ENAD1 = 0x80
-
-abbrev pub ENAD0 : ℕ
-ENAD0 = 0x40
-
-abbrev pub ENDK13 : ℕ
-ENDK13 = 0x20
-
-abbrev pub ENDK12 : ℕ
-ENDK12 = 0x10
-
-abbrev pub ENDK11 : ℕ
-ENDK11 = 0x08
-
-abbrev pub ENDK10 : ℕ
-ENDK10 = 0x04
-
-abbrev pub ENDK9 : ℕ
-ENDK9 = 0x02
-
-abbrev pub ENDK8 : ℕ
-ENDK8 = 0x01
+VPOLI = 2
 
 -- ---- bits of IEX and IRQX
 
 abbrev pub INTS : ℕ
-INTS = 0x20
+INTS = 5
 
 abbrev pub INTD : ℕ
-INTD = 0x10
+INTD = 4
 
 abbrev pub INTA : ℕ
-INTA = 0x08
+INTA = 3
 
 abbrev pub INTR : ℕ
-INTR = 0x04
+INTR = 2
 
 abbrev pub INTE : ℕ
-INTE = 0x02
+INTE = 1
 
 abbrev pub INTV : ℕ
-INTV = 0x01
+INTV = 0
 
 -- ---- bits of CLRFLG
 
 abbrev pub CLRHOV : ℕ
-CLRHOV = 0x80
+CLRHOV = 7
 
 abbrev pub CLRVOV : ℕ
-CLRVOV = 0x40
+CLRVOV = 6
 
 -- ---- bits of IISTS
 
 abbrev pub START : ℕ
-START = 0x20
+START = 5
 
 abbrev pub STOP : ℕ
-STOP = 0x10
+STOP = 4
 
 abbrev pub ENDDC : ℕ
-ENDDC = 0x08
+ENDDC = 3
 
 abbrev pub TRX : ℕ
-TRX = 0x04
+TRX = 2
 
 abbrev pub RXAK : ℕ
-RXAK = 0x02
-
-abbrev pub TXAK : ℕ
-TXAK = 0x01
+RXAK = 1
 
 -- ---- bits of BTCON
 
 abbrev pub TBS : ℕ
-TBS = 0x02
+TBS = 1
 
 abbrev pub ENBT : ℕ
-ENBT = 0x01
+ENBT = 0

@@ -53,91 +53,57 @@ pub const BTCON: u8 = 0x17;
 
 pub const DACH0: u8 = 0x18;
 
-// Bits, by their weights. Those of MDCON:
-pub const INSEN: u8 = 0x08;
+// Bits that a rule names, by their number. Those of MDCON:
+pub const HSEL: u8 = 2;
 
-pub const HSEL: u8 = 0x04;
-
-pub const SC: u8 = 0x02;
-
-pub const MD12: u8 = 0x01;
+pub const MD12: u8 = 0;
 
 // Those of HVCON:
-pub const HCNTOV: u8 = 0x80;
+pub const HCNTOV: u8 = 7;
 
-pub const VCNTOV: u8 = 0x40;
+pub const VCNTOV: u8 = 6;
 
-pub const HSYNCI: u8 = 0x20;
+pub const HSYNCI: u8 = 5;
 
-pub const VSYNCI: u8 = 0x10;
+pub const VSYNCI: u8 = 4;
 
-pub const HPOLI: u8 = 0x08;
+pub const HPOLI: u8 = 3;
 
-pub const VPOLI: u8 = 0x04;
-
-pub const HPOLO: u8 = 0x02;
-
-pub const VPOLO: u8 = 0x01;
-
-// Those of SYNCON:
-pub const ENHALF: u8 = 0x40;
-
-pub const ENH: u8 = 0x02;
-
-pub const ENV: u8 = 0x01;
-
-// Those of ENDAC:
-pub const ENAD1: u8 = 0x80;
-
-pub const ENAD0: u8 = 0x40;
-
-pub const ENDK13: u8 = 0x20;
-
-pub const ENDK12: u8 = 0x10;
-
-pub const ENDK11: u8 = 0x08;
-
-pub const ENDK10: u8 = 0x04;
-
-pub const ENDK9: u8 = 0x02;
-
-pub const ENDK8: u8 = 0x01;
+pub const VPOLI: u8 = 2;
 
 // Those of IEX and IRQX:
-pub const INTS: u8 = 0x20;
+pub const INTS: u8 = 5;
 
-pub const INTD: u8 = 0x10;
+pub const INTD: u8 = 4;
 
-pub const INTA: u8 = 0x08;
+pub const INTA: u8 = 3;
 
-pub const INTR: u8 = 0x04;
+pub const INTR: u8 = 2;
 
-pub const INTE: u8 = 0x02;
+pub const INTE: u8 = 1;
 
-pub const INTV: u8 = 0x01;
+pub const INTV: u8 = 0;
 
 // Those of CLRFLG:
-pub const CLRHOV: u8 = 0x80;
+pub const CLRHOV: u8 = 7;
 
-pub const CLRVOV: u8 = 0x40;
+pub const CLRVOV: u8 = 6;
 
 // Those of IISTS:
-pub const START: u8 = 0x20;
+pub const START: u8 = 5;
 
-pub const STOP: u8 = 0x10;
+pub const STOP: u8 = 4;
 
-pub const ENDDC: u8 = 0x08;
+pub const ENDDC: u8 = 3;
 
-pub const TRX: u8 = 0x04;
+pub const TRX: u8 = 2;
 
-pub const RXAK: u8 = 0x02;
-
-pub const TXAK: u8 = 0x01;
+pub const RXAK: u8 = 1;
 
 // Those of BTCON:
-pub const TBS: u8 = 0x02;
+pub const TBS: u8 = 1;
 
-pub const ENBT: u8 = 0x01;
+pub const ENBT: u8 = 0;
 
 // What a register is at reset, the bits that a write changes and those that a read shows, and which of the two it takes.
 // A write mask of 00 does not mean that a write is refused.

@@ -4,7 +4,7 @@ use lib.Bits.{bitAnd}
 use lib.Dec.{eqb}
 use lib.ListN.{set}
 use Rattle.bits.specs.Byte.{pick, bit}
-use Rattle.registers.specs.Names.{MDCON, HVCON, CLRFLG, CLRWDT, IIADR, IIDAT, IISTS, BT}
+use Rattle.registers.specs.Names.{MDCON, HVCON, CLRFLG, CLRWDT, IIADR, IIDAT, IISTS, BT, CLRHOV, CLRVOV}
 use Rattle.registers.specs.Table.{updated, isWritable}
 use Rattle.sync.specs.Sync.{clearOverflow}
 use Rattle.chip.specs.declared.Chip.{Chip}
@@ -30,9 +30,9 @@ target a =
 unfoldable pub storedWritten : Chip → ℕ → ℕ → Chip
 storedWritten c a b = withRegisters c (set (c .registers) a (updated a (registerAt c a) b))
 
--- CLRFLG: a 1 in bits 5..0 clears the flag; bits 7 and 6 clear HCNTOV and VCNTOV and zero their counter
+-- CLRFLG: a 1 in bits 5..0 clears the flag; CLRHOV and CLRVOV clear HCNTOV and VCNTOV and zero their counter
 unfoldable pub clrflgWritten : Chip → ℕ → Chip
-clrflgWritten c b = withSync (withIrqx c (bitAnd (c .irqx) (255 - b))) (clearOverflow (bit 7 b) (bit 6 b) (c .sync))
+clrflgWritten c b = withSync (withIrqx c (bitAnd (c .irqx) (255 - b))) (clearOverflow (bit CLRHOV b) (bit CLRVOV b) (c .sync))
 
 -- CLRWDT: 55H clears the watchdog, any other byte does nothing
 unfoldable pub clrwdtWritten : Chip → ℕ → Chip

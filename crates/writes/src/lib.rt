@@ -4,6 +4,8 @@ ghost use Rattle.writes.specs.Writes.{target, storedWritten, clrflgWritt
 use chip::Chip;
 use registers::BT;
 use registers::CLRFLG;
+use registers::CLRHOV;
+use registers::CLRVOV;
 use registers::CLRWDT;
 use registers::HVCON;
 use registers::IIADR;
@@ -62,7 +64,7 @@ fn clrflg_written(c: Chip, b: u8) -> Chip
     let counters = c.sync;
     let mut n = c;
     n.irqx = n.irqx & !b;
-    let after = sync::clear_overflow(bits::bit(7, b), bits::bit(6, b), counters);
+    let after = sync::clear_overflow(bits::bit(CLRHOV, b), bits::bit(CLRVOV, b), counters);
     n.sync = after;
     n
 }
