@@ -12,7 +12,7 @@ pub fn merge(mask: u8, old: u8, new: u8) -> u8
 }
 
 // Bit k of x, for k counted modulo 8.
-// Wrong answers: bit k + 1; true where any bit from k up is 1.
+// Wrong answers: bit k + 1; bit 0 given for bit 7.
 pub fn bit(k: u8, x: u8) -> bool
     ensures { λ r. ⌜ r ≡ bitOf (k % 8) x ⌝ }
 {

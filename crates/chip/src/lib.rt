@@ -125,7 +125,7 @@ pub fn reset_at(pins: Pins, sda: bool, scl: bool, reset: bool) -> Chip
 }
 
 // A reset keeps the outside levels.
-// Wrong answers: all outside levels put to 1; the latches kept.
+// Wrong answers: all outside levels put to 1; the counts and their latches kept.
 pub fn reset_chip(c: Chip) -> Chip
     ensures { λ r. ⌜ r ≡ resetChip c ⌝ }
 {
@@ -149,7 +149,7 @@ pub fn fresh() -> Chip
 }
 
 // The byte in a place of the array, 0 past it.
-// Wrong answers: the last place for one past the array; the byte under the read mask.
+// Wrong answers: 0 at the last place; the byte under the read mask.
 pub fn register_at(c: Chip, a: u8) -> u8
     ensures { λ r. ⌜ r ≡ registerAt c a ⌝ }
 {

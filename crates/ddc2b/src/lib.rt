@@ -115,7 +115,7 @@ pub fn phase_at_rise(own: u8, sda: bool, phase: Phase) -> Phase
 }
 
 // II DAT after a rise of the SCL line: the byte whose eighth bit this is, else as it was.
-// Wrong answers: the bits so far at each rise; II DAT kept for a foreign address.
+// Wrong answers: the bits so far at each rise; II DAT kept at an address.
 pub fn data_at_rise(sda: bool, phase: Phase, byte: u8) -> u8
     ensures { λ r. ⌜ r ≡ dataAtRise sda phase byte ⌝ }
 {

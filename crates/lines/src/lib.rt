@@ -39,7 +39,7 @@ fn with_phase(b: Bus, phase: Phase) -> Bus
 }
 
 // The mode that edges meet: off while RESET is low, whatever ENDDC says.
-// Wrong answers: DDC2B by ENDDC and MD1/2 while RESET is low; off wherever RESET is high.
+// Wrong answers: the mode by ENDDC and MD1/2 while RESET is low; off wherever RESET is high.
 pub fn active_mode(c: Chip) -> Mode
     ensures { λ r. ⌜ r ≡ activeMode c ⌝ }
 {
@@ -47,7 +47,7 @@ pub fn active_mode(c: Chip) -> Mode
 }
 
 // The bus after the mode goes from one to another: released where the two differ, else as it was.
-// Wrong answers: released where the same mode is set again; the phase kept from DDC1 to DDC2B.
+// Wrong answers: released where the same mode is set again; the phase kept.
 pub fn bus_at_mode(old: Mode, new: Mode, b: Bus) -> Bus
     ensures { λ r. ⌜ r ≡ busAtMode old new b ⌝ }
 {
@@ -75,7 +75,7 @@ pub fn bus_at_rise(sda: bool, b: Bus) -> Bus
 }
 
 // The level of the SDA line in DDC2B at an outside level: 0 where the phase pulls it.
-// Wrong answers: the outside level while the chip pulls; 0 in every phase but idle.
+// Wrong answers: the outside level while the chip pulls; 0 while the chip holds SCL.
 pub fn sda_line(b: Bus, level: bool) -> bool
     ensures { λ r. ⌜ r ≡ sdaLine b level ⌝ }
 {
@@ -272,7 +272,7 @@ fn bus_shifted(b: Bus) -> Bus
 }
 
 // A rise of VSYNCI loads II DAT: in DDC1, with no edges left.
-// Wrong answers: true in DDC2B; true on the first rise.
+// Wrong answers: true in DDC2B; true on each rise, the first too.
 pub fn loads_at_vsync(mode: Mode, s: Shifter) -> bool
     ensures { λ r. ⌜ r ≡ loadsAtVsync mode s ⌝ }
 {

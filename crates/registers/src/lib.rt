@@ -450,7 +450,7 @@ pub fn row_of(address: u8) -> Row
 }
 
 // The value that a reset gives.
-// Wrong answers: 0FH at MDCON, INSEN as the sheet's text has it; 80H past the table.
+// Wrong answers: 0FH at MDCON, INSEN as the sheet's text has it; 3FH at IRQX, the bits that a read shows.
 pub fn reset_value(address: u8) -> u8
     ensures { λ r. ⌜ r ≡ resetValue address ⌝ }
 {
@@ -459,7 +459,7 @@ pub fn reset_value(address: u8) -> u8
 }
 
 // The bits that a write changes.
-// Wrong answers: 7FH at PT1, its input P16 with it; FFH wherever a write is taken.
+// Wrong answers: 7FH at PT1, its input P16 with it; FFH at SYNCON, its reserved bit 5 with it.
 pub fn write_mask(address: u8) -> u8
     ensures { λ r. ⌜ r ≡ writeMask address ⌝ }
 {
@@ -476,7 +476,7 @@ pub fn updated(address: u8, old: u8, byte: u8) -> u8
 }
 
 // The bits that a read shows.
-// Wrong answers: FFH at HVCON, the output polarities with it; FFH at SYNCON, which is not read.
+// Wrong answers: 03H at HVCON, the output polarities; FFH at SYNCON, which is not read.
 pub fn read_mask(address: u8) -> u8
     ensures { λ r. ⌜ r ≡ readMask address ⌝ }
 {
@@ -503,7 +503,7 @@ pub fn readable(address: u8) -> bool
 }
 
 // All registers at reset.
-// Wrong answers: 0 in the last place; each value one place late.
+// Wrong answers: 0 in the last place; the value of PT0 in each place.
 pub fn resets() -> [u8; 38]
     ensures { λ r. ⌜ r ≡ resetsOf ⌝ }
 {

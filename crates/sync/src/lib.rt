@@ -77,7 +77,7 @@ pub fn clear_lines(bit: bool, c: LineCounter) -> LineCounter
 }
 
 // HCNT where HSEL goes from 1 to 0: zeroed, in overflow too.
-// Wrong answers: the overflow bit cleared too; the count kept in overflow.
+// Wrong answers: the overflow bit cleared too; the count kept, in overflow too.
 pub fn zero_lines(c: LineCounter) -> LineCounter
     ensures { λ r. ⌜ r ≡ zeroLines c ⌝ }
 {
@@ -90,7 +90,7 @@ pub fn zero_lines(c: LineCounter) -> LineCounter
 }
 
 // VCNT steps.
-// Wrong answers: 0 after 4095; a step taken in overflow.
+// Wrong answers: the count kept at 4094; a step taken in overflow.
 pub fn step_periods(c: PeriodCounter) -> PeriodCounter
     ensures { λ r. ⌜ r ≡ stepPeriods c ⌝ }
 {
@@ -154,7 +154,7 @@ pub fn lines_on_vsync(hsel: bool, c: LineCounter) -> LineCounter
 }
 
 // A rise of VSYNCI.
-// Wrong answers: HSEL taken inverted; VCNT latched only where HSEL is 1.
+// Wrong answers: HSEL taken inverted; HCNT latched where HSEL is 0 too.
 pub fn on_vsync(hsel: bool, s: Sync) -> Sync
     ensures { λ r. ⌜ r ≡ onVsync hsel s ⌝ }
 {
@@ -191,7 +191,7 @@ pub fn lines_on_period(hsel: bool, n: u16, c: LineCounter) -> LineCounter
 }
 
 // An 8 µs clock.
-// Wrong answers: VCNT stepped only where HSEL is 0; the interval standing while HCNT is in overflow.
+// Wrong answers: HCNT latched at the interval's end where HSEL is 1; the interval run on where HSEL is 1.
 pub fn on_period(hsel: bool, s: Sync) -> Sync
     ensures { λ r. ⌜ r ≡ onPeriod hsel s ⌝ }
 {
