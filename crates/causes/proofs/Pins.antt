@@ -2,15 +2,14 @@
 -- Assumes nothing.
 use mathlib.Core.Path.{_≡_, refl, sym}
 use mathlib.Core.Bool.{Bool, true, false, not, _&&_, _||_, Bool·beq}
-use Prim.Native.Nat.{ℕ, _<_}
-use lib.Dec.{T, eqb, eqb→eq}
+use Prim.Native.Nat.{ℕ}
+use lib.Dec.{T, eqb}
 use lib.Bits.{bitOr, or-zero-r}
 use Rattle.bits.specs.Byte.{pick, bit}
-use Rattle.bits.proofs.Finite.{at-each, beq-eq}
+use Rattle.bits.proofs.Finite.{beq-eq}
 use Rattle.registers.specs.Table.{rowOf, resetValue}
 use Rattle.events.specs.declared.Decoded.the-variants.{Pin}
 use Rattle.events.specs.Word.{InRange}
-use Rattle.events.proofs.Refusal.{pin-lt}
 use Rattle.bus.specs.declared.Mode.{Mode}
 use Rattle.bus.specs.declared.Mode.the-variants.{Off, Ddc1, Ddc2b}
 use Rattle.bus.specs.declared.Edge.{Edge}
@@ -25,8 +24,8 @@ use Rattle.chip.specs.declared.Chip.{Chip}
 use Rattle.chip.specs.State.{resetAt, resetChip, modeOf, withReset, withSda}
 use Rattle.lines.specs.Bus.{activeMode, onScl, onSclDdc1, onSclDdc2b, sclRise, sclFall, leaveDdc1, sclMoved, onSda, onSdaDdc2b, started, stopped, sdaMoved, loadsAtVsync}
 use Rattle.pins.specs.declared.PinKind.{PinKind}
-use Rattle.pins.specs.declared.PinKind.the-variants.{Port0, Port1, P16, Port2, Sda, Scl, Hsynci, Vsynci, Reset}
-use Rattle.pins.specs.Pins.{pinKind, rises, port0Moved, port1Moved, port2Moved, p16Moved, hsyncMoved, vsyncLevel, vsyncMoved, vsyncRise, onReset, resetMoved, pinMovedAs, pinMoved}
+use Rattle.pins.specs.Pins.{rises, port0Moved, port1Moved, port2Moved, p16Moved, hsyncMoved, vsyncLevel, vsyncMoved, vsyncRise, onReset, resetMoved, pinMovedAs, pinMoved}
+use Rattle.pins.proofs.Numbers.{Unnamed, Numbered, port0-pin, port1-pin, port2-pin, p16-pin, sda-pin, scl-pin, hsynci-pin, vsynci-pin, reset-pin, numbered}
 use Rattle.outcome.specs.Outcome.{next}
 use Rattle.causes.specs.Causes.{Source, place, flag, raises, clears, completesMatch, inNinthClock}
 use Rattle.causes.specs.Causes.Source.{SclFall, DataByte, AddressMatch, TimerOverflow, ExternalRise, VsyncRise}
@@ -200,33 +199,23 @@ at-reset s c level = rw (never-reset s c level) (reset-by s c (c .reset) level)
 
 -- ---- every other pin
 
--- a pin whose edges set no flag
-abbrev isPlain : ℕ → Bool
-isPlain p = not (eqb p 14) && (not (eqb p 25) && (not (eqb p 27) && not (eqb p 28)))
-
-none-of : (a b c d : Bool) → T (not a && (not b && (not c && not d))) → (a ≡ false) × (b ≡ false) × (c ≡ false) × (d ≡ false)
-none-of false false false false t = (refl, refl, refl, refl)
-none-of false false false true t = absurd t
-none-of false false true d t = absurd t
-none-of false true c d t = absurd t
-none-of true b c d t = absurd t
-
-module _ (c : Chip) (p : ℕ) (level : Bool) (t : T (isPlain p)) where
-  plain : (eqb p 14 ≡ false) × (eqb p 25 ≡ false) × (eqb p 27 ≡ false) × (eqb p 28 ≡ false)
-  plain = none-of (eqb p 14) (eqb p 25) (eqb p 27) (eqb p 28) t
-
+-- a pin whose edges set no flag, and that is not RESET
+module _ (c : Chip) (p : ℕ) (level : Bool) (p16 : eqb p 14 ≡ false) (scl : eqb p 25 ≡ false) (vsynci : eqb p 27 ≡ false) (reset : eqb p 28 ≡ false) where
   never-plain : (s : Source) → raises s c (Pin p level) ≡ false
   unfolding raises
-  never-plain SclFall = rw (plain .1)
-  never-plain DataByte = rw (plain .2, plain .1)
-  never-plain AddressMatch = rw (plain .1)
+  never-plain SclFall = rw scl
+  never-plain DataByte = rw (vsynci, scl)
+  never-plain AddressMatch = rw scl
   never-plain TimerOverflow = refl
-  never-plain ExternalRise = rw (plain .0)
-  never-plain VsyncRise = rw (plain .2)
+  never-plain ExternalRise = rw p16
+  never-plain VsyncRise = rw vsynci
 
   at-plain : (s : Source) → flag s c ≡ after s c (Pin p level)
   unfolding clears
-  at-plain s = rw (never-plain s, plain .3)
+  at-plain s = rw (never-plain s, reset)
+
+at-unnamed : (c : Chip) {p : ℕ} (level : Bool) → Unnamed p → (s : Source) → flag s c ≡ after s c (Pin p level)
+at-unnamed c {p} level u s = at-plain c p level (u .p16) (u .scl) (u .vsynci) (u .reset) s
 
 sda-irqx : (m : Mode) (high : Bool) (e : Edge) (c : Chip) → onSda m high e c .irqx ≡ c .irqx
 unfolding onSda onSdaDdc2b started stopped
@@ -244,34 +233,18 @@ sda-moved c level = sda-irqx _ _ _ (withSda c level)
 
 -- ---- all pins
 
--- the number of each kind of pin, or that it is a plain one
-abbrev hasNumber : PinKind → ℕ → Bool
-hasNumber Port0 p = isPlain p
-hasNumber Port1 p = isPlain p
-hasNumber P16 p = eqb p 14
-hasNumber Port2 p = isPlain p
-hasNumber Sda p = isPlain p
-hasNumber Scl p = eqb p 25
-hasNumber Hsynci p = isPlain p
-hasNumber Vsynci p = eqb p 27
-hasNumber Reset p = eqb p 28
-
-number-of : (p : ℕ) → p < 29 → T (hasNumber (pinKind p) p)
-unfolding pinKind
-number-of p h = at-each (λ p. hasNumber (pinKind p) p) 29 tt p h
-
-at-kind : (k : PinKind) (s : Source) (c : Chip) (p : ℕ) (level : Bool) → T (hasNumber k p) → flag s (pinMovedAs k c p level) ≡ after s c (Pin p level)
+at-kind : {k : PinKind} {p : ℕ} → Numbered k p → (s : Source) (c : Chip) (level : Bool) → flag s (pinMovedAs k c p level) ≡ after s c (Pin p level)
 unfolding pinMovedAs port0Moved port1Moved port2Moved hsyncMoved
-at-kind Port0 s c p level t = at-plain c p level t s
-at-kind Port1 s c p level t = at-plain c p level t s
-at-kind P16 s c p level t = rw (eqb→eq p 14 t) (at-p16 c level s)
-at-kind Port2 s c p level t = at-plain c p level t s
-at-kind Sda s c p level t = rw (sda-moved c level) (at-plain c p level t s)
-at-kind Scl s c p level t = rw (eqb→eq p 25 t) (at-scl c level s)
-at-kind Hsynci s c p level t = at-plain c p level t s
-at-kind Vsynci s c p level t = rw (eqb→eq p 27 t) (at-vsync c level s)
-at-kind Reset s c p level t = rw (eqb→eq p 28 t) (at-reset s c level)
+at-kind (port0-pin u) s c level = at-unnamed c level u s
+at-kind (port1-pin u) s c level = at-unnamed c level u s
+at-kind (port2-pin u) s c level = at-unnamed c level u s
+at-kind p16-pin s c level = at-p16 c level s
+at-kind sda-pin s c level = rw (sda-moved c level) (at-plain c 24 level refl refl refl refl s)
+at-kind scl-pin s c level = at-scl c level s
+at-kind hsynci-pin s c level = at-plain c 26 level refl refl refl refl s
+at-kind vsynci-pin s c level = at-vsync c level s
+at-kind reset-pin s c level = at-reset s c level
 
 pub at-pin : (s : Source) (c : Chip) (p : ℕ) (level : Bool) → InRange (Pin p level) → flag s (next c (Pin p level)) ≡ after s c (Pin p level)
 unfolding next pinMoved
-at-pin s c p level h = at-kind (pinKind p) s c p level (number-of p (pin-lt p h))
+at-pin s c p level h = at-kind (numbered p h) s c level

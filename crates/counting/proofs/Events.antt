@@ -2,19 +2,18 @@
 -- Assumes nothing.
 use mathlib.Core.Path.{_≡_, refl, ap, _∙_}
 use mathlib.Core.Bool.{Bool, true, false, not, _&&_, _||_}
-use Prim.Native.Nat.{ℕ, zero, suc, _<_}
+use Prim.Native.Nat.{ℕ, zero, suc}
 use native.Mathlib.Omega.{arith}
 use borrow.Author.Tests.{ltb-true, ltb-false, lt-ltb, le-ltb, not-false}
-use lib.Dec.{T, eqb, ltb, eqb→eq}
+use lib.Dec.{eqb, ltb}
 use Rattle.bits.specs.Byte.{pick, bit}
-use Rattle.bits.proofs.Finite.{at-each, neither}
+use Rattle.bits.proofs.Finite.{neither}
 use Rattle.bits.proofs.Bitwise.{bit-merge}
 use Rattle.registers.specs.Names.{MDCON, CLRFLG, BTCON}
 use Rattle.registers.specs.Table.{rowOf, writeMask}
 use Rattle.events.specs.declared.Decoded.{Decoded}
 use Rattle.events.specs.declared.Decoded.the-variants.{Read, Write, Pin, Clock, Polarity, Refused}
 use Rattle.events.specs.Word.{InRange}
-use Rattle.events.proofs.Refusal.{pin-lt}
 use Rattle.bits.proofs.Level.{pick-by}
 use Rattle.sync.specs.declared.Sync.{Sync}
 use Rattle.sync.specs.declared.LineCounter.{LineCounter}
@@ -32,8 +31,8 @@ use Rattle.lines.specs.Bus.{onScl, onSclDdc1, onSclDdc2b, sclRise, sclFall, lea
 use Rattle.ddc_writes.specs.DdcWrites.{syncAtHsel}
 use Rattle.registers.specs.Table.{updated}
 use Rattle.pins.specs.declared.PinKind.{PinKind}
-use Rattle.pins.specs.declared.PinKind.the-variants.{Port0, Port1, P16, Port2, Sda, Scl, Hsynci, Vsynci, Reset}
-use Rattle.pins.specs.Pins.{pinKind, rises, port0Moved, port1Moved, port2Moved, p16Moved, hsyncMoved, vsyncLevel, vsyncMoved, vsyncRise, onReset, resetMoved, pinMovedAs, pinMoved}
+use Rattle.pins.specs.Pins.{rises, port0Moved, port1Moved, port2Moved, p16Moved, hsyncMoved, vsyncLevel, vsyncMoved, vsyncRise, onReset, resetMoved, pinMovedAs, pinMoved}
+use Rattle.pins.proofs.Numbers.{Unnamed, Numbered, port0-pin, port1-pin, port2-pin, p16-pin, sda-pin, scl-pin, hsynci-pin, vsynci-pin, reset-pin, numbered}
 use Rattle.clocks.specs.Clocks.{periodClock, timerRuns, timerStep, timerClock, watchdogClock, clockedAs, clocked, polarityFound}
 use Rattle.outcome.specs.Outcome.{next}
 use Rattle.causes.proofs.Clocks.{watchdog-last}
@@ -109,31 +108,25 @@ module _ (c : Chip) (a b : ℕ) (r : c .reset ≡ true) where
 at-write : (c : Chip) (a b : ℕ) → Effect c (next c (Write a b)) (Write a b)
 at-write c a b =
     by-write (λ (x : Chip). Effect c x (Write a b)) c a b
-    (λ r _ _. record { lines = write-lines c a b r; periods = write-periods c a b r; reset = refl; hsynci = refl })
-    (record { lines = λ _. refl; periods = λ _. refl; reset = refl; hsynci = refl })
+    (λ r _. record { lines = write-lines c a b r; periods = write-periods c a b r; reset = refl; hsynci = refl })
+    (λ _. record { lines = λ _. refl; periods = λ _. refl; reset = refl; hsynci = refl })
 
 -- ---- pins
 
 -- a pin whose level is not one of RESET, HSYNCI and VSYNCI
-abbrev isPlain : ℕ → Bool
-isPlain p = not (eqb p 26) && (not (eqb p 27) && not (eqb p 28))
-
-none-of : (x y z : Bool) → T (not x && (not y && not z)) → (x ≡ false) × (y ≡ false) × (z ≡ false)
-none-of false false false t = (refl, refl, refl)
-none-of false false true t = absurd t
-none-of false true z t = absurd t
-none-of true y z t = absurd t
-
-plain-pin : (c after : Chip) (p : ℕ) (level : Bool) → T (isPlain p) →
+plain-pin : (c after : Chip) (p : ℕ) (level : Bool) → eqb p 26 ≡ false → eqb p 27 ≡ false → eqb p 28 ≡ false →
     after .sync ≡ c .sync → after .reset ≡ c .reset → after .pins .hsynci ≡ c .pins .hsynci → Effect c after (Pin p level)
-plain-pin c after p level t s r v =
-    let n = none-of (eqb p 26) (eqb p 27) (eqb p 28) t in
+plain-pin c after p level hsynci vsynci reset s r v =
     record {
-      lines = λ _. rw (n .0, s);
+      lines = λ _. rw (hsynci, s);
       periods = λ _. rw s;
-      reset = rw (n .2, r);
-      hsynci = rw (n .0, v);
+      reset = rw (reset, r);
+      hsynci = rw (hsynci, v);
     }
+
+unnamed-pin : (c after : Chip) {p : ℕ} (level : Bool) → Unnamed p →
+    after .sync ≡ c .sync → after .reset ≡ c .reset → after .pins .hsynci ≡ c .pins .hsynci → Effect c after (Pin p level)
+unnamed-pin c after {p} level u s r v = plain-pin c after p level (u .hsynci) (u .vsynci) (u .reset) s r v
 
 -- the SCL and SDA lines touch neither
 record Untouched (c after : Chip) : Type 0 where
@@ -161,17 +154,17 @@ sda-untouched Ddc2b false Rise c = record { sync = refl; reset = refl; pins = re
 sda-untouched Ddc2b true Fall c = record { sync = refl; reset = refl; pins = refl }
 sda-untouched Ddc2b false Fall c = record { sync = refl; reset = refl; pins = refl }
 
-at-scl : (c : Chip) (p : ℕ) (level : Bool) → T (isPlain p) → Effect c (sclMoved c level) (Pin p level)
+at-scl : (c : Chip) (level : Bool) → Effect c (sclMoved c level) (Pin 25 level)
 unfolding sclMoved
-at-scl c p level t =
+at-scl c level =
     let u = scl-untouched _ _ (withScl c level) in
-    plain-pin c _ p level t (u .sync) (u .reset) (rw (u .pins))
+    plain-pin c _ 25 level refl refl refl (u .sync) (u .reset) (rw (u .pins))
 
-at-sda : (c : Chip) (p : ℕ) (level : Bool) → T (isPlain p) → Effect c (sdaMoved c level) (Pin p level)
+at-sda : (c : Chip) (level : Bool) → Effect c (sdaMoved c level) (Pin 24 level)
 unfolding sdaMoved
-at-sda c p level t =
+at-sda c level =
     let u = sda-untouched _ _ _ (withSda c level) in
-    plain-pin c _ p level t (u .sync) (u .reset) (rw (u .pins))
+    plain-pin c _ 24 level refl refl refl (u .sync) (u .reset) (rw (u .pins))
 
 -- HSYNCI
 hsync-lines : (rise : Bool) (s : Sync) → (pick rise (onHsync s) s) .lines ≡ pick rise (stepLines (s .lines)) (s .lines)
@@ -284,36 +277,21 @@ at-reset c level =
     }
 
 -- all pins
-abbrev hasNumber : PinKind → ℕ → Bool
-hasNumber Port0 p = isPlain p
-hasNumber Port1 p = isPlain p
-hasNumber P16 p = isPlain p
-hasNumber Port2 p = isPlain p
-hasNumber Sda p = isPlain p
-hasNumber Scl p = isPlain p
-hasNumber Hsynci p = eqb p 26
-hasNumber Vsynci p = eqb p 27
-hasNumber Reset p = eqb p 28
-
-number-of : (p : ℕ) → p < 29 → T (hasNumber (pinKind p) p)
-unfolding pinKind
-number-of p h = at-each (λ p. hasNumber (pinKind p) p) 29 tt p h
-
-at-kind : (k : PinKind) (c : Chip) (p : ℕ) (level : Bool) → T (hasNumber k p) → Effect c (pinMovedAs k c p level) (Pin p level)
+at-kind : {k : PinKind} {p : ℕ} → Numbered k p → (c : Chip) (level : Bool) → Effect c (pinMovedAs k c p level) (Pin p level)
 unfolding pinMovedAs port0Moved port1Moved port2Moved p16Moved
-at-kind Port0 c p level t = plain-pin c _ p level t refl refl refl
-at-kind Port1 c p level t = plain-pin c _ p level t refl refl refl
-at-kind P16 c p level t = plain-pin c _ p level t refl refl refl
-at-kind Port2 c p level t = plain-pin c _ p level t refl refl refl
-at-kind Sda c p level t = at-sda c p level t
-at-kind Scl c p level t = at-scl c p level t
-at-kind Hsynci c p level t = rw (eqb→eq p 26 t) (at-hsynci c level)
-at-kind Vsynci c p level t = rw (eqb→eq p 27 t) (at-vsynci c level)
-at-kind Reset c p level t = rw (eqb→eq p 28 t) (at-reset c level)
+at-kind (port0-pin u) c level = unnamed-pin c _ level u refl refl refl
+at-kind (port1-pin u) c level = unnamed-pin c _ level u refl refl refl
+at-kind (port2-pin u) c level = unnamed-pin c _ level u refl refl refl
+at-kind p16-pin c level = plain-pin c _ 14 level refl refl refl refl refl refl
+at-kind sda-pin c level = at-sda c level
+at-kind scl-pin c level = at-scl c level
+at-kind hsynci-pin c level = at-hsynci c level
+at-kind vsynci-pin c level = at-vsynci c level
+at-kind reset-pin c level = at-reset c level
 
 at-pin : (c : Chip) (p : ℕ) (level : Bool) → InRange (Pin p level) → Effect c (next c (Pin p level)) (Pin p level)
 unfolding next pinMoved
-at-pin c p level h = at-kind (pinKind p) c p level (number-of p (pin-lt p h))
+at-pin c p level h = at-kind (numbered p h) c level
 
 -- ---- clocks
 

@@ -26,13 +26,13 @@ use Rattle.chip.specs.declared.Chip.{Chip}
 use Rattle.chip.specs.State.{registerAt}
 use Rattle.lines.specs.Bus.{busAtRise}
 use Rattle.writes.specs.declared.Target.{Target}
-use Rattle.writes.specs.declared.Target.the-variants.{Stored, Mdcon, Hvcon, Clrflg, Clrwdt, Iiadr, Iidat, Iists, Bt}
 use Rattle.writes.specs.Writes.{target, writeRegister}
 use Rattle.ddc_writes.specs.DdcWrites.{busLetGo, busRisen, withIidat, busAtIidat, statusWritten}
 use Rattle.registers.specs.Table.{updated}
 use Rattle.outcome.specs.Outcome.{next}
 use Rattle.frame.specs.Frame.{actsElsewhere, keptByte, changeable}
-use Rattle.frame.proofs.Fields.{fields, hasAddress, address-of, plain, written-fields, by-write}
+use Rattle.writes.proofs.Addresses.{Plain, Addressed, at-mdcon, at-hvcon, at-clrflg, at-clrwdt, at-iiadr, at-iidat, at-iists, at-bt, at-plain, addressed}
+use Rattle.frame.proofs.Fields.{fields, by-write}
 use Rattle.frame.proofs.Frame.{mode-keeps}
 
 -- ---- bytes
@@ -78,77 +78,67 @@ kept-by : (t : Bool) (m x y v w : ℕ) → bitAnd x m ≡ bitAnd v m → bitAnd 
 kept-by true m x y v w p q = p
 kept-by false m x y v w p q = q
 
-module _ (c : Chip) (a b : ℕ) (hb : b < 256) where
-  place-kept : bitAnd (getD (set (c .registers) a (updated a (registerAt c a) b)) a 0) (255 - writeMask a) ≡ bitAnd (registerAt c a) (255 - writeMask a)
-  place-kept =
+module _ (c : Chip) (b : ℕ) where
+  place-kept : (a : ℕ) → bitAnd (getD (set (c .registers) a (updated a (registerAt c a) b)) a 0) (255 - writeMask a) ≡ bitAnd (registerAt c a) (255 - writeMask a)
+  place-kept a =
       ⊎-elim
       (λ (h : a < length (c .registers)). rw (getD-set-same (c .registers) a (updated a (registerAt c a) b) 0 h) (outside (writeMask a) (registerAt c a) b (writeMask-lt a)))
       (λ (h : length (c .registers) ≤ a). rw (set-out (c .registers) a (updated a (registerAt c a) b) h))
       (lt-or-le a (length (c .registers)))
 
-  plain-kept : T (not (actsElsewhere a)) → bitAnd (keptByte (fields c a b) a) (255 - changeable a) ≡ bitAnd (keptByte c a) (255 - changeable a)
+  kept-to : {t : Target} {a : ℕ} → Addressed t a → b < 256 → bitAnd (keptByte (fields c a b) a) (255 - changeable a) ≡ bitAnd (keptByte c a) (255 - changeable a)
   unfolding keptByte changeable
-  plain-kept t =
-      let p = plain a t in
+  kept-to at-mdcon h = outside (writeMask MDCON) (c .mdcon) b (writeMask-lt MDCON)
+  kept-to at-hvcon h = outside (writeMask HVCON) (c .polarity) b (writeMask-lt HVCON)
+  kept-to at-clrflg h = refl
+  kept-to at-clrwdt h = refl
+  kept-to at-iiadr h = outside (writeMask IIADR) (c .bus .iiadr) b (writeMask-lt IIADR)
+  kept-to at-iidat h = rw (data-stored (c .scl) (c .sda) b (c .bus)) (outside (writeMask IIDAT) (c .bus .iidat) b (writeMask-lt IIDAT))
+  kept-to at-iists h = rw (mode-keeps _ _ _ .iists) (status-outside (c .bus .iists) b h)
+  kept-to at-bt h = outside (writeMask BT) (c .bt) b (writeMask-lt BT)
+  kept-to {a = a} (at-plain p) h =
       rw (p .mdcon, p .hvcon, p .clrflg, p .clrwdt, p .iiadr, p .iidat, p .iists, p .bt)
-      (kept-by (eqb a IRQX) (255 - writeMask a) (c .irqx) _ (c .irqx) (registerAt c a) refl place-kept)
-
-  kept-to : (t : Target) → T (hasAddress t a) → bitAnd (keptByte (fields c a b) a) (255 - changeable a) ≡ bitAnd (keptByte c a) (255 - changeable a)
-  unfolding keptByte changeable
-  kept-to Stored t = plain-kept t
-  kept-to Mdcon t = rw (eqb→eq a MDCON t) (outside (writeMask MDCON) (c .mdcon) b (writeMask-lt MDCON))
-  kept-to Hvcon t = rw (eqb→eq a HVCON t) (outside (writeMask HVCON) (c .polarity) b (writeMask-lt HVCON))
-  kept-to Clrflg t = rw (eqb→eq a CLRFLG t)
-  kept-to Clrwdt t = rw (eqb→eq a CLRWDT t)
-  kept-to Iiadr t = rw (eqb→eq a IIADR t) (outside (writeMask IIADR) (c .bus .iiadr) b (writeMask-lt IIADR))
-  kept-to Iidat t = rw (eqb→eq a IIDAT t, data-stored (c .scl) (c .sda) b (c .bus)) (outside (writeMask IIDAT) (c .bus .iidat) b (writeMask-lt IIDAT))
-  kept-to Iists t = rw (eqb→eq a IISTS t, mode-keeps _ _ _ .iists) (status-outside (c .bus .iists) b hb)
-  kept-to Bt t = rw (eqb→eq a BT t) (outside (writeMask BT) (c .bt) b (writeMask-lt BT))
+      (kept-by (eqb a IRQX) (255 - writeMask a) (c .irqx) _ (c .irqx) (registerAt c a) refl (place-kept a))
 
 -- a write to any register, taken or refused
 pub kept-bits : (c : Chip) (a b : ℕ) → b < 256 → bitAnd (keptByte (next c (Write a b)) a) (255 - changeable a) ≡ bitAnd (keptByte c a) (255 - changeable a)
-kept-bits c a b hb =
+kept-bits c a b h =
     by-write (λ (x : Chip). bitAnd (keptByte x a) (255 - changeable a) ≡ bitAnd (keptByte c a) (255 - changeable a)) c a b
-    (λ _ h _. kept-to c a b hb (target a) (address-of a h))
-    refl
+    (λ _ _. kept-to c b (addressed a) h)
+    (λ _. refl)
 
 -- ---- the bits that are taken
 
-module _ (c : Chip) (a b : ℕ) (hb : b < 256) (size : length (c .registers) ≡ 38) (ha : a < 38) where
-  place-taken : bitAnd (getD (set (c .registers) a (updated a (registerAt c a) b)) a 0) (writeMask a) ≡ bitAnd b (writeMask a)
-  place-taken =
+module _ (c : Chip) (b : ℕ) (size : length (c .registers) ≡ 38) where
+  place-taken : (a : ℕ) → a < 38 → bitAnd (getD (set (c .registers) a (updated a (registerAt c a) b)) a 0) (writeMask a) ≡ bitAnd b (writeMask a)
+  place-taken a h =
       let h : a < length (c .registers) = omega arith in
       rw (getD-set-same (c .registers) a (updated a (registerAt c a) b) 0 h) (merge-mask (writeMask a) (registerAt c a) b (writeMask-lt a))
 
-  plain-taken : T (not (actsElsewhere a)) → isWritable a ≡ true → bitAnd (keptByte (fields c a b) a) (writeMask a) ≡ bitAnd b (writeMask a)
+  plain-taken : {a : ℕ} → Plain a → a < 38 → isWritable a ≡ true → bitAnd (keptByte (fields c a b) a) (writeMask a) ≡ bitAnd b (writeMask a)
   unfolding keptByte isWritable rowOf
-  plain-taken t w =
-      let p = plain a t in
+  plain-taken {a} p h w =
       rw (p .mdcon, p .hvcon, p .clrflg, p .clrwdt, p .iiadr, p .iidat, p .iists, p .bt)
       (pick-by (λ (x : ℕ). bitAnd x (writeMask a) ≡ bitAnd b (writeMask a)) (eqb a IRQX)
       (λ e. let z : _≡_ {A = Bool} false true = rw (eqb-true a IRQX e) at w in cc)
-      (λ _. place-taken))
+      (λ _. place-taken a h))
 
-  taken-to : (t : Target) → T (hasAddress t a) → isWritable a ≡ true → bitAnd (keptByte (fields c a b) a) (writeMask a) ≡ bitAnd b (writeMask a)
+  taken-to : {t : Target} {a : ℕ} → Addressed t a → b < 256 → a < 38 → isWritable a ≡ true → bitAnd (keptByte (fields c a b) a) (writeMask a) ≡ bitAnd b (writeMask a)
   unfolding keptByte writeMask rowOf
-  taken-to Stored t w = plain-taken t w
-  taken-to Mdcon t w = rw (eqb→eq a MDCON t) (merge-mask (writeMask MDCON) (c .mdcon) b (writeMask-lt MDCON))
-  taken-to Hvcon t w = rw (eqb→eq a HVCON t) (merge-mask (writeMask HVCON) (c .polarity) b (writeMask-lt HVCON))
-  taken-to Clrflg t w = rw (eqb→eq a CLRFLG t) (and-zero-r (registerAt c CLRFLG) ∙ sym (and-zero-r b))
-  taken-to Clrwdt t w = rw (eqb→eq a CLRWDT t) (and-zero-r (registerAt c CLRWDT) ∙ sym (and-zero-r b))
-  taken-to Iiadr t w = rw (eqb→eq a IIADR t) (merge-mask (writeMask IIADR) (c .bus .iiadr) b (writeMask-lt IIADR))
-  taken-to Iidat t w = rw (eqb→eq a IIDAT t, data-stored (c .scl) (c .sda) b (c .bus)) (merge-mask (writeMask IIDAT) (c .bus .iidat) b (writeMask-lt IIDAT))
-  taken-to Iists t w = rw (eqb→eq a IISTS t, mode-keeps _ _ _ .iists) (status-inside (c .bus .iists) b hb)
-  taken-to Bt t w = rw (eqb→eq a BT t) (merge-mask (writeMask BT) (c .bt) b (writeMask-lt BT))
+  taken-to at-mdcon h ha w = merge-mask (writeMask MDCON) (c .mdcon) b (writeMask-lt MDCON)
+  taken-to at-hvcon h ha w = merge-mask (writeMask HVCON) (c .polarity) b (writeMask-lt HVCON)
+  taken-to at-clrflg h ha w = and-zero-r (registerAt c CLRFLG) ∙ sym (and-zero-r b)
+  taken-to at-clrwdt h ha w = and-zero-r (registerAt c CLRWDT) ∙ sym (and-zero-r b)
+  taken-to at-iiadr h ha w = merge-mask (writeMask IIADR) (c .bus .iiadr) b (writeMask-lt IIADR)
+  taken-to at-iidat h ha w = rw (data-stored (c .scl) (c .sda) b (c .bus)) (merge-mask (writeMask IIDAT) (c .bus .iidat) b (writeMask-lt IIDAT))
+  taken-to at-iists h ha w = rw (mode-keeps _ _ _ .iists) (status-inside (c .bus .iists) b h)
+  taken-to at-bt h ha w = merge-mask (writeMask BT) (c .bt) b (writeMask-lt BT)
+  taken-to (at-plain p) h ha w = plain-taken p ha w
 
 -- a write that is taken, at a state whose array has its 38 places, as all of the code's have
 pub taken-bits : (c : Chip) (a b : ℕ) → b < 256 → length (c .registers) ≡ 38 → a < 38 → c .reset ≡ true → isWritable a ≡ true →
     bitAnd (keptByte (next c (Write a b)) a) (writeMask a) ≡ bitAnd b (writeMask a)
-unfolding next writeRegister
-taken-bits c a b hb size ha r w =
-    let P : Chip → Type 0 = λ (x : Chip). bitAnd (keptByte x a) (writeMask a) ≡ bitAnd b (writeMask a) in
-    pick-by P (c .reset)
-    (λ _. pick-by P (isWritable a)
-    (λ _. rw (written-fields c a b ha) (taken-to c a b hb size ha (target a) (address-of a ha) w))
-    (λ e. cc))
-    (λ e. cc)
+taken-bits c a b h size ha r w =
+    by-write (λ (x : Chip). bitAnd (keptByte x a) (writeMask a) ≡ bitAnd b (writeMask a)) c a b
+    (λ _ _. taken-to c b size (addressed a) h ha w)
+    (λ n. let z : _≡_ {A = Bool} true false = rw (r, w) at n in cc)

@@ -1,18 +1,14 @@
 -- A write that is taken, field by field of the state.
 -- Assumes nothing.
 use mathlib.Core.Path.{_≡_, refl}
-use mathlib.Core.Bool.{Bool, true, false, not, _||_}
-use mathlib.Core.Logic.{⊎-elim}
-use Prim.Native.Nat.{ℕ, _-_, _<_, _≤_}
-use native.Mathlib.Omega.{arith}
-use lib.Dec.{T, eqb, eqb→eq}
+use mathlib.Core.Bool.{true, false, _&&_}
+use Prim.Native.Nat.{ℕ, _-_}
+use lib.Dec.{eqb}
 use lib.Bits.{bitAnd}
 use lib.ListN.{set}
 use Rattle.bits.specs.Byte.{pick, bit}
-use Rattle.bits.proofs.Finite.{at-each, lt-or-le}
 use Rattle.registers.specs.Names.{MDCON, HVCON, CLRFLG, CLRWDT, IIADR, IIDAT, IISTS, BT}
 use Rattle.registers.specs.Table.{isWritable}
-use Rattle.registers.proofs.Rules.{past-writable}
 use Rattle.events.specs.declared.Decoded.the-variants.{Write}
 use Rattle.bits.proofs.Level.{pick-by}
 use Rattle.sync.specs.Sync.{clearOverflow}
@@ -21,10 +17,10 @@ use Rattle.chip.specs.declared.Chip.{Chip}
 use Rattle.chip.specs.State.{busOf, registerAt}
 use Rattle.lines.specs.Bus.{busAtMode}
 use Rattle.writes.specs.declared.Target.{Target}
-use Rattle.writes.specs.declared.Target.the-variants.{Stored, Mdcon, Hvcon, Clrflg, Clrwdt, Iiadr, Iidat, Iists, Bt}
-use Rattle.writes.specs.Writes.{target, storedWritten, clrflgWritten, clrwdtWritten, writtenTo, written, writeRegister}
+use Rattle.writes.specs.Writes.{storedWritten, clrflgWritten, clrwdtWritten, writtenTo, written, writeRegister}
 use Rattle.ddc_writes.specs.DdcWrites.{syncAtHsel, mdconWritten, iiadrWritten, statusWritten, iistsWritten, busAtIidat, iidatWritten}
 use Rattle.registers.specs.Table.{updated}
+use Rattle.writes.proofs.Addresses.{Addressed, at-mdcon, at-hvcon, at-clrflg, at-clrwdt, at-iiadr, at-iidat, at-iists, at-bt, at-plain, addressed}
 use Rattle.outcome.specs.Outcome.{next}
 use Rattle.frame.specs.Frame.{actsElsewhere}
 
@@ -55,84 +51,27 @@ fields c a b =
       reset = c .reset;
     }
 
--- the address of each target
-abbrev pub hasAddress : Target → ℕ → Bool
-hasAddress Stored a = not (actsElsewhere a)
-hasAddress Mdcon a = eqb a MDCON
-hasAddress Hvcon a = eqb a HVCON
-hasAddress Clrflg a = eqb a CLRFLG
-hasAddress Clrwdt a = eqb a CLRWDT
-hasAddress Iiadr a = eqb a IIADR
-hasAddress Iidat a = eqb a IIDAT
-hasAddress Iists a = eqb a IISTS
-hasAddress Bt a = eqb a BT
+module _ (c : Chip) (b : ℕ) where
+  fields-to : {t : Target} {a : ℕ} → Addressed t a → writtenTo t c a b ≡ fields c a b
+  unfolding writtenTo storedWritten mdconWritten clrflgWritten clrwdtWritten iiadrWritten iidatWritten iistsWritten
+  fields-to at-mdcon = refl
+  fields-to at-hvcon = refl
+  fields-to at-clrflg = refl
+  fields-to at-clrwdt = refl
+  fields-to at-iiadr = refl
+  fields-to at-iidat = refl
+  fields-to at-iists = refl
+  fields-to at-bt = refl
+  fields-to (at-plain p) = rw (p .mdcon, p .hvcon, p .clrflg, p .clrwdt, p .iiadr, p .iidat, p .iists, p .bt)
 
-pub address-of : (a : ℕ) → a < 38 → T (hasAddress (target a) a)
-unfolding target
-address-of a h = at-each (λ a. hasAddress (target a) a) 38 tt a h
+pub written-fields : (c : Chip) (a b : ℕ) → written c a b ≡ fields c a b
+unfolding written
+written-fields c a b = fields-to c b (addressed a)
 
-neither : (x y : Bool) → T (not (x || y)) → (x ≡ false) × T (not y)
-neither true y t = absurd t
-neither false y t = (refl, t)
-
-none : (x : Bool) → T (not x) → x ≡ false
-none true t = absurd t
-none false t = refl
-
--- a plain register is none of the eight
-pub record Plain (a : ℕ) : Type 0 where
-  pub mdcon : eqb a MDCON ≡ false
-  pub hvcon : eqb a HVCON ≡ false
-  pub clrflg : eqb a CLRFLG ≡ false
-  pub clrwdt : eqb a CLRWDT ≡ false
-  pub iiadr : eqb a IIADR ≡ false
-  pub iidat : eqb a IIDAT ≡ false
-  pub iists : eqb a IISTS ≡ false
-  pub bt : eqb a BT ≡ false
-
-pub plain : (a : ℕ) → T (not (actsElsewhere a)) → Plain a
-plain a t =
-    let h1 = neither (eqb a MDCON) _ t in
-    let h2 = neither (eqb a HVCON) _ (h1 .1) in
-    let h3 = neither (eqb a CLRFLG) _ (h2 .1) in
-    let h4 = neither (eqb a CLRWDT) _ (h3 .1) in
-    let h5 = neither (eqb a IIADR) _ (h4 .1) in
-    let h6 = neither (eqb a IIDAT) _ (h5 .1) in
-    let h7 = neither (eqb a IISTS) _ (h6 .1) in
-    record { mdcon = h1 .0; hvcon = h2 .0; clrflg = h3 .0; clrwdt = h4 .0; iiadr = h5 .0; iidat = h6 .0; iists = h7 .0; bt = none (eqb a BT) (h7 .1) }
-
-module _ (c : Chip) (a b : ℕ) where
-  stored-fields : T (not (actsElsewhere a)) → storedWritten c a b ≡ fields c a b
-  unfolding storedWritten
-  stored-fields t =
-      let p = plain a t in
-      rw (p .mdcon, p .hvcon, p .clrflg, p .clrwdt, p .iiadr, p .iidat, p .iists, p .bt)
-
-  fields-to : (t : Target) → T (hasAddress t a) → writtenTo t c a b ≡ fields c a b
-  unfolding writtenTo mdconWritten clrflgWritten clrwdtWritten iiadrWritten iidatWritten iistsWritten
-  fields-to Stored t = stored-fields t
-  fields-to Mdcon t = rw (eqb→eq a MDCON t)
-  fields-to Hvcon t = rw (eqb→eq a HVCON t)
-  fields-to Clrflg t = rw (eqb→eq a CLRFLG t)
-  fields-to Clrwdt t = rw (eqb→eq a CLRWDT t)
-  fields-to Iiadr t = rw (eqb→eq a IIADR t)
-  fields-to Iidat t = rw (eqb→eq a IIDAT t)
-  fields-to Iists t = rw (eqb→eq a IISTS t)
-  fields-to Bt t = rw (eqb→eq a BT t)
-
-  pub written-fields : a < 38 → written c a b ≡ fields c a b
-  unfolding written
-  written-fields h = fields-to (target a) (address-of a h)
-
--- what holds of the state, and of these fields where the write is taken, holds after the write
-pub by-write : (P : Chip → Type 0) (c : Chip) (a b : ℕ) → (c .reset ≡ true → a < 38 → isWritable a ≡ true → P (fields c a b)) → P c → P (next c (Write a b))
+-- what holds of these fields where the write is taken, and of the state where it is refused, holds after the write
+pub by-write : (P : Chip → Type 0) (c : Chip) (a b : ℕ) → (c .reset ≡ true → isWritable a ≡ true → P (fields c a b)) → ((c .reset && isWritable a) ≡ false → P c) → P (next c (Write a b))
 unfolding next writeRegister
 by-write P c a b taken refused =
     pick-by P (c .reset)
-    (λ r. pick-by P (isWritable a)
-    (λ w. ⊎-elim
-    (λ (h : a < 38). rw (written-fields c a b h) (taken r h w))
-    (λ (h : 38 ≤ a). absurd (let z : _≡_ {A = ℕ} 0 1 = cc (past-writable a h) in omega arith))
-    (lt-or-le a 38))
-    (λ _. refused))
-    (λ _. refused)
+    (λ r. pick-by P (isWritable a) (λ w. rw (written-fields c a b) (taken r w)) (λ n. refused (rw (r, n))))
+    (λ n. refused (rw n))

@@ -177,7 +177,7 @@ same ResetLevel c = refl
 
 -- a write to any register, taken or refused, leaves each part that the table does not name for it
 pub frame : (c : Chip) (a b : ℕ) (p : Part) → alters a p ≡ false → SameAt p (next c (Write a b)) c
-frame c a b p k = by-write (λ (x : Chip). SameAt p x c) c a b (λ _ _ _. at-fields c a b p k) (same p c)
+frame c a b p k = by-write (λ (x : Chip). SameAt p x c) c a b (λ _ _. at-fields c a b p k) (λ _. same p c)
 
 -- a read leaves the state as it was
 pub read-frame : (c : Chip) (a : ℕ) → next c (Read a) ≡ c

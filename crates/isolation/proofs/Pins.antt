@@ -9,11 +9,9 @@ use lib.ListN.{length}
 use lib.Dec.{eqb, ltb}
 use borrow.Author.Tests.{ltb-true, lt-ltb, eqb-true, eqb-false, ne-eqb, not-true}
 use Rattle.bits.specs.Byte.{pick, bit}
-use Rattle.bits.proofs.Finite.{at-each, T-true}
 use Rattle.bits.proofs.Bitwise.{bit-or}
 use Rattle.events.specs.declared.Decoded.the-variants.{Pin}
 use Rattle.events.specs.Word.{isPin}
-use Rattle.events.proofs.Refusal.{pin-lt}
 use Rattle.bus.specs.declared.Edge.{Edge}
 use Rattle.bus.specs.declared.Edge.the-variants.{Flat, Rise, Fall}
 use Rattle.bus.specs.declared.Phase.{Phase}
@@ -25,8 +23,8 @@ use Rattle.chip.specs.State.{busOf, hselOf, raised, withSync, withBus, withRese
 use Rattle.sync.specs.Sync.{onVsync}
 use Rattle.lines.specs.Bus.{busAtRise, sclRise, sclFall, onScl, onSclDdc2b, sclMoved, started, stopped, onSda, onSdaDdc2b, sdaMoved, busAtVsync, loadsAtVsync}
 use Rattle.pins.specs.declared.PinKind.{PinKind}
-use Rattle.pins.specs.declared.PinKind.the-variants.{Port0, Port1, P16, Port2, Sda, Scl, Hsynci, Vsynci, Reset}
-use Rattle.pins.specs.Pins.{pinKind, rises, port0Moved, port1Moved, port2Moved, p16Moved, vsyncLevel, hsyncMoved, vsyncRise, vsyncMoved, onReset, resetMoved, pinMovedAs, pinMoved}
+use Rattle.pins.specs.Pins.{rises, port0Moved, port1Moved, port2Moved, p16Moved, vsyncLevel, hsyncMoved, vsyncRise, vsyncMoved, onReset, resetMoved, pinMovedAs, pinMoved}
+use Rattle.pins.proofs.Numbers.{Unnamed, Numbered, port0-pin, port1-pin, port2-pin, p16-pin, sda-pin, scl-pin, hsynci-pin, vsynci-pin, reset-pin, numbered}
 use Rattle.isolation.specs.Foreign.{Trace, since, byteOf, Observer, observe, permitted, completesMatch, gather}
 use Rattle.isolation.proofs.Bits.{gathered-level}
 use Rattle.isolation.proofs.Related.{frame, observer, Apart, idle, ignoring, address, KeptBy, Related, related, left-released, right-released, enddc-low, kept-status}
@@ -149,64 +147,29 @@ unfolding vsyncRise busAtVsync loadsAtVsync
 vsync-related (related g z s x x′ y y′ k o) false l = related (vsyncLevel g l) z s x x′ y y′ k o
 vsync-related (related g z s x x′ y y′ k o) true l = rw (o .ddc2b) (related (withSync (raised (vsyncLevel g l) 0x01) (onVsync (hselOf g) (g .sync))) z s x x′ y y′ k o)
 
--- a pin that is none of SDA, SCL and RESET
-abbrev isOther : PinKind → Bool
-isOther Port0 = true
-isOther Port1 = true
-isOther P16 = true
-isOther Port2 = true
-isOther Sda = false
-isOther Scl = false
-isOther Hsynci = true
-isOther Vsynci = true
-isOther Reset = false
-
-kind-related : {c d : Chip} {o o′ : Observer} → Related c d o o′ → (kind : PinKind) (p : ℕ) (l : Bool) → isOther kind ≡ true
-    → Related (pinMovedAs kind c p l) (pinMovedAs kind d p l) o o′
-unfolding pinMovedAs port0Moved port1Moved port2Moved p16Moved hsyncMoved vsyncMoved
-kind-related (related g z s x x′ y y′ k o) Port0 p l h = related (port0Moved g p l) z s x x′ y y′ k o
-kind-related (related g z s x x′ y y′ k o) Port1 p l h = related (port1Moved g p l) z s x x′ y y′ k o
-kind-related (related g z s x x′ y y′ k o) P16 p l h = related (p16Moved (withReset g z) l) z s x x′ y y′ k o
-kind-related (related g z s x x′ y y′ k o) Port2 p l h = related (port2Moved g p l) z s x x′ y y′ k o
-kind-related (related g z s x x′ y y′ k o) Hsynci p l h = related (hsyncMoved (withReset g z) l) z s x x′ y y′ k o
-kind-related (related g z s x x′ y y′ k o) Vsynci p l h = vsync-related (related g z s x x′ y y′ k o) (rises z (g .pins .vsynci) l) l
-kind-related r Sda p l h = absurd (true≢false (sym h))
-kind-related r Scl p l h = absurd (true≢false (sym h))
-kind-related r Reset p l h = absurd (true≢false (sym h))
-
-other-related : {c d : Chip} {o o′ : Observer} → Related c d o o′ → (p : ℕ) (l : Bool) → eqb p 24 ≡ false → eqb p 25 ≡ false → eqb p 28 ≡ false → isOther (pinKind p) ≡ true
-    → Related (pinMoved c p l) (pinMoved d p l) (observe o (Pin p l)) (observe o′ (Pin p l))
-unfolding pinMoved observe
-other-related r p l sda scl reset h = rw (sda, scl, reset) (kind-related r (pinKind p) p l h)
-
 -- ---- all pins
 
--- a pin by its number
-data Known : ℕ → Type 0 where
-  sda-pin : Known 24
-  scl-pin : Known 25
-  reset-pin : Known 28
-  other-pin : (p : ℕ) → eqb p 24 ≡ false → eqb p 25 ≡ false → eqb p 28 ≡ false → isOther (pinKind p) ≡ true → Known p
+-- of the pins the observer sees SDA, SCL and RESET alone
+unobserved : {c d : Chip} {o o′ : Observer} → Related c d o o′ → {p : ℕ} (l : Bool) → Unnamed p → Related c d (observe o (Pin p l)) (observe o′ (Pin p l))
+unfolding observe
+unobserved r l u = rw (u .sda, u .scl, u .reset) r
 
-known-by : (p : ℕ) (sda scl reset : Bool) → eqb p 24 ≡ sda → eqb p 25 ≡ scl → eqb p 28 ≡ reset → ((sda || scl) || (reset || isOther (pinKind p))) ≡ true → Known p
-known-by p true scl reset e e′ e″ h = rw (eqb-true p 24 e) sda-pin
-known-by p false true reset e e′ e″ h = rw (eqb-true p 25 e′) scl-pin
-known-by p false false true e e′ e″ h = rw (eqb-true p 28 e″) reset-pin
-known-by p false false false e e′ e″ h = other-pin p e e′ e″ h
-
-known : (p : ℕ) → isPin p ≡ true → Known p
-unfolding pinKind
-known p h = known-by p _ _ _ refl refl refl (T-true _ (at-each (λ (n : ℕ). (eqb n 24 || eqb n 25) || (eqb n 28 || isOther (pinKind n))) 29 tt p (pin-lt p h)))
-
-known-related : {c d : Chip} {o o′ : Observer} → Related c d o o′ → {p : ℕ} → Known p → (l : Bool) → eqb p 24 ≡ false → permitted o (Pin p l) ≡ true → permitted o′ (Pin p l) ≡ true
-    → Related (pinMoved c p l) (pinMoved d p l) (observe o (Pin p l)) (observe o′ (Pin p l))
-unfolding pinMoved pinMovedAs pinKind
-known-related r sda-pin l e a a′ = absurd (true≢false e)
-known-related r scl-pin l e a a′ = scl-related r l a a′
-known-related r reset-pin l e a a′ = reset-related r l a
-known-related r (other-pin p sda scl reset h) l e a a′ = other-related r p l sda scl reset h
+kind-related : {c d : Chip} {o o′ : Observer} → Related c d o o′ → {kind : PinKind} {p : ℕ} → Numbered kind p → (l : Bool) → eqb p 24 ≡ false
+    → permitted o (Pin p l) ≡ true → permitted o′ (Pin p l) ≡ true
+    → Related (pinMovedAs kind c p l) (pinMovedAs kind d p l) (observe o (Pin p l)) (observe o′ (Pin p l))
+unfolding pinMovedAs port0Moved port1Moved port2Moved p16Moved hsyncMoved vsyncMoved observe
+kind-related (related g z s x x′ y y′ k o) {p = p} (port0-pin u) l e a a′ = unobserved (related (port0Moved g p l) z s x x′ y y′ k o) l u
+kind-related (related g z s x x′ y y′ k o) {p = p} (port1-pin u) l e a a′ = unobserved (related (port1Moved g p l) z s x x′ y y′ k o) l u
+kind-related (related g z s x x′ y y′ k o) {p = p} (port2-pin u) l e a a′ = unobserved (related (port2Moved g p l) z s x x′ y y′ k o) l u
+kind-related (related g z s x x′ y y′ k o) p16-pin l e a a′ = related (p16Moved (withReset g z) l) z s x x′ y y′ k o
+kind-related r sda-pin l e a a′ = absurd (true≢false e)
+kind-related r scl-pin l e a a′ = scl-related r l a a′
+kind-related (related g z s x x′ y y′ k o) hsynci-pin l e a a′ = related (hsyncMoved (withReset g z) l) z s x x′ y y′ k o
+kind-related (related g z s x x′ y y′ k o) vsynci-pin l e a a′ = vsync-related (related g z s x x′ y y′ k o) (rises z (g .pins .vsynci) l) l
+kind-related r reset-pin l e a a′ = reset-related r l a
 
 -- a pin event that does not touch SDA
 pub pin-related : {c d : Chip} {o o′ : Observer} → Related c d o o′ → (p : ℕ) (l : Bool) → isPin p ≡ true → eqb p 24 ≡ false → permitted o (Pin p l) ≡ true → permitted o′ (Pin p l) ≡ true
     → Related (pinMoved c p l) (pinMoved d p l) (observe o (Pin p l)) (observe o′ (Pin p l))
-pin-related r p l h e a a′ = known-related r (known p h) l e a a′
+unfolding pinMoved
+pin-related r p l h e a a′ = kind-related r (numbered p h) l e a a′

@@ -16,8 +16,9 @@ use Rattle.chip.specs.State.{busOf, registerAt, withBus, withMdcon, withSync, w
 use Rattle.counters.specs.Count.{cycleNext}
 use Rattle.counters.specs.Count.{watchdogNext, watchdogFires}
 use Rattle.lines.specs.Bus.{busAtMode}
-use Rattle.writes.specs.declared.Target.the-variants.{Stored}
-use Rattle.writes.specs.Writes.{target, storedWritten, clrflgWritten, clrwdtWritten, writtenTo, written, writeRegister}
+use Rattle.writes.specs.declared.Target.{Target}
+use Rattle.writes.proofs.Addresses.{Addressed, at-mdcon, at-hvcon, at-clrflg, at-clrwdt, at-iiadr, at-iidat, at-iists, at-bt, at-plain, addressed}
+use Rattle.writes.specs.Writes.{storedWritten, clrflgWritten, clrwdtWritten, writtenTo, written, writeRegister}
 use Rattle.ddc_writes.specs.DdcWrites.{syncAtHsel, mdconWritten, iiadrWritten, statusWritten, iistsWritten, busAtIidat, iidatWritten}
 use Rattle.registers.specs.Table.{updated}
 use Rattle.clocks.specs.Clocks.{periodClock, timerRuns, timerStep, timerClock, watchdogClock, clockedAs, clocked, polarityFound}
@@ -27,53 +28,30 @@ use Rattle.isolation.proofs.Related.{frame, observer, Apart, KeptBy, Re
 
 -- ---- writes
 
--- a register by its address
-data Known : ℕ → Type 0 where
-  mdcon : Known MDCON
-  hvcon : Known HVCON
-  clrflg : Known CLRFLG
-  clrwdt : Known CLRWDT
-  iiadr : Known IIADR
-  iidat : Known IIDAT
-  iists : Known IISTS
-  bt : Known BT
-  stored : (a : ℕ) → target a ≡ Stored → eqb a IIADR ≡ false → eqb a CLRWDT ≡ false → Known a
-
-known-at : (a n : ℕ) (t : Bool) → eqb a n ≡ t → Known n → (eqb a n ≡ false → Known a) → Known a
-known-at a n true e k f = rw (eqb-true a n e) k
-known-at a n false e k f = f e
-
-known : (a : ℕ) → Known a
-unfolding target
-known a =
-    known-at a MDCON _ refl mdcon (λ md. known-at a HVCON _ refl hvcon (λ hv. known-at a CLRFLG _ refl clrflg (λ cf. known-at a CLRWDT _ refl clrwdt (λ cw.
-    known-at a IIADR _ refl iiadr (λ ad. known-at a IIDAT _ refl iidat (λ da. known-at a IISTS _ refl iists (λ st. known-at a BT _ refl bt (λ b.
-    stored a (rw (md, hv, cf, cw, ad, da, st, b)) ad cw))))))))
-
 -- a write that is taken; one to II DAT only stores, since SCL is not held
-written-related : (g : Chip) (s x x′ : Bool) (y y′ : ℕ) {n : ℕ} {q q′ : Phase} {t t′ : Trace} → Apart q q′ t t′ → KeptBy g n → {a : ℕ} → Known a → (b : ℕ)
+written-related : (g : Chip) (s x x′ : Bool) (y y′ : ℕ) {n : ℕ} {q q′ : Phase} {t t′ : Trace} → Apart q q′ t t′ → KeptBy g n → {to : Target} {a : ℕ} → Addressed to a → (b : ℕ)
     → turnsOff a b ≡ false → asksDdc1 a b ≡ false
-    → Related (written (frame g true s x q y) a b) (written (frame g true s x′ q′ y′) a b)
+    → Related (writtenTo to (frame g true s x q y) a b) (writtenTo to (frame g true s x′ q′ y′) a b)
     (observer true s x (pick (eqb a IIADR) b n) (pick (eqb a CLRWDT && eqb b 0x55) 0 (g .watchdog)) t)
     (observer true s x′ (pick (eqb a IIADR) b n) (pick (eqb a CLRWDT && eqb b 0x55) 0 (g .watchdog)) t′)
-unfolding written target writtenTo storedWritten mdconWritten clrflgWritten clrwdtWritten iiadrWritten iistsWritten iidatWritten busAtIidat busAtMode changesMode
-written-related g s x x′ y y′ k o mdcon b off md =
+unfolding writtenTo storedWritten mdconWritten clrflgWritten clrwdtWritten iiadrWritten iistsWritten iidatWritten busAtIidat busAtMode changesMode
+written-related g s x x′ y y′ k o at-mdcon b off md =
     let new : ℕ = updated MDCON (g .mdcon) b in
     let kept = kept-mdcon new (md-written (g .mdcon) b ∙ md) o in
     rw (o .ddc2b, kept .ddc2b) (related (withSync (withMdcon g new) (syncAtHsel (bit 2 (g .mdcon)) (bit 2 new) (g .sync))) true s x x′ y y′ k kept)
-written-related g s x x′ y y′ k o hvcon b off md = related (withPolarity g (updated HVCON (g .polarity) b)) true s x x′ y y′ k o
-written-related g s x x′ y y′ k o clrflg b off md = related (clrflgWritten g b) true s x x′ y y′ k o
-written-related g s x x′ y y′ k o clrwdt b off md = related (clrwdtWritten g b) true s x x′ y y′ k o
-written-related g s x x′ y y′ k o iiadr b off md =
+written-related g s x x′ y y′ k o at-hvcon b off md = related (withPolarity g (updated HVCON (g .polarity) b)) true s x x′ y y′ k o
+written-related g s x x′ y y′ k o at-clrflg b off md = related (clrflgWritten g b) true s x x′ y y′ k o
+written-related g s x x′ y y′ k o at-clrwdt b off md = related (clrwdtWritten g b) true s x x′ y y′ k o
+written-related g s x x′ y y′ k o at-iiadr b off md =
     related (iiadrWritten g b) true s x x′ y y′ k (record { ddc2b = o .ddc2b; address-bits = address-written (g .bus .iiadr) b })
-written-related g s x x′ y y′ k o iidat b off md =
+written-related g s x x′ y y′ k o at-iidat b off md =
     rw (left-released k .scl-free, right-released k .scl-free) (related g true s x x′ (updated IIDAT y b) (updated IIDAT y′ b) k o)
-written-related g s x x′ y y′ k o iists b off md =
+written-related g s x x′ y y′ k o at-iists b off md =
     let new : ℕ = statusWritten (g .bus .iists) b in
     let kept = kept-status new (enddc-written (g .bus .iists) b off) o in
     rw (o .ddc2b, kept .ddc2b) (related (withBus g (busOf new (g .bus .iiadr) 0 (g .bus .phase) (g .bus .shifter))) true s x x′ y y′ k kept)
-written-related g s x x′ y y′ k o bt b off md = related (withBt g (updated BT (g .bt) b)) true s x x′ y y′ k o
-written-related g s x x′ y y′ k o (stored a h ad cw) b off md = rw (h, ad, cw) (related (storedWritten g a b) true s x x′ y y′ k o)
+written-related g s x x′ y y′ k o at-bt b off md = related (withBt g (updated BT (g .bt) b)) true s x x′ y y′ k o
+written-related g s x x′ y y′ k o {a = a} (at-plain p) b off md = rw (p .iiadr, p .clrwdt) (related (storedWritten g a b) true s x x′ y y′ k o)
 
 -- a write, taken or refused
 write-by-reset : (g : Chip) (z w s x x′ : Bool) (y y′ : ℕ) {n : ℕ} {q q′ : Phase} {t t′ : Trace} → Apart q q′ t t′ → KeptBy g n → (a b : ℕ)
@@ -81,10 +59,11 @@ write-by-reset : (g : Chip) (z w s x x′ : Bool) (y y′ : ℕ) {n : ℕ} {q q�
     → Related (pick z (pick w (written (frame g z s x q y) a b) (frame g z s x q y)) (frame g z s x q y)) (pick z (pick w (written (frame g z s x′ q′ y′) a b) (frame g z s x′ q′ y′)) (frame g z s x′ q′ y′))
     (observer z s x (pick ((z && w) && eqb a IIADR) b n) (pick ((z && w) && (eqb a CLRWDT && eqb b 0x55)) 0 (g .watchdog)) t)
     (observer z s x′ (pick ((z && w) && eqb a IIADR) b n) (pick ((z && w) && (eqb a CLRWDT && eqb b 0x55)) 0 (g .watchdog)) t′)
+unfolding written
 write-by-reset g false w s x x′ y y′ k o a b h = related g false s x x′ y y′ k o
 write-by-reset g true false s x x′ y y′ k o a b h = related g true s x x′ y y′ k o
 write-by-reset g true true s x x′ y y′ k o a b h =
-    written-related g s x x′ y y′ k o (known a) b (not-true _ (both (not (turnsOff a b)) (not (asksDdc1 a b)) h .0)) (not-true _ (both (not (turnsOff a b)) (not (asksDdc1 a b)) h .1))
+    written-related g s x x′ y y′ k o (addressed a) b (not-true _ (both (not (turnsOff a b)) (not (asksDdc1 a b)) h .0)) (not-true _ (both (not (turnsOff a b)) (not (asksDdc1 a b)) h .1))
 
 pub write-related : {c d : Chip} {o o′ : Observer} → Related c d o o′ → (a b : ℕ) → permitted o (Write a b) ≡ true
     → Related (writeRegister c a b) (writeRegister d a b) (observe o (Write a b)) (observe o′ (Write a b))
