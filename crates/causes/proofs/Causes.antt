@@ -21,8 +21,8 @@ at-event : (s : Source) (c : Chip) (e : Decoded) → InRange e → flag s (next 
 unfolding next clears
 at-event s c (Read a) h = rw (never-read s c a)
 at-event s c (Write a b) h = at-write s c a b h
-at-event s c (Pin p level) h = at-pin s c p level h
-at-event s c (Clock k) h = at-clock s c k h
+at-event s c (Pin p level) h = at-pin s c p level
+at-event s c (Clock k) h = at-clock s c k
 at-event s c (Polarity vertical level) h = at-polarity s c vertical level
 at-event s c (Refused n) h = rw (never-refused s c n)
 

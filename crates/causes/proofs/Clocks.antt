@@ -2,9 +2,9 @@
 -- Assumes nothing.
 use mathlib.Core.Path.{_≡_, refl, sym, _∙_}
 use mathlib.Core.Bool.{Bool, true, false, not, _&&_, _||_, Bool·beq}
-use Prim.Native.Nat.{ℕ, zero, suc}
+use Prim.Native.Nat.{ℕ, suc}
 use native.Mathlib.Omega.{arith}
-use borrow.Author.Tests.{ltb-true, ltb-false, lt-ltb, le-ltb}
+use borrow.Author.Tests.{eqb-true, ltb-true, ltb-false, lt-ltb, le-ltb}
 use lib.Dec.{T, eqb, ltb}
 use lib.Bits.{bitOr, or-zero-r}
 use Rattle.bits.specs.Byte.{pick, bit}
@@ -12,7 +12,6 @@ use Rattle.bits.proofs.Finite.{beq-eq}
 use Rattle.registers.specs.Names.{BTCON}
 use Rattle.registers.specs.Table.{rowOf, resetValue}
 use Rattle.events.specs.declared.Decoded.the-variants.{Clock, Polarity}
-use Rattle.events.specs.Word.{InRange}
 use Rattle.counters.specs.Count.{timerOverflows, watchdogFires}
 use Rattle.chip.specs.declared.Chip.{Chip}
 use Rattle.chip.specs.State.{resetAt, resetChip, registerAt, withWatchdog, withPolarity}
@@ -104,15 +103,16 @@ watchdog-by false fires s c n = refl
 
 -- ---- all clocks
 
-pub at-clock : (s : Source) (c : Chip) (k : ℕ) → InRange (Clock k) → flag s (next c (Clock k)) ≡ after s c (Clock k)
+clock-by : (s : Source) (c : Chip) (k : ℕ) (period watchdog : Bool) → eqb k 0 ≡ period → eqb k 3 ≡ watchdog → flag s (next c (Clock k)) ≡ after s c (Clock k)
 unfolding next clocked clockedAs clears watchdogClock
-at-clock s c zero h = rw (never-clock s c 0 refl refl, period-by (c .reset) c)
-at-clock s c (suc zero) h = at-timer c 1 s
-at-clock s c (suc (suc zero)) h = at-timer c 2 s
-at-clock s c (suc (suc (suc zero))) h =
-    watchdog-by (c .reset) (watchdogFires (c .watchdog)) s c _
-    ∙ rw (never-clock s c 3 refl refl, watchdog-last (c .watchdog))
-at-clock s c (suc (suc (suc (suc k)))) h = absurd (omega arith)
+clock-by s c k true watchdog e f = rw (eqb-true k 0 e, never-clock s c 0 refl refl, period-by (c .reset) c)
+clock-by s c k false true e f =
+    rw (eqb-true k 3 f)
+    (watchdog-by (c .reset) (watchdogFires (c .watchdog)) s c _ ∙ rw (never-clock s c 3 refl refl, watchdog-last (c .watchdog)))
+clock-by s c k false false e f = rw (e, f) (at-timer c k s)
+
+pub at-clock : (s : Source) (c : Chip) (k : ℕ) → flag s (next c (Clock k)) ≡ after s c (Clock k)
+at-clock s c k = clock-by s c k _ _ refl refl
 
 polarity-by : (reset : Bool) (c : Chip) (n : ℕ) → (pick reset (withPolarity c n) c) .irqx ≡ c .irqx
 polarity-by true c n = refl

@@ -9,7 +9,6 @@ use Rattle.bits.specs.Byte.{pick, bit}
 use Rattle.bits.proofs.Finite.{beq-eq}
 use Rattle.registers.specs.Table.{rowOf, resetValue}
 use Rattle.events.specs.declared.Decoded.the-variants.{Pin}
-use Rattle.events.specs.Word.{InRange}
 use Rattle.bus.specs.declared.Mode.{Mode}
 use Rattle.bus.specs.declared.Mode.the-variants.{Off, Ddc1, Ddc2b}
 use Rattle.bus.specs.declared.Edge.{Edge}
@@ -25,7 +24,7 @@ use Rattle.chip.specs.State.{resetAt, resetChip, modeOf, withReset, withSda}
 use Rattle.lines.specs.Bus.{activeMode, onScl, onSclDdc1, onSclDdc2b, sclRise, sclFall, leaveDdc1, sclMoved, onSda, onSdaDdc2b, started, stopped, sdaMoved, loadsAtVsync}
 use Rattle.pins.specs.declared.PinKind.{PinKind}
 use Rattle.pins.specs.Pins.{rises, port0Moved, port1Moved, port2Moved, p16Moved, hsyncMoved, vsyncLevel, vsyncMoved, vsyncRise, onReset, resetMoved, pinMovedAs, pinMoved}
-use Rattle.pins.proofs.Numbers.{Unnamed, Numbered, port0-pin, port1-pin, port2-pin, p16-pin, sda-pin, scl-pin, hsynci-pin, vsynci-pin, reset-pin, numbered}
+use Rattle.pins.proofs.Numbers.{Unnamed, Numbered, p16-pin, sda-pin, scl-pin, hsynci-pin, vsynci-pin, reset-pin, port0-pin, port1-pin, port2-pin, no-pin, numbered}
 use Rattle.outcome.specs.Outcome.{next}
 use Rattle.causes.specs.Causes.{Source, place, flag, raises, clears, completesMatch, inNinthClock}
 use Rattle.causes.specs.Causes.Source.{SclFall, DataByte, AddressMatch, TimerOverflow, ExternalRise, VsyncRise}
@@ -236,8 +235,9 @@ sda-moved c level = sda-irqx _ _ _ (withSda c level)
 at-kind : {k : PinKind} {p : ℕ} → Numbered k p → (s : Source) (c : Chip) (level : Bool) → flag s (pinMovedAs k c p level) ≡ after s c (Pin p level)
 unfolding pinMovedAs port0Moved port1Moved port2Moved hsyncMoved
 at-kind (port0-pin u) s c level = at-unnamed c level u s
-at-kind (port1-pin u) s c level = at-unnamed c level u s
+at-kind (port1-pin u low high) s c level = at-unnamed c level u s
 at-kind (port2-pin u) s c level = at-unnamed c level u s
+at-kind (no-pin u) s c level = at-unnamed c level u s
 at-kind p16-pin s c level = at-p16 c level s
 at-kind sda-pin s c level = rw (sda-moved c level) (at-plain c 24 level refl refl refl refl s)
 at-kind scl-pin s c level = at-scl c level s
@@ -245,6 +245,6 @@ at-kind hsynci-pin s c level = at-plain c 26 level refl refl refl refl s
 at-kind vsynci-pin s c level = at-vsync c level s
 at-kind reset-pin s c level = at-reset s c level
 
-pub at-pin : (s : Source) (c : Chip) (p : ℕ) (level : Bool) → InRange (Pin p level) → flag s (next c (Pin p level)) ≡ after s c (Pin p level)
+pub at-pin : (s : Source) (c : Chip) (p : ℕ) (level : Bool) → flag s (next c (Pin p level)) ≡ after s c (Pin p level)
 unfolding next pinMoved
-at-pin s c p level h = at-kind (numbered p h) s c level
+at-pin s c p level = at-kind (numbered p) s c level

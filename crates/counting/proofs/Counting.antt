@@ -12,7 +12,6 @@ use lib.Dec.{ltb}
 use Rattle.bits.specs.Byte.{pick, num}
 use Rattle.events.specs.declared.Decoded.{Decoded}
 use Rattle.events.specs.Word.{decode}
-use Rattle.events.proofs.Refusal.{decode-in-range}
 use Rattle.sync.specs.declared.LineCounter.{LineCounter}
 use Rattle.sync.specs.declared.PeriodCounter.{PeriodCounter}
 use Rattle.counters.specs.Count.{counted, overflowed}
@@ -59,7 +58,7 @@ lines-stepped c [] q = refl
 lines-stepped c (w ∷ ws) q =
     let e : Decoded = decode w in
     let h = both (zeroesLines c e) _ q in
-    let f = effect c e (decode-in-range w) in
+    let f = effect c e in
     lines-stepped (next c e) ws (h .1)
     ∙ rw (f .reset, f .hsynci, f .lines (h .0)) (lines-more (putHigh 26 e && (c .reset && not (c .pins .hsynci))) _ (c .sync .lines))
 
@@ -71,7 +70,7 @@ periods-stepped c [] q = refl
 periods-stepped c (w ∷ ws) q =
     let e : Decoded = decode w in
     let h = both (zeroesPeriods c e) _ q in
-    let f = effect c e (decode-in-range w) in
+    let f = effect c e in
     periods-stepped (next c e) ws (h .1)
     ∙ rw (f .reset, f .periods (h .0)) (periods-more (isClock 0 e && c .reset) _ (c .sync .periods))
 

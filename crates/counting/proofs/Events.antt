@@ -4,7 +4,7 @@ use mathlib.Core.Path.{_≡_, refl, ap, _∙_}
 use mathlib.Core.Bool.{Bool, true, false, not, _&&_, _||_}
 use Prim.Native.Nat.{ℕ, zero, suc}
 use native.Mathlib.Omega.{arith}
-use borrow.Author.Tests.{ltb-true, ltb-false, lt-ltb, le-ltb, not-false}
+use borrow.Author.Tests.{eqb-true, ltb-true, ltb-false, lt-ltb, le-ltb, not-false}
 use lib.Dec.{eqb, ltb}
 use Rattle.bits.specs.Byte.{pick, bit}
 use Rattle.bits.proofs.Finite.{neither}
@@ -13,7 +13,6 @@ use Rattle.registers.specs.Names.{MDCON, CLRFLG, BTCON}
 use Rattle.registers.specs.Table.{rowOf, writeMask}
 use Rattle.events.specs.declared.Decoded.{Decoded}
 use Rattle.events.specs.declared.Decoded.the-variants.{Read, Write, Pin, Clock, Polarity, Refused}
-use Rattle.events.specs.Word.{InRange}
 use Rattle.bits.proofs.Level.{pick-by}
 use Rattle.sync.specs.declared.Sync.{Sync}
 use Rattle.sync.specs.declared.LineCounter.{LineCounter}
@@ -32,7 +31,7 @@ use Rattle.ddc_writes.specs.DdcWrites.{syncAtHsel}
 use Rattle.registers.specs.Table.{updated}
 use Rattle.pins.specs.declared.PinKind.{PinKind}
 use Rattle.pins.specs.Pins.{rises, port0Moved, port1Moved, port2Moved, p16Moved, hsyncMoved, vsyncLevel, vsyncMoved, vsyncRise, onReset, resetMoved, pinMovedAs, pinMoved}
-use Rattle.pins.proofs.Numbers.{Unnamed, Numbered, port0-pin, port1-pin, port2-pin, p16-pin, sda-pin, scl-pin, hsynci-pin, vsynci-pin, reset-pin, numbered}
+use Rattle.pins.proofs.Numbers.{Unnamed, Numbered, p16-pin, sda-pin, scl-pin, hsynci-pin, vsynci-pin, reset-pin, port0-pin, port1-pin, port2-pin, no-pin, numbered}
 use Rattle.clocks.specs.Clocks.{periodClock, timerRuns, timerStep, timerClock, watchdogClock, clockedAs, clocked, polarityFound}
 use Rattle.outcome.specs.Outcome.{next}
 use Rattle.causes.proofs.Clocks.{watchdog-last}
@@ -280,8 +279,9 @@ at-reset c level =
 at-kind : {k : PinKind} {p : ℕ} → Numbered k p → (c : Chip) (level : Bool) → Effect c (pinMovedAs k c p level) (Pin p level)
 unfolding pinMovedAs port0Moved port1Moved port2Moved p16Moved
 at-kind (port0-pin u) c level = unnamed-pin c _ level u refl refl refl
-at-kind (port1-pin u) c level = unnamed-pin c _ level u refl refl refl
+at-kind (port1-pin u low high) c level = unnamed-pin c _ level u refl refl refl
 at-kind (port2-pin u) c level = unnamed-pin c _ level u refl refl refl
+at-kind (no-pin u) c level = unnamed-pin c _ level u refl refl refl
 at-kind p16-pin c level = plain-pin c _ 14 level refl refl refl refl refl refl
 at-kind sda-pin c level = at-sda c level
 at-kind scl-pin c level = at-scl c level
@@ -289,9 +289,9 @@ at-kind hsynci-pin c level = at-hsynci c level
 at-kind vsynci-pin c level = at-vsynci c level
 at-kind reset-pin c level = at-reset c level
 
-at-pin : (c : Chip) (p : ℕ) (level : Bool) → InRange (Pin p level) → Effect c (next c (Pin p level)) (Pin p level)
+at-pin : (c : Chip) (p : ℕ) (level : Bool) → Effect c (next c (Pin p level)) (Pin p level)
 unfolding next pinMoved
-at-pin c p level h = at-kind (numbered p h) c level
+at-pin c p level = at-kind (numbered p) c level
 
 -- ---- clocks
 
@@ -375,13 +375,14 @@ at-watchdog c =
       hsynci = rw (m .pins);
     }
 
-at-clock : (c : Chip) (k : ℕ) → InRange (Clock k) → Effect c (next c (Clock k)) (Clock k)
+clock-by : (c : Chip) (k : ℕ) (period watchdog : Bool) → eqb k 0 ≡ period → eqb k 3 ≡ watchdog → Effect c (next c (Clock k)) (Clock k)
 unfolding next clocked clockedAs
-at-clock c zero h = at-period c
-at-clock c (suc zero) h = at-timer c 1 refl
-at-clock c (suc (suc zero)) h = at-timer c 2 refl
-at-clock c (suc (suc (suc zero))) h = at-watchdog c
-at-clock c (suc (suc (suc (suc k)))) h = absurd (omega arith)
+clock-by c k true watchdog e f = rw (eqb-true k 0 e) (at-period c)
+clock-by c k false true e f = rw (eqb-true k 3 f) (at-watchdog c)
+clock-by c k false false e f = rw (e, f) (at-timer c k e)
+
+at-clock : (c : Chip) (k : ℕ) → Effect c (next c (Clock k)) (Clock k)
+at-clock c k = clock-by c k _ _ refl refl
 
 -- ---- every event
 
@@ -400,11 +401,11 @@ at-polarity c vertical level =
       hsynci = rw (u .pins);
     }
 
-pub effect : (c : Chip) (e : Decoded) → InRange e → Effect c (next c e) e
+pub effect : (c : Chip) (e : Decoded) → Effect c (next c e) e
 unfolding next
-effect c (Read a) h = record { lines = λ _. refl; periods = λ _. refl; reset = refl; hsynci = refl }
-effect c (Write a b) h = at-write c a b
-effect c (Pin p level) h = at-pin c p level h
-effect c (Clock k) h = at-clock c k h
-effect c (Polarity vertical level) h = at-polarity c vertical level
-effect c (Refused n) h = record { lines = λ _. refl; periods = λ _. refl; reset = refl; hsynci = refl }
+effect c (Read a) = record { lines = λ _. refl; periods = λ _. refl; reset = refl; hsynci = refl }
+effect c (Write a b) = at-write c a b
+effect c (Pin p level) = at-pin c p level
+effect c (Clock k) = at-clock c k
+effect c (Polarity vertical level) = at-polarity c vertical level
+effect c (Refused n) = record { lines = λ _. refl; periods = λ _. refl; reset = refl; hsynci = refl }

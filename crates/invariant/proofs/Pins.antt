@@ -1,16 +1,15 @@
 -- A well formed state stays well formed at every pin event.
 -- Assumes nothing.
-use mathlib.Core.Path.{_≡_, refl}
-use mathlib.Core.Bool.{Bool, true, false}
-use Prim.Native.Nat.{ℕ, _%_, _^_, _<_}
+use mathlib.Core.Path.{_≡_}
+use mathlib.Core.Bool.{Bool, true, _||_}
+use Prim.Native.Nat.{ℕ, _%_, _^_, _<_, _≤_}
 use native.Mathlib.Omega.{arith}
 use lib.Bits.{or-lt}
-use lib.Dec.{ltb, ltb→lt}
+use lib.Dec.{eqb, ltb, ltb→lt}
+use borrow.Author.Tests.{le-ltb}
 use Rattle.bits.specs.Byte.{pick, bit}
-use Rattle.bits.proofs.Finite.{at-each}
-use Rattle.events.specs.Word.{isPin}
+use Rattle.bits.proofs.Finite.{at-each, or-right}
 use Rattle.bits.proofs.Level.{pick-by}
-use Rattle.events.proofs.Refusal.{pin-lt}
 use Rattle.sync.specs.declared.Sync.{Sync}
 use Rattle.sync.specs.Sync.{wellSync}
 use Rattle.sync.proofs.WellFormed.{hsync-well, vsync-well}
@@ -21,31 +20,19 @@ use Rattle.chip.specs.declared.Chip.{Chip}
 use Rattle.chip.specs.State.{modeOf, hselOf}
 use Rattle.lines.specs.Bus.{loadsAtVsync}
 use Rattle.pins.specs.declared.PinKind.{PinKind}
-use Rattle.pins.specs.declared.PinKind.the-variants.{Port0, Port1, P16, Port2, Sda, Scl, Hsynci, Vsynci, Reset}
-use Rattle.pins.specs.Pins.{pinKind, rises, port0Moved, port1Moved, port2Moved, p16Moved, hsyncLevel, vsyncLevel, hsyncMoved, vsyncRise, vsyncMoved, onReset, resetMoved, pinMovedAs, pinMoved}
+use Rattle.pins.proofs.Numbers.{Unnamed, Numbered, p16-pin, sda-pin, scl-pin, hsynci-pin, vsynci-pin, reset-pin, port0-pin, port1-pin, port2-pin, no-pin, numbered}
+use Rattle.pins.specs.Pins.{rises, port0Moved, port1Moved, port2Moved, p16Moved, hsyncLevel, vsyncLevel, hsyncMoved, vsyncRise, vsyncMoved, onReset, resetMoved, pinMovedAs, pinMoved}
 use Rattle.invariant.proofs.Formed.{Formed, with-flags, with-sync, with-bus, with-pins, with-reset}
 use Rattle.invariant.proofs.Ranges.{with-bit-below, pick-below}
 use Rattle.invariant.proofs.Bus.{vsync-formed}
 use Rattle.invariant.proofs.Reset.{reset-chip-formed}
 use Rattle.invariant.proofs.Lines.{scl-moved-formed, sda-moved-formed}
 
-abbrev isPort1 : PinKind → Bool
-isPort1 Port0 = false
-isPort1 Port1 = true
-isPort1 P16 = false
-isPort1 Port2 = false
-isPort1 Sda = false
-isPort1 Scl = false
-isPort1 Hsynci = false
-isPort1 Vsynci = false
-isPort1 Reset = false
-
--- a pin of port 1 is not bit 7
-port1-bit : (p : ℕ) → isPin p ≡ true → pinKind p ≡ Port1 → 2 ^ (p % 8) < 128
-unfolding pinKind
-port1-bit p h e =
+-- a pin of port 1 is not bit 7: it is below 14
+port1-bit : (p : ℕ) → Unnamed p → 8 ≤ p → p < 15 → 2 ^ (p % 8) < 128
+port1-bit p u low high =
     ltb→lt (2 ^ (p % 8)) 128
-    (rw (e, h) at (at-each (λ p. pick (isPort1 (pinKind p)) (pick (isPin p) (ltb (2 ^ (p % 8)) 128) true) true) 29 tt p (pin-lt p h)))
+    (or-right (eqb p 14) _ (u .p16) (or-right (ltb p 8) _ (le-ltb p 8 low) (at-each (λ p. ltb p 8 || (eqb p 14 || ltb (2 ^ (p % 8)) 128)) 15 tt p high)))
 
 port1-formed : (c : Chip) (p : ℕ) (level : Bool) → Formed c → 2 ^ (p % 8) < 128 → Formed (port1Moved c p level)
 unfolding port1Moved
@@ -85,18 +72,19 @@ on-reset-formed Flat c f = f
 on-reset-formed Rise c f = f
 on-reset-formed Fall c f = reset-chip-formed c (f .port1)
 
-pin-as-formed : (k : PinKind) (c : Chip) (p : ℕ) (level : Bool) → Formed c → (k ≡ Port1 → 2 ^ (p % 8) < 128) → Formed (pinMovedAs k c p level)
+kind-formed : {k : PinKind} {p : ℕ} → Numbered k p → (c : Chip) (level : Bool) → Formed c → Formed (pinMovedAs k c p level)
 unfolding pinMovedAs port0Moved port2Moved resetMoved
-pin-as-formed Port0 c p level f h = with-pins f _ (f .port1)
-pin-as-formed Port1 c p level f h = port1-formed c p level f (h refl)
-pin-as-formed P16 c p level f h = p16-formed c level f
-pin-as-formed Port2 c p level f h = with-pins f _ (f .port1)
-pin-as-formed Sda c p level f h = sda-moved-formed c level f
-pin-as-formed Scl c p level f h = scl-moved-formed c level f
-pin-as-formed Hsynci c p level f h = hsync-formed c level f
-pin-as-formed Vsynci c p level f h = vsync-moved-formed c level f
-pin-as-formed Reset c p level f h = on-reset-formed (edge (c .reset) level) _ (with-reset f level)
+kind-formed (port0-pin u) c level f = with-pins f _ (f .port1)
+kind-formed {p = p} (port1-pin u low high) c level f = port1-formed c p level f (port1-bit p u low high)
+kind-formed (port2-pin u) c level f = with-pins f _ (f .port1)
+kind-formed (no-pin u) c level f = f
+kind-formed p16-pin c level f = p16-formed c level f
+kind-formed sda-pin c level f = sda-moved-formed c level f
+kind-formed scl-pin c level f = scl-moved-formed c level f
+kind-formed hsynci-pin c level f = hsync-formed c level f
+kind-formed vsynci-pin c level f = vsync-moved-formed c level f
+kind-formed reset-pin c level f = on-reset-formed (edge (c .reset) level) _ (with-reset f level)
 
-pub pin-formed : (c : Chip) (p : ℕ) (level : Bool) → isPin p ≡ true → Formed c → Formed (pinMoved c p level)
+pub pin-formed : (c : Chip) (p : ℕ) (level : Bool) → Formed c → Formed (pinMoved c p level)
 unfolding pinMoved
-pin-formed c p level h f = pin-as-formed (pinKind p) c p level f (port1-bit p h)
+pin-formed c p level f = kind-formed (numbered p) c level f

@@ -6,8 +6,7 @@ use Prim.Native.Nat.{ℕ, _<_}
 use native.Mathlib.Omega.{arith}
 use Rattle.events.specs.declared.Decoded.{Decoded}
 use Rattle.events.specs.declared.Decoded.the-variants.{Read, Write, Pin, Clock, Polarity, Refused}
-use Rattle.events.specs.Word.{decode, InRange}
-use Rattle.events.proofs.Refusal.{decode-in-range}
+use Rattle.events.specs.Word.{decode}
 use Rattle.chip.specs.declared.Chip.{Chip}
 use Rattle.chip.specs.State.{resetChip, fresh, highPins}
 use Rattle.form.specs.Form.{wellFormed}
@@ -27,23 +26,23 @@ fresh-well-formed = well _ (reset-formed highPins true true true (omega arith))
 pub reset-well-formed : (c : Chip) → c .pins .port1 < 128 → wellFormed (resetChip c) ≡ true
 reset-well-formed c h = well _ (reset-chip-formed c h)
 
-next-formed : (c : Chip) (e : Decoded) → InRange e → Formed c → Formed (next c e)
+next-formed : (c : Chip) (e : Decoded) → Formed c → Formed (next c e)
 unfolding next
-next-formed c (Read a) h f = f
-next-formed c (Write a b) h f = write-formed c a b (h .0) f
-next-formed c (Pin p level) h f = pin-formed c p level h f
-next-formed c (Clock k) h f = clock-formed c k f
-next-formed c (Polarity vertical level) h f = polarity-formed c vertical level f
-next-formed c (Refused n) h f = f
+next-formed c (Read a) f = f
+next-formed c (Write a b) f = write-formed c a b f
+next-formed c (Pin p level) f = pin-formed c p level f
+next-formed c (Clock k) f = clock-formed c k f
+next-formed c (Polarity vertical level) f = polarity-formed c vertical level f
+next-formed c (Refused n) f = f
 
 -- ---- every event, every word
 
-pub next-well-formed : (c : Chip) (e : Decoded) → InRange e → wellFormed c ≡ true → wellFormed (next c e) ≡ true
-next-well-formed c e h t = well _ (next-formed c e h (formed c t))
+pub next-well-formed : (c : Chip) (e : Decoded) → wellFormed c ≡ true → wellFormed (next c e) ≡ true
+next-well-formed c e t = well _ (next-formed c e (formed c t))
 
 pub advance-well-formed : (c : Chip) (w : ℕ) → wellFormed c ≡ true → wellFormed (advance c (decode w) .chip) ≡ true
 unfolding advance
-advance-well-formed c w t = next-well-formed c (decode w) (decode-in-range w) t
+advance-well-formed c w t = next-well-formed c (decode w) t
 
 pub step-well-formed : (c : Chip) (w : ℕ) → wellFormed c ≡ true → wellFormed (step c w .chip) ≡ true
 unfolding step

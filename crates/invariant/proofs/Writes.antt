@@ -10,6 +10,7 @@ use Rattle.bits.specs.Byte.{bit, merge}
 use Rattle.bits.proofs.Bitwise.{bit-merge}
 use Rattle.registers.specs.Names.{HVCON}
 use Rattle.registers.specs.Table.{writeMask, isWritable, rowOf}
+use Rattle.registers.proofs.Rules.{writable-register}
 use Rattle.bits.proofs.Level.{pick-by}
 use Rattle.sync.specs.declared.Sync.{Sync}
 use Rattle.sync.specs.Sync.{wellSync}
@@ -103,9 +104,9 @@ written-to-formed Iidat c a b h e f = iidat-formed c b f
 written-to-formed Iists c a b h e f = iists-formed c b f
 written-to-formed Bt c a b h e f = with-bt f _
 
-pub write-formed : (c : Chip) (a b : ℕ) → a < 38 → Formed c → Formed (writeRegister c a b)
+pub write-formed : (c : Chip) (a b : ℕ) → Formed c → Formed (writeRegister c a b)
 unfolding writeRegister written
-write-formed c a b h f =
+write-formed c a b f =
     pick-by Formed (c .reset)
-    (λ _. pick-by Formed (isWritable a) (λ _. written-to-formed (target a) c a b h refl f) (λ _. f))
+    (λ _. pick-by Formed (isWritable a) (λ w. written-to-formed (target a) c a b (writable-register a w) refl f) (λ _. f))
     (λ _. f)

@@ -11,9 +11,8 @@ use Rattle.registers.specs.Names.{IIDAT}
 use Rattle.registers.specs.Table.{isReadable}
 use Rattle.events.specs.declared.Decoded.{Decoded}
 use Rattle.events.specs.declared.Decoded.the-variants.{Read, Write, Pin, Clock, Polarity, Refused}
-use Rattle.events.specs.Word.{decode, InRange}
+use Rattle.events.specs.Word.{decode}
 use Rattle.answers.specs.Answer.{answerWord}
-use Rattle.events.proofs.Refusal.{decode-in-range}
 use Rattle.chip.specs.declared.Chip.{Chip}
 use Rattle.reads.specs.declared.Reading.{Reading}
 use Rattle.chip.specs.State.{requests}
@@ -32,7 +31,7 @@ use Rattle.isolation.proofs.Writes.{write-related, clock-related, polar
 
 -- the same event where SDA is not touched; SDA touched in both while SCL is low; SDA put to one level, equal before
 pub data Paired (o o′ : Observer) : Decoded → Decoded → Type 0 where
-  same : {e : Decoded} → InRange e → touchesSda e ≡ false → Paired o o′ e e
+  same : {e : Decoded} → touchesSda e ≡ false → Paired o o′ e e
   low : (l l′ : Bool) → o .scl ≡ false → Paired o o′ (Pin 24 l) (Pin 24 l′)
   equal : (l : Bool) → o .sda ≡ o′ .sda → Paired o o′ (Pin 24 l) (Pin 24 l)
 
@@ -60,14 +59,14 @@ equal-paired : {o o′ : Observer} {e : Decoded} → Touches e → (quiet : Bool
 equal-paired t true u h = low-paired t t u
 equal-paired {o} {o′} (touches l) false u h = equal l (beq-eq (o .sda) (o′ .sda) (true-T _ h))
 
-word-paired : {o o′ : Observer} (e : Decoded) (sda : Bool) → InRange e → touchesSda e ≡ sda → (not (o .scl && touchesSda e) || Bool·beq (o .sda) (o′ .sda)) ≡ true → Paired o o′ e e
-word-paired e false r t h = same r t
-word-paired e true r t h = equal-paired (touches-of e t) _ refl h
+word-paired : {o o′ : Observer} (e : Decoded) (sda : Bool) → touchesSda e ≡ sda → (not (o .scl && touchesSda e) || Bool·beq (o .sda) (o′ .sda)) ≡ true → Paired o o′ e e
+word-paired e false t h = same t
+word-paired e true t h = equal-paired (touches-of e t) _ refl h
 
 words-paired : (o o′ : Observer) (w v : ℕ) (t : Bool) → eqb w v ≡ t → (t || (touchesSda (decode w) && touchesSda (decode v))) ≡ true
     → (untouched o (decode w) || (t && Bool·beq (o .sda) (o′ .sda))) ≡ true → Paired o o′ (decode w) (decode v)
 unfolding untouched
-words-paired o o′ w v true e s h = rw (← eqb-true w v e) (word-paired (decode w) _ (decode-in-range w) refl h)
+words-paired o o′ w v true e s h = rw (← eqb-true w v e) (word-paired (decode w) _ refl h)
 words-paired o o′ w v false e s h =
     low-paired (touches-of (decode w) (both (touchesSda (decode w)) (touchesSda (decode v)) s .0)) (touches-of (decode v) (both (touchesSda (decode w)) (touchesSda (decode v)) s .1))
     (rw or-false at h)
@@ -77,20 +76,20 @@ paired o o′ w v s h = words-paired o o′ w v (eqb w v) refl s h
 
 -- ---- the chips
 
-same-related : {c d : Chip} {o o′ : Observer} → Related c d o o′ → (e : Decoded) → InRange e → touchesSda e ≡ false → permitted o e ≡ true → permitted o′ e ≡ true
+same-related : {c d : Chip} {o o′ : Observer} → Related c d o o′ → (e : Decoded) → touchesSda e ≡ false → permitted o e ≡ true → permitted o′ e ≡ true
     → Related (next c e) (next d e) (observe o e) (observe o′ e)
 unfolding next observe
-same-related r (Read a) i t h h′ = r
-same-related r (Write a b) i t h h′ = write-related r a b h
-same-related r (Pin p l) i t h h′ = pin-related r p l i t h h′
-same-related r (Clock k) i t h h′ = clock-related r k h
-same-related r (Polarity v l) i t h h′ = polarity-related r v l
-same-related r (Refused n) i t h h′ = r
+same-related r (Read a) t h h′ = r
+same-related r (Write a b) t h h′ = write-related r a b h
+same-related r (Pin p l) t h h′ = pin-related r p l t h h′
+same-related r (Clock k) t h h′ = clock-related r k h
+same-related r (Polarity v l) t h h′ = polarity-related r v l
+same-related r (Refused n) t h h′ = r
 
 pub event-related : {c d : Chip} {o o′ : Observer} → Related c d o o′ → {e f : Decoded} → Paired o o′ e f → permitted o e ≡ true → permitted o′ f ≡ true
     → Related (next c e) (next d f) (observe o e) (observe o′ f)
 unfolding next pinMoved pinMovedAs pinKind
-event-related r (same {e} i t) h h′ = same-related r e i t h h′
+event-related r (same {e} t) h h′ = same-related r e t h h′
 event-related r (low l l′ s) h h′ = sda-low-related r l l′ s
 event-related r (equal l x) h h′ = sda-equal-related r l x
 
@@ -154,6 +153,6 @@ sda-answers c d l l′ q = rw q
 
 pub event-answers : {c d : Chip} {o o′ : Observer} → Related c d o o′ → {e f : Decoded} → Paired o o′ e f → permitted o e ≡ true → permitted o′ f ≡ true
     → comparedAnswer e (answered c e) ≡ comparedAnswer f (answered d f)
-event-answers r (same {e} i t) h h′ = same-answers r e (requests-equal (event-related r (same i t) h h′))
+event-answers r (same {e} t) h h′ = same-answers r e (requests-equal (event-related r (same t) h h′))
 event-answers {c} {d} r (low l l′ s) h h′ = sda-answers c d l l′ (requests-equal (event-related r (low l l′ s) h h′))
 event-answers {c} {d} r (equal l x) h h′ = sda-answers c d l l (requests-equal (event-related r (equal l x) h h′))

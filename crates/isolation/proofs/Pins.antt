@@ -11,7 +11,6 @@ use borrow.Author.Tests.{ltb-true, lt-ltb, eqb-true, eqb-false, ne-eqb, not-true
 use Rattle.bits.specs.Byte.{pick, bit}
 use Rattle.bits.proofs.Bitwise.{bit-or}
 use Rattle.events.specs.declared.Decoded.the-variants.{Pin}
-use Rattle.events.specs.Word.{isPin}
 use Rattle.bus.specs.declared.Edge.{Edge}
 use Rattle.bus.specs.declared.Edge.the-variants.{Flat, Rise, Fall}
 use Rattle.bus.specs.declared.Phase.{Phase}
@@ -24,7 +23,7 @@ use Rattle.sync.specs.Sync.{onVsync}
 use Rattle.lines.specs.Bus.{busAtRise, sclRise, sclFall, onScl, onSclDdc2b, sclMoved, started, stopped, onSda, onSdaDdc2b, sdaMoved, busAtVsync, loadsAtVsync}
 use Rattle.pins.specs.declared.PinKind.{PinKind}
 use Rattle.pins.specs.Pins.{rises, port0Moved, port1Moved, port2Moved, p16Moved, vsyncLevel, hsyncMoved, vsyncRise, vsyncMoved, onReset, resetMoved, pinMovedAs, pinMoved}
-use Rattle.pins.proofs.Numbers.{Unnamed, Numbered, port0-pin, port1-pin, port2-pin, p16-pin, sda-pin, scl-pin, hsynci-pin, vsynci-pin, reset-pin, numbered}
+use Rattle.pins.proofs.Numbers.{Unnamed, Numbered, p16-pin, sda-pin, scl-pin, hsynci-pin, vsynci-pin, reset-pin, port0-pin, port1-pin, port2-pin, no-pin, numbered}
 use Rattle.isolation.specs.Foreign.{Trace, since, byteOf, Observer, observe, permitted, completesMatch, gather}
 use Rattle.isolation.proofs.Bits.{gathered-level}
 use Rattle.isolation.proofs.Related.{frame, observer, Apart, idle, ignoring, address, KeptBy, Related, related, left-released, right-released, enddc-low, kept-status}
@@ -159,8 +158,9 @@ kind-related : {c d : Chip} {o o′ : Observer} → Related c d o o′ → {kind
     → Related (pinMovedAs kind c p l) (pinMovedAs kind d p l) (observe o (Pin p l)) (observe o′ (Pin p l))
 unfolding pinMovedAs port0Moved port1Moved port2Moved p16Moved hsyncMoved vsyncMoved observe
 kind-related (related g z s x x′ y y′ k o) {p = p} (port0-pin u) l e a a′ = unobserved (related (port0Moved g p l) z s x x′ y y′ k o) l u
-kind-related (related g z s x x′ y y′ k o) {p = p} (port1-pin u) l e a a′ = unobserved (related (port1Moved g p l) z s x x′ y y′ k o) l u
+kind-related (related g z s x x′ y y′ k o) {p = p} (port1-pin u low high) l e a a′ = unobserved (related (port1Moved g p l) z s x x′ y y′ k o) l u
 kind-related (related g z s x x′ y y′ k o) {p = p} (port2-pin u) l e a a′ = unobserved (related (port2Moved g p l) z s x x′ y y′ k o) l u
+kind-related r (no-pin u) l e a a′ = unobserved r l u
 kind-related (related g z s x x′ y y′ k o) p16-pin l e a a′ = related (p16Moved (withReset g z) l) z s x x′ y y′ k o
 kind-related r sda-pin l e a a′ = absurd (true≢false e)
 kind-related r scl-pin l e a a′ = scl-related r l a a′
@@ -169,7 +169,7 @@ kind-related (related g z s x x′ y y′ k o) vsynci-pin l e a a′ = vsync-rel
 kind-related r reset-pin l e a a′ = reset-related r l a
 
 -- a pin event that does not touch SDA
-pub pin-related : {c d : Chip} {o o′ : Observer} → Related c d o o′ → (p : ℕ) (l : Bool) → isPin p ≡ true → eqb p 24 ≡ false → permitted o (Pin p l) ≡ true → permitted o′ (Pin p l) ≡ true
+pub pin-related : {c d : Chip} {o o′ : Observer} → Related c d o o′ → (p : ℕ) (l : Bool) → eqb p 24 ≡ false → permitted o (Pin p l) ≡ true → permitted o′ (Pin p l) ≡ true
     → Related (pinMoved c p l) (pinMoved d p l) (observe o (Pin p l)) (observe o′ (Pin p l))
 unfolding pinMoved
-pin-related r p l h e a a′ = kind-related r (numbered p h) l e a a′
+pin-related r p l e a a′ = kind-related r (numbered p) l e a a′

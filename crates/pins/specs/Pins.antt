@@ -15,21 +15,28 @@ use Rattle.chip.specs.declared.Pins.{Pins}
 use Rattle.chip.specs.declared.Chip.{Chip}
 use Rattle.chip.specs.State.{modeOf, hselOf, resetChip, raised, withSync, withBus, withPins, withReset}
 use Rattle.pins.specs.declared.PinKind.{PinKind}
-use Rattle.pins.specs.declared.PinKind.the-variants.{Port0, Port1, P16, Port2, Sda, Scl, Hsynci, Vsynci, Reset}
+use Rattle.pins.specs.declared.PinKind.the-variants.{Port0, Port1, P16, Port2, Sda, Scl, Hsynci, Vsynci, Reset, Absent}
 use Rattle.lines.specs.Bus.{sclMoved, sdaMoved, busAtVsync, loadsAtVsync}
+
+-- "Event words": the pins of the ports, P16 aside; 15 is no pin, and none is above 28
+unfoldable pub portKind : ℕ → PinKind
+portKind p =
+    pick (ltb p 8) Port0
+    (pick (ltb p 15) Port1
+    (pick (ltb p 16) Absent
+    (pick (ltb p 24) Port2
+    Absent)))
 
 -- "Event words": which pin a number is; within a port the bit is the number modulo 8
 unfoldable pub pinKind : ℕ → PinKind
 pinKind p =
-    pick (ltb p 8) Port0
-    (pick (eqb p pin.P16) P16
-    (pick (ltb p 16) Port1
-    (pick (ltb p 24) Port2
+    pick (eqb p pin.P16) P16
     (pick (eqb p pin.SDA) Sda
     (pick (eqb p pin.SCL) Scl
     (pick (eqb p pin.HSYNCI) Hsynci
     (pick (eqb p pin.VSYNCI) Vsynci
-    Reset)))))))
+    (pick (eqb p pin.RESET) Reset
+    (portKind p))))))
 
 abbrev pub pinsOf : ℕ → ℕ → ℕ → Bool → Bool → Pins
 pinsOf port0 port1 port2 hsynci vsynci = record { port0 = port0; port1 = port1; port2 = port2; hsynci = hsynci; vsynci = vsynci }
@@ -82,7 +89,7 @@ onReset Fall c = resetChip c
 unfoldable pub resetMoved : Chip → Bool → Chip
 resetMoved c level = onReset (edge (c .reset) level) (withReset c level)
 
--- ---- a pin event
+-- ---- a pin event; a number that no pin has moves nothing
 unfoldable pub pinMovedAs : PinKind → Chip → ℕ → Bool → Chip
 pinMovedAs Port0 c p level = port0Moved c p level
 pinMovedAs Port1 c p level = port1Moved c p level
@@ -93,6 +100,7 @@ pinMovedAs Scl c p level = sclMoved c level
 pinMovedAs Hsynci c p level = hsyncMoved c level
 pinMovedAs Vsynci c p level = vsyncMoved c level
 pinMovedAs Reset c p level = resetMoved c level
+pinMovedAs Absent c p level = c
 
 unfoldable pub pinMoved : Chip → ℕ → Bool → Chip
 pinMoved c p level = pinMovedAs (pinKind p) c p level

@@ -1,10 +1,11 @@
 // Pins.
 ghost use mathlib.Core.Path.{_≡_};
-ghost use Rattle.pins.specs.Pins.{pinKind, rises as risesOf, port0Moved, port1Moved, port2Moved, p16Moved, hsyncLevel, vsyncLevel, hsyncMoved, vsyncRise, vsyncMoved, onReset, resetMoved, pinMovedAs, pinMoved};
+ghost use Rattle.pins.specs.Pins.{portKind, pinKind, rises as risesOf, port0Moved, port1Moved, port2Moved, p16Moved, hsyncLevel, vsyncLevel, hsyncMoved, vsyncRise, vsyncMoved, onReset, resetMoved, pinMovedAs, pinMoved};
 use bus::Edge;
 use chip::Chip;
 use events::HSYNCI;
 use events::P16;
+use events::RESET;
 use events::SCL;
 use events::SDA;
 use events::VSYNCI;
@@ -23,31 +24,42 @@ pub enum PinKind {
     Hsynci,
     Vsynci,
     Reset,
+    Absent,
 }
 
-// What the pin of this number is; 15, which no event has, counts to port 1, and numbers above 28 to RESET.
-// Wrong answers: pin 13, which is P15, taken for P16; HSYNCI and VSYNCI exchanged.
-pub fn pin_kind(p: u8) -> PinKind
-    ensures { λ r. ⌜ r ≡ pinKind p ⌝ }
+// A pin of a port, P16 aside; there is no pin 15 and none above 28.
+fn port_kind(p: u8) -> PinKind
+    ensures { λ r. ⌜ r ≡ portKind p ⌝ }
 {
     if p < 8 {
         return PinKind::Port0;
     }
-    if p == P16 {
-        return PinKind::P16;
-    }
-    if p < 16 {
+    if p < 15 {
         return PinKind::Port1;
     }
-    if p < 24 {
-        return PinKind::Port2;
+    if p < 16 {
+        return PinKind::Absent;
     }
+    if p < 24 {
+        PinKind::Port2
+    } else {
+        PinKind::Absent
+    }
+}
+
+// What the pin of this number is.
+// Wrong answers: pin 13, which is P15, taken for P16; HSYNCI and VSYNCI exchanged.
+pub fn pin_kind(p: u8) -> PinKind
+    ensures { λ r. ⌜ r ≡ pinKind p ⌝ }
+{
     match p {
+        P16 => PinKind::P16,
         SDA => PinKind::Sda,
         SCL => PinKind::Scl,
         HSYNCI => PinKind::Hsynci,
         VSYNCI => PinKind::Vsynci,
-        _ => PinKind::Reset,
+        RESET => PinKind::Reset,
+        _ => port_kind(p),
     }
 }
 
@@ -182,6 +194,7 @@ fn pin_moved_as(kind: PinKind, c: Chip, p: u8, level: bool) -> Chip
         PinKind::Hsynci => hsync_moved(c, level),
         PinKind::Vsynci => vsync_moved(c, level),
         PinKind::Reset => reset_moved(c, level),
+        PinKind::Absent => c,
     }
 }
 

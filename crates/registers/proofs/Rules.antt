@@ -1,7 +1,7 @@
 -- Rules of the register table: each is a test computed over the 38 rows, and holds at every address.
 -- Assumes nothing.
-use mathlib.Core.Path.{_≡_, refl, ap}
-use mathlib.Core.Bool.{Bool, false, _||_, Bool·beq}
+use mathlib.Core.Path.{_≡_, refl, ap, sym, _∙_}
+use mathlib.Core.Bool.{Bool, true, false, _||_, Bool·beq, true≢false}
 use mathlib.Core.Logic.{⊎-elim}
 use Prim.Native.Nat.{ℕ, _<_, _≤_}
 use borrow.Author.Tests.{le-ltb}
@@ -57,6 +57,14 @@ refused-read a e = eqb→eq (readMask a) 0 (or-right (isReadable a) (eqb (readMa
 pub past-writable : (a : ℕ) → 38 ≤ a → isWritable a ≡ false
 unfolding isWritable
 past-writable a h = ap (λ (r : Row). r .writable) (row-past a h)
+
+-- so a register that takes writes is one of the 38
+pub writable-register : (a : ℕ) → isWritable a ≡ true → a < 38
+writable-register a w =
+    ⊎-elim
+    (λ (h : a < 38). h)
+    (λ (h : 38 ≤ a). absurd (true≢false (sym w ∙ past-writable a h)))
+    (lt-or-le a 38)
 
 pub past-readable : (a : ℕ) → 38 ≤ a → isReadable a ≡ false
 unfolding isReadable
