@@ -26,9 +26,6 @@ module _ (number : ℕ) (watchdog : Bool) (requests byte : ℕ) (hr : requests <
   pub answer-zero-bits : answerWord number watchdog requests byte / 131072 % 128 ≡ 0
   answer-zero-bits = omega (arith, num-lt watchdog)
 
-  pub answer-lt : number < 256 → answerWord number watchdog requests byte < 4294967296
-  answer-lt hn = omega (arith, num-lt watchdog)
-
 -- a word with 0 in bits 23..17 is the answer word of its parts
 pub answer-of-fields : (w : ℕ) → w / 131072 % 128 ≡ 0 →
     answerWord (answerFields w .number) (answerFields w .watchdog) (answerFields w .requests) (answerFields w .byte) ≡ w

@@ -1,15 +1,12 @@
 -- A bit of an or, of an and, of a complement, of a write under a mask, and of a byte with one bit put.
 -- Assumes nothing.
-use mathlib.Core.Path.{_≡_, refl, sym, ap, _∙_}
+use mathlib.Core.Path.{_≡_, refl, ap, _∙_}
 use mathlib.Core.Bool.{Bool, true, false, not, _&&_, _||_, Bool·beq}
-use Prim.Native.Nat.{ℕ, zero, suc, _-_, _*_, _/_, _%_, _^_, _<_}
+use Prim.Native.Nat.{ℕ, _-_, _/_, _%_, _^_, _<_}
 use native.Mathlib.Omega.{arith}
-use native.Mathlib.Numerals.{one-add}
 use lib.Dec.{T, eqb}
-use borrow.Author.Tests.{eq-eqb, ne-eqb}
-use lib.Pow.{pow-pos, high-ones, mod-pow-add}
-use lib.Bits.{bitAnd, bitOr, or-shr, or-mod, and-shr, and-mod, and-high}
-use Rattle.bits.specs.Byte.{pick, num, bit, merge, withBit}
+use lib.Bits.{bitAnd, bitOr, or-shr, or-mod, and-shr, and-mod}
+use Rattle.bits.specs.Byte.{pick, bit, merge, withBit}
 use Rattle.bits.specs.Finite.{allBelow}
 use Rattle.bits.proofs.Finite.{at-each-pair, beq-eq}
 use Rattle.bits.proofs.Weight.{weight-lt}
@@ -31,41 +28,6 @@ unfolding bit
 bit-and k a b =
     ap (λ (n : ℕ). eqb (n % 2) 1) (and-shr a b k) ∙ ap (λ (n : ℕ). eqb n 1) (and-mod (a / 2 ^ k) (b / 2 ^ k) 1)
     ∙ beq-eq _ _ (digits (λ u v. Bool·beq (eqb (bitAnd u v) 1) (eqb u 1 && eqb v 1)) tt (a / 2 ^ k) (b / 2 ^ k))
-
--- a digit is the number of its test
-digit-num : (d : ℕ) → d < 2 → d ≡ num (eqb d 1)
-digit-num zero h = refl
-digit-num (suc zero) h = refl
-digit-num (suc (suc d)) h = absurd (omega arith)
-
--- masking with the weight of bit k leaves the bit at its weight
-pub bit-weight : (k x : ℕ) → bitAnd x (2 ^ k) ≡ num (bit k x) * 2 ^ k
-unfolding bit
-bit-weight k x =
-    let e : (2 ^ 1 - 1) * 2 ^ k ≡ 2 ^ k = omega arith in
-    ap (λ (n : ℕ). bitAnd x n) (sym (high-ones 1 k ∙ e)) ∙ and-high x 1 k ∙ ap (λ (d : ℕ). d * 2 ^ k) (digit-num (x / 2 ^ k % 2) (omega arith))
-
-weighted : (b : Bool) (w : ℕ) → 0 < w → b ≡ not (eqb (num b * w) 0)
-weighted true w h = rw (ne-eqb (1 * w) 0 (λ e. omega arith))
-weighted false w h = rw (eq-eqb (0 * w) 0 (omega arith))
-
--- so bit k is 1 where that is not 0
-pub bit-test : (k x : ℕ) → bit k x ≡ not (eqb (bitAnd x (2 ^ k)) 0)
-bit-test k x = rw (bit-weight k x) (weighted (bit k x) (2 ^ k) (pow-pos k))
-
--- numbers with the same bits below k have the same remainder
-same-low : (k x y : ℕ) → ((j : ℕ) → j < k → bit j x ≡ bit j y) → x % 2 ^ k ≡ y % 2 ^ k
-unfolding bit
-same-low zero x y h = omega arith
-same-low (suc k) x y h =
-    let low = same-low k x y (λ j l. h j (omega arith)) in
-    let top : x / 2 ^ k % 2 ≡ y / 2 ^ k % 2 =
-    digit-num (x / 2 ^ k % 2) (omega arith) ∙ ap num (h k (omega arith)) ∙ sym (digit-num (y / 2 ^ k % 2) (omega arith)) in
-    rw (← (one-add k), mod-pow-add x 1 k, mod-pow-add y 1 k, low, top)
-
--- bytes with the same eight bits are the same
-pub bit-ext : (x y : ℕ) → x < 256 → y < 256 → ((j : ℕ) → j < 8 → bit j x ≡ bit j y) → x ≡ y
-bit-ext x y hx hy h = let e : x % 256 ≡ y % 256 = same-low 8 x y h in omega arith
 
 -- ---- bytes: laws computed at each byte and bit
 

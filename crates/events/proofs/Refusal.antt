@@ -77,19 +77,6 @@ decode-in-range w =
     (λ h. pick-by InRange (badByte w) (λ _. (omega arith, omega arith))
     (λ _. in-range-by (eqb (kind w) 1) (eqb (kind w) 2) (eqb (kind w) 3) (eqb (kind w) 4) (fieldA w) (fieldB w) (omega arith) h)))
 
--- a number in range is one of four
-number-in-range : (e : Decoded) → InRange e → numberOf e < 4
-number-in-range (Read a) h = omega arith
-number-in-range (Write a b) h = omega arith
-number-in-range (Pin a level) h = omega arith
-number-in-range (Clock a) h = omega arith
-number-in-range (Polarity vertical level) h = omega arith
-number-in-range (Refused number) h = h .1
-
--- no word has a number but 0 to 3
-pub number-lt : (w : ℕ) → numberOf (decode w) < 4
-number-lt w = number-in-range (decode w) (decode-in-range w)
-
 pin-by : (low high : Bool) (a : ℕ) → (low ≡ true → a < 29) → (low || (high && ltb a 29)) ≡ true → a < 29
 pin-by true high a p h = p refl
 pin-by false true a p h = ltb-true a 29 h

@@ -1,12 +1,12 @@
 -- A write to a register changes only the bits of its write mask, and puts those of the byte written there; in II STS it may also clear START and STOP.
 -- Assumes nothing.
 use mathlib.Core.Path.{_≡_, refl, sym, ap, _∙_}
-use mathlib.Core.Bool.{Bool, true, false, not}
+use mathlib.Core.Bool.{Bool, true, false}
 use mathlib.Core.Logic.{⊎-elim}
 use Prim.Native.Nat.{ℕ, _-_, _<_, _≤_}
 use native.Mathlib.Omega.{arith}
 use borrow.Author.Tests.{eqb-true}
-use lib.Dec.{T, eqb, eqb→eq}
+use lib.Dec.{eqb, eqb→eq}
 use lib.Bits.{bitAnd, bitOr, and-self, and-comm, and-zero-r}
 use lib.ListN.{length, getD, set}
 use lib.Seq.{getD-set-same, set-out}
@@ -26,11 +26,10 @@ use Rattle.chip.specs.declared.Chip.{Chip}
 use Rattle.chip.specs.State.{registerAt}
 use Rattle.lines.specs.Bus.{busAtRise}
 use Rattle.writes.specs.declared.Target.{Target}
-use Rattle.writes.specs.Writes.{target, writeRegister}
 use Rattle.ddc_writes.specs.DdcWrites.{busLetGo, busRisen, withIidat, busAtIidat, statusWritten}
 use Rattle.registers.specs.Table.{updated}
 use Rattle.outcome.specs.Outcome.{next}
-use Rattle.frame.specs.Frame.{actsElsewhere, keptByte, changeable}
+use Rattle.frame.specs.Frame.{keptByte, changeable}
 use Rattle.writes.proofs.Addresses.{Plain, Addressed, at-mdcon, at-hvcon, at-clrflg, at-clrwdt, at-iiadr, at-iidat, at-iists, at-bt, at-plain, addressed}
 use Rattle.frame.proofs.Fields.{fields, by-write}
 use Rattle.frame.proofs.Frame.{mode-keeps}

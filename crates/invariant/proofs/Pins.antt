@@ -7,7 +7,7 @@ use native.Mathlib.Omega.{arith}
 use lib.Bits.{or-lt}
 use lib.Dec.{eqb, ltb, ltb→lt}
 use borrow.Author.Tests.{le-ltb}
-use Rattle.bits.specs.Byte.{pick, bit}
+use Rattle.bits.specs.Byte.{bit}
 use Rattle.bits.proofs.Finite.{at-each, or-right}
 use Rattle.bits.proofs.Level.{pick-by}
 use Rattle.sync.specs.declared.Sync.{Sync}

@@ -6,7 +6,7 @@ use lib.Dec.{eqb, ltb}
 use borrow.Author.Tests.{eqb-true, not-true, not-false}
 use Rattle.bits.specs.Byte.{pick, bit}
 use Rattle.bits.proofs.Finite.{both}
-use Rattle.registers.specs.Names.{BTCON, MDCON, HVCON, CLRFLG, CLRWDT, IIADR, IIDAT, IISTS, BT}
+use Rattle.registers.specs.Names.{BTCON, MDCON, HVCON, CLRWDT, IIADR, IIDAT, BT}
 use Rattle.registers.specs.Table.{isWritable}
 use Rattle.events.specs.declared.Decoded.the-variants.{Write, Clock}
 use Rattle.bus.specs.declared.Phase.{Phase}

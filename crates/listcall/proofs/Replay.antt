@@ -1,7 +1,7 @@
 -- What `replay` prints is the text of the step's answers, from a fresh chip.
 -- Assumes nothing.
 use Prim.Native.Nat.{ℕ}
-use mathlib.Core.Path.{_≡_, refl}
+use mathlib.Core.Path.{_≡_}
 use mathlib.Core.List.{List, _++_}
 use Rattle.chip.specs.State.{fresh}
 use Rattle.run.specs.Run.{after, answers}

@@ -1,6 +1,5 @@
 -- What a read shows (document 01, "Registers" and "Ports").
 use Prim.Native.Nat.{ℕ, _+_, _-_, _*_, _/_, _%_}
-use mathlib.Core.Bool.{Bool}
 use lib.Bits.{bitAnd, bitOr}
 use lib.Dec.{eqb}
 use Rattle.bits.specs.Byte.{pick, weightIf, bit, merge}

@@ -28,10 +28,6 @@ at-row f t n a = ⊎-elim (λ (h : a < 38). at-each (λ a. f (rowOf a)) 38 t a h
 
 -- ---- values are bytes
 
-pub resetValue-lt : (a : ℕ) → resetValue a < 256
-unfolding resetValue rowOf
-resetValue-lt a = ltb→lt (resetValue a) 256 (at-row (λ r. ltb (r .reset) 256) tt tt a)
-
 pub writeMask-lt : (a : ℕ) → writeMask a < 256
 unfolding writeMask rowOf
 writeMask-lt a = ltb→lt (writeMask a) 256 (at-row (λ r. ltb (r .write) 256) tt tt a)
@@ -69,10 +65,6 @@ writable-register a w =
 pub past-readable : (a : ℕ) → 38 ≤ a → isReadable a ≡ false
 unfolding isReadable
 past-readable a h = ap (λ (r : Row). r .readable) (row-past a h)
-
-pub past-reset : (a : ℕ) → 38 ≤ a → resetValue a ≡ 0
-unfolding resetValue
-past-reset a h = ap (λ (r : Row). r .reset) (row-past a h)
 
 -- every register takes a write or a read, and no other address does
 pub register-used : (a : ℕ) → (isWritable a || isReadable a) ≡ isRegister a

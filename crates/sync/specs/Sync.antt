@@ -3,7 +3,7 @@ use Prim.Native.Nat.{ℕ, zero, suc}
 use mathlib.Core.Bool.{Bool, false, _&&_}
 use lib.Dec.{ltb}
 use Rattle.bits.specs.Byte.{pick}
-use Rattle.counters.specs.Count.{atLast, counted, overflowed, latched, zeroed, cycleNext}
+use Rattle.counters.specs.Count.{counted, overflowed, latched, zeroed, cycleNext}
 use Rattle.sync.specs.declared.LineCounter.{LineCounter}
 use Rattle.sync.specs.declared.PeriodCounter.{PeriodCounter}
 use Rattle.sync.specs.declared.Sync.{Sync}
