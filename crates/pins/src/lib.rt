@@ -48,7 +48,7 @@ fn port_kind(p: u8) -> PinKind
 }
 
 // What the pin of this number is.
-// Wrong answers: pin 13, which is P15, taken for P16; HSYNCI and VSYNCI exchanged.
+// Wrong answers: 15 taken for a pin of port 1; HSYNCI and VSYNCI exchanged.
 pub fn pin_kind(p: u8) -> PinKind
     ensures { λ r. ⌜ r ≡ pinKind p ⌝ }
 {
