@@ -1,5 +1,5 @@
 //! The proved rates, linked from their static library, beside an independent computation, bit for bit: division of whole
-//! numbers, rounded to nearest even by hand, with no arithmetic on doubles. Every latch, and every pair of latches.
+//! numbers, rounded to nearest even, with no arithmetic on doubles. Every latch, and every pair of latches.
 
 extern "C" {
     fn nt6861_field_rate(v: u16) -> f64;

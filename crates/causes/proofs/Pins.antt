@@ -234,10 +234,10 @@ sda-moved c level = sda-irqx _ _ _ (withSda c level)
 
 at-kind : {k : PinKind} {p : ℕ} → Numbered k p → (s : Source) (c : Chip) (level : Bool) → flag s (pinMovedAs k c p level) ≡ after s c (Pin p level)
 unfolding pinMovedAs port0Moved port1Moved port2Moved hsyncMoved
-at-kind (port0-pin u) s c level = at-unnamed c level u s
+at-kind (port0-pin u high) s c level = at-unnamed c level u s
 at-kind (port1-pin u low high) s c level = at-unnamed c level u s
-at-kind (port2-pin u) s c level = at-unnamed c level u s
-at-kind (no-pin u) s c level = at-unnamed c level u s
+at-kind (port2-pin u low high) s c level = at-unnamed c level u s
+at-kind (no-pin u none) s c level = at-unnamed c level u s
 at-kind p16-pin s c level = at-p16 c level s
 at-kind sda-pin s c level = rw (sda-moved c level) (at-plain c 24 level refl refl refl refl s)
 at-kind scl-pin s c level = at-scl c level s

@@ -67,7 +67,7 @@ fn idle_bus(iists: u8, iiadr: u8, iidat: u8) -> Bus
 }
 
 // The bus after a change of mode: lines released, no transfer, ones in the shift register, nine edges left.
-// Wrong answers: eight edges left, so a byte without the null bit; II DAT cleared.
+// Wrong answers: eight edges left, so the first load one rise early; II DAT cleared.
 pub fn released(b: Bus) -> Bus
     ensures { λ r. ⌜ r ≡ releasedOf b ⌝ }
 {

@@ -3,7 +3,7 @@ ghost use mathlib.Core.Path.{_≡_};
 ghost use Rattle.counters.specs.Count.{counted as countedOf, overflowed as overflowedOf, latched as latchedOf, zeroed as zeroedOf, cycleNext, timerNext, timerOverflows, watchdogNext, watchdogFires};
 
 // The count after a step that is due.
-// Wrong answers: 0 after the last value; a step taken in overflow.
+// Wrong answers: 0 after the last value; the last value in overflow, whatever the count.
 pub fn counted(last: u16, overflow: bool, count: u16) -> u16
     ensures { λ r. ⌜ r ≡ countedOf last overflow count ⌝ }
 {
@@ -14,7 +14,7 @@ pub fn counted(last: u16, overflow: bool, count: u16) -> u16
 }
 
 // The overflow bit after a step that is due.
-// Wrong answers: set by the step to the last value; an overflow bit dropped by the next step.
+// Wrong answers: set by every step; an overflow bit dropped by the next step.
 pub fn overflowed(last: u16, overflow: bool, count: u16) -> bool
     ensures { λ r. ⌜ r ≡ overflowedOf last overflow count ⌝ }
 {

@@ -278,10 +278,10 @@ at-reset c level =
 -- all pins
 at-kind : {k : PinKind} {p : ℕ} → Numbered k p → (c : Chip) (level : Bool) → Effect c (pinMovedAs k c p level) (Pin p level)
 unfolding pinMovedAs port0Moved port1Moved port2Moved p16Moved
-at-kind (port0-pin u) c level = unnamed-pin c _ level u refl refl refl
+at-kind (port0-pin u high) c level = unnamed-pin c _ level u refl refl refl
 at-kind (port1-pin u low high) c level = unnamed-pin c _ level u refl refl refl
-at-kind (port2-pin u) c level = unnamed-pin c _ level u refl refl refl
-at-kind (no-pin u) c level = unnamed-pin c _ level u refl refl refl
+at-kind (port2-pin u low high) c level = unnamed-pin c _ level u refl refl refl
+at-kind (no-pin u none) c level = unnamed-pin c _ level u refl refl refl
 at-kind p16-pin c level = plain-pin c _ 14 level refl refl refl refl refl refl
 at-kind sda-pin c level = at-sda c level
 at-kind scl-pin c level = at-scl c level

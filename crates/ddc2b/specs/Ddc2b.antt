@@ -33,7 +33,7 @@ abbrev pub stopStatus : ℕ → ℕ
 stopStatus status = bitOr status (weight STOP)
 
 -- ---- a rise of the SCL line
--- the phase once the eighth address bit is gathered: the chip's own, or somebody else's
+-- the phase once the eighth address bit is gathered: the chip's own, or another device's
 abbrev pub addressed : ℕ → ℕ → Phase
 addressed own byte = pick (matches own byte) (Address 8 byte false) Ignoring
 

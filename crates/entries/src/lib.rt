@@ -323,7 +323,7 @@ fn next_at(place: Place, r: Reader, s: Symbol) -> Found
 }
 
 // Before the first byte of a line.
-// Wrong answers: a line that begins within a field; a word given no times.
+// Wrong answers: a line that begins within a field; a word given zero times.
 pub fn line_start() -> Reader
     ensures { λ r. ⌜ r ≡ lineStart ⌝ }
 {

@@ -111,7 +111,7 @@ encode (Refused number) = refusedWord number
 abbrev pub refusal : ℕ → ℕ
 refusal word = pick (noEvent word) 1 (pick (noPlace word) 2 (pick (badByte word) 3 0))
 
--- what a decoded word says in the paper's numbers: the number that refuses it, or the kind and the values of the word
+-- what a decoded word says in document 01's numbers: the number that refuses it, or the kind and the values of the word
 pub record DecodedCase (word : ℕ) (decoded : Decoded) : Type 0 where
   pub number : numberOf decoded ≡ refusal word
   pub values : numberOf decoded ≡ 0 → encode decoded ≡ word

@@ -99,7 +99,7 @@ fn event(word: u32) -> Decoded
 }
 
 // The first number that applies refuses the word, else it is an event.
-// Wrong answers: pin 15 taken for a pin; a word with both a wrong A and a wrong B refused with 3.
+// Wrong answers: pin 15 taken for a pin; a read with B 1 taken for a read.
 pub fn decode(word: u32) -> Decoded
     ensures { λ r. ⌜ (r ≡ decodeOf word) × DecodedCase word r ⌝ }
 {

@@ -1,5 +1,5 @@
--- Well formed states (document 01, "Numbers given back", the paragraph on well formed): its clauses, with places of the state
--- that hold nothing fixed, and no more.
+-- Well formed states (document 01, "Numbers given back", the paragraph on well formed): its clauses and no more, but that unused
+-- places of the state are fixed at their reset value.
 use Prim.Native.Nat.{ℕ, _-_, _^_}
 use mathlib.Core.Bool.{Bool, true, false, _&&_, _||_}
 use mathlib.Core.List.{List}
@@ -33,7 +33,7 @@ reservedMask a = pick (keptApart a) 255 (255 - writeMask a)
 unfoldable pub reservedAt : List ℕ → ℕ → Bool
 reservedAt registers a = eqb (bitAnd (getD registers a 0) (reservedMask a)) (bitAnd (resetValue a) (reservedMask a))
 
--- the registers apart: IRQX, II STS 7, 6 at 0; MDCON 7..4 and what is not polarity of HVCON at 0; II ADR bit 0 at 1; no bit 7 at port 1
+-- the registers apart: IRQX, II STS 7, 6 at 0; bits 7..4 of MDCON and of the polarity byte at 0; II ADR bit 0 at 1; no bit 7 at port 1
 unfoldable pub reservedApart : Chip → Bool
 reservedApart c =
     ((((ltb (c .irqx) 64

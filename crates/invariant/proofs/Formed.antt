@@ -33,7 +33,7 @@ all-at f n e i h = T-true (f i) (at-each f n (true-T (allBelow f n) e) i h)
 
 -- ---- the parts
 
--- the bus at a value of MDCON, whose MD1/2 has a say in the mode
+-- the bus at a value of MDCON, whose MD1/2 is part of the mode
 pub record BusFormed (mdcon : ℕ) (b : Bus) : Type 0 where
   pub iists : b .iists < 64
   pub iiadr : bit 0 (b .iiadr) ≡ true
@@ -99,7 +99,7 @@ module _ {c : Chip} (f : Formed c) where
   pub with-flags : (flags : ℕ) → flags < 64 → Formed (raised c flags)
   with-flags flags h = with-irqx (bitOr (c .irqx) flags) (or-lt 6 (c .irqx) flags (f .irqx) h)
 
-  -- MDCON is put together with the bus, since MD1/2 has a say in the mode
+  -- MDCON is put together with the bus, since MD1/2 is part of the mode
   pub with-mode : (v : ℕ) (b : Bus) → v < 16 → BusFormed v b → Formed (withBus (withMdcon c v) b)
   with-mode v b h k = record { sync = f .sync; watchdog = f .watchdog; irqx = f .irqx; mdcon = h; polarity = f .polarity; port1 = f .port1; stored = f .stored; bus = k }
 

@@ -74,10 +74,10 @@ on-reset-formed Fall c f = reset-chip-formed c (f .port1)
 
 kind-formed : {k : PinKind} {p : ℕ} → Numbered k p → (c : Chip) (level : Bool) → Formed c → Formed (pinMovedAs k c p level)
 unfolding pinMovedAs port0Moved port2Moved resetMoved
-kind-formed (port0-pin u) c level f = with-pins f _ (f .port1)
+kind-formed (port0-pin u high) c level f = with-pins f _ (f .port1)
 kind-formed {p = p} (port1-pin u low high) c level f = port1-formed c p level f (port1-bit p u low high)
-kind-formed (port2-pin u) c level f = with-pins f _ (f .port1)
-kind-formed (no-pin u) c level f = f
+kind-formed (port2-pin u low high) c level f = with-pins f _ (f .port1)
+kind-formed (no-pin u none) c level f = f
 kind-formed p16-pin c level f = p16-formed c level f
 kind-formed sda-pin c level f = sda-moved-formed c level f
 kind-formed scl-pin c level f = scl-moved-formed c level f

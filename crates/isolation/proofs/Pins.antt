@@ -157,10 +157,10 @@ kind-related : {c d : Chip} {o o′ : Observer} → Related c d o o′ → {kind
     → permitted o (Pin p l) ≡ true → permitted o′ (Pin p l) ≡ true
     → Related (pinMovedAs kind c p l) (pinMovedAs kind d p l) (observe o (Pin p l)) (observe o′ (Pin p l))
 unfolding pinMovedAs port0Moved port1Moved port2Moved p16Moved hsyncMoved vsyncMoved observe
-kind-related (related g z s x x′ y y′ k o) {p = p} (port0-pin u) l e a a′ = unobserved (related (port0Moved g p l) z s x x′ y y′ k o) l u
+kind-related (related g z s x x′ y y′ k o) {p = p} (port0-pin u high) l e a a′ = unobserved (related (port0Moved g p l) z s x x′ y y′ k o) l u
 kind-related (related g z s x x′ y y′ k o) {p = p} (port1-pin u low high) l e a a′ = unobserved (related (port1Moved g p l) z s x x′ y y′ k o) l u
-kind-related (related g z s x x′ y y′ k o) {p = p} (port2-pin u) l e a a′ = unobserved (related (port2Moved g p l) z s x x′ y y′ k o) l u
-kind-related r (no-pin u) l e a a′ = unobserved r l u
+kind-related (related g z s x x′ y y′ k o) {p = p} (port2-pin u low high) l e a a′ = unobserved (related (port2Moved g p l) z s x x′ y y′ k o) l u
+kind-related r (no-pin u none) l e a a′ = unobserved r l u
 kind-related (related g z s x x′ y y′ k o) p16-pin l e a a′ = related (p16Moved (withReset g z) l) z s x x′ y y′ k o
 kind-related r sda-pin l e a a′ = absurd (true≢false e)
 kind-related r scl-pin l e a a′ = scl-related r l a a′

@@ -1,12 +1,14 @@
 -- The pins by their numbers: those that a rule names, the others of the ports, and numbers that no pin has.
 -- Assumes nothing.
 use mathlib.Core.Path.{_≡_, refl}
-use mathlib.Core.Bool.{Bool, true, false}
+use mathlib.Core.Bool.{Bool, true, false, and-false}
 use Prim.Native.Nat.{ℕ, _≤_, _<_}
-use borrow.Author.Tests.{eqb-true, ltb-true, ltb-false}
+use native.Mathlib.Omega.{arith}
+use borrow.Author.Tests.{eqb-true, eqb-false, ltb-true, ltb-false, le-ltb}
 use lib.Dec.{eqb, ltb}
 use Rattle.bits.proofs.Level.{pick-by}
 use Rattle.events.specs.Pins as pin
+use Rattle.events.specs.Word.{isPin}
 use Rattle.pins.specs.declared.PinKind.{PinKind}
 use Rattle.pins.specs.declared.PinKind.the-variants.{Port0, Port1, P16, Port2, Sda, Scl, Hsynci, Vsynci, Reset, Absent}
 use Rattle.pins.specs.Pins.{portKind, pinKind}
@@ -28,20 +30,30 @@ pub data Numbered : PinKind → ℕ → Type 0 where
   hsynci-pin : Numbered Hsynci pin.HSYNCI
   vsynci-pin : Numbered Vsynci pin.VSYNCI
   reset-pin : Numbered Reset pin.RESET
-  port0-pin : {p : ℕ} → Unnamed p → Numbered Port0 p
+  port0-pin : {p : ℕ} → Unnamed p → p < 8 → Numbered Port0 p
   port1-pin : {p : ℕ} → Unnamed p → 8 ≤ p → p < 15 → Numbered Port1 p
-  port2-pin : {p : ℕ} → Unnamed p → Numbered Port2 p
-  no-pin : {p : ℕ} → Unnamed p → Numbered Absent p
+  port2-pin : {p : ℕ} → Unnamed p → 16 ≤ p → p < 24 → Numbered Port2 p
+  no-pin : {p : ℕ} → Unnamed p → isPin p ≡ false → Numbered Absent p
+
+-- 15 is no pin
+no-fifteen : (p : ℕ) → ltb p 15 ≡ false → ltb p 16 ≡ true → isPin p ≡ false
+no-fifteen p low high = rw (low, le-ltb 15 p (omega (arith, ltb-true p 16 high)))
+
+-- and none is above 28
+no-more : (p : ℕ) → Unnamed p → ltb p 15 ≡ false → ltb p 24 ≡ false → isPin p ≡ false
+no-more p u low high =
+    let last : 29 ≤ p = omega (arith, ltb-false p 24 high, eqb-false p 24 (u .sda), eqb-false p 25 (u .scl), eqb-false p 26 (u .hsynci), eqb-false p 27 (u .vsynci), eqb-false p 28 (u .reset)) in
+    rw (low, le-ltb p 29 last) (and-false (ltb 15 p))
 
 port-numbered : {p : ℕ} → Unnamed p → Numbered (portKind p) p
 unfolding portKind
 port-numbered {p} u =
     let P : PinKind → Type 0 = λ (k : PinKind). Numbered k p in
-    pick-by P (ltb p 8) (λ _. port0-pin u)
+    pick-by P (ltb p 8) (λ high. port0-pin u (ltb-true p 8 high))
     (λ low. pick-by P (ltb p 15) (λ high. port1-pin u (ltb-false p 8 low) (ltb-true p 15 high))
-    (λ _. pick-by P (ltb p 16) (λ _. no-pin u)
-    (λ _. pick-by P (ltb p 24) (λ _. port2-pin u)
-    (λ _. no-pin u))))
+    (λ past. pick-by P (ltb p 16) (λ here. no-pin u (no-fifteen p past here))
+    (λ low. pick-by P (ltb p 24) (λ high. port2-pin u (ltb-false p 16 low) (ltb-true p 24 high))
+    (λ above. no-pin u (no-more p u past above)))))
 
 -- the number is n, or it is told that it is not
 at : (p n : ℕ) (found : Bool) → eqb p n ≡ found → Numbered (pinKind n) n → (eqb p n ≡ false → Numbered (pinKind p) p) → Numbered (pinKind p) p

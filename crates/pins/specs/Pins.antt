@@ -18,7 +18,7 @@ use Rattle.pins.specs.declared.PinKind.{PinKind}
 use Rattle.pins.specs.declared.PinKind.the-variants.{Port0, Port1, P16, Port2, Sda, Scl, Hsynci, Vsynci, Reset, Absent}
 use Rattle.lines.specs.Bus.{sclMoved, sdaMoved, busAtVsync, loadsAtVsync}
 
--- "Event words": the pins of the ports, P16 aside; 15 is no pin, and none is above 28
+-- "Event words": the port of a number that `pinKind` does not name; 15 and numbers from 24 on are no pin of a port
 unfoldable pub portKind : ℕ → PinKind
 portKind p =
     pick (ltb p 8) Port0

@@ -1,4 +1,4 @@
-// Pins.
+// What a pin's new outside level does to the chip.
 ghost use mathlib.Core.Path.{_≡_};
 ghost use Rattle.pins.specs.Pins.{portKind, pinKind, rises as risesOf, port0Moved, port1Moved, port2Moved, p16Moved, hsyncLevel, vsyncLevel, hsyncMoved, vsyncRise, vsyncMoved, onReset, resetMoved, pinMovedAs, pinMoved};
 use bus::Edge;
@@ -27,7 +27,7 @@ pub enum PinKind {
     Absent,
 }
 
-// A pin of a port, P16 aside; there is no pin 15 and none above 28.
+// The port of a number that `pin_kind` does not name; 15 and numbers from 24 on are no pin of a port.
 fn port_kind(p: u8) -> PinKind
     ensures { λ r. ⌜ r ≡ portKind p ⌝ }
 {

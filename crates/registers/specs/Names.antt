@@ -1,4 +1,4 @@
--- Addresses of the registers, and the bits that a rule names by their number, after the data sheet's names, without blanks and
+-- Addresses of the registers, and numbers of the bits that a rule names, after the data sheet's names, without blanks and
 -- slashes (document 01, "Registers"). DACH1 to DACH13 follow DACH0; INTS to INTV are the sources that IEX and IRQX have a bit
 -- each for, CLRHOV and CLRVOV the bits of CLRFLG that clear HCNTOV and VCNTOV.
 use Prim.Native.Nat.{ℕ}

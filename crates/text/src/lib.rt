@@ -73,7 +73,7 @@ fn left_over_answer(c: Chip) -> u32
 
 // A block of the stream: the text of its answers to the start of `text`, or nothing where that is too short. Only the last
 // block of a stream may end within a word.
-// Wrong answers: bytes left over ignored; the text written where it does not fit.
+// Wrong answers: the first byte as the highest of a word; bytes left over answered with no request lines.
 pub fn answer_block(start: Chip, bytes: &[u8], text: &mut [u8]) -> Answered
     ensures { λ r. ⌜ (r ≡ answered start (now (bytes .entry)) (now (text .entry))) × (now (text .exit) ≡ answeredText start (now (bytes .entry)) (now (text .entry))) ⌝ }
 {
