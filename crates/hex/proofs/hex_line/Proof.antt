@@ -18,4 +18,4 @@ hex-line-spec =
     (λ c κs. search needs)
     (λ c κs. search needs)
     (λ c κs. search needs)
-    (λ c. cc))
+    (λ c. simp (c .hex-digit8 .ensures, c .before .hex-digit7 .ensures, c .before .before .hex-digit6 .ensures, c .before .before .before .hex-digit5 .ensures, c .before .before .before .before .hex-digit4 .ensures, c .before .before .before .before .before .hex-digit3 .ensures, c .before .before .before .before .before .before .hex-digit2 .ensures, c .before .before .before .before .before .before .before .hex-digit .ensures)))
