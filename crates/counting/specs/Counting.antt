@@ -1,5 +1,5 @@
 -- Counting over a list of event words (document 01, "Counting sync"): what is counted, and what zeroes a count.
-use Prim.Native.Nat.{ℕ, _+_}
+use Prim.Native.Nat.{ℕ, _+_, _-_}
 use mathlib.Core.Bool.{Bool, true, false, not, _&&_, _||_}
 use mathlib.Core.List.{List, [], _∷_}
 use lib.Dec.{eqb, ltb}
@@ -10,6 +10,7 @@ use Rattle.events.specs.Clocks as clock
 use Rattle.events.specs.declared.Decoded.{Decoded}
 use Rattle.events.specs.declared.Decoded.the-variants.{Read, Write, Pin, Clock, Polarity, Refused}
 use Rattle.events.specs.Word.{decode}
+use Rattle.sync.specs.Sync.{intervalLast}
 use Rattle.chip.specs.declared.Chip.{Chip}
 use Rattle.chip.specs.State.{hselOf}
 use Rattle.outcome.specs.Outcome.{next}
@@ -59,14 +60,14 @@ writes register k value c (Polarity vertical level) = false
 writes register k value c (Refused n) = false
 
 -- HCNT: a reset, a 1 in CLRHOV of CLRFLG, HSEL written from 1 to 0; and, as latching does not in overflow, a rise of VSYNCI with
--- HSEL 1, and with HSEL 0 the 1,024th 8 µs clock, which finds the interval at 1,023
+-- HSEL 1, and with HSEL 0 the 1,024th 8 µs clock, which finds the interval at its last value
 unfoldable pub zeroesLines : Chip → Decoded → Bool
 zeroesLines c e =
     resets c e
     || (writes CLRFLG CLRHOV true c e
     || ((writes MDCON HSEL false c e && hselOf c)
     || ((risesVsynci c e && (hselOf c && not (c .sync .lines .overflow)))
-    || (isClock clock.period e && (c .reset && (not (hselOf c) && (ltb 1022 (c .sync .interval) && not (c .sync .lines .overflow))))))))
+    || (isClock clock.period e && (c .reset && (not (hselOf c) && (ltb (intervalLast - 1) (c .sync .interval) && not (c .sync .lines .overflow))))))))
 
 -- VCNT: a reset, a 1 in CLRVOV of CLRFLG, and, not in overflow, a rise of VSYNCI
 unfoldable pub zeroesPeriods : Chip → Decoded → Bool

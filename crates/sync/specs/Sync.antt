@@ -1,5 +1,5 @@
 -- The sync counters (document 01, "Counting sync").
-use Prim.Native.Nat.{ℕ, zero, suc}
+use Prim.Native.Nat.{ℕ, zero, suc, _+_}
 use mathlib.Core.Bool.{Bool, false, _&&_}
 use lib.Dec.{ltb}
 use Rattle.bits.specs.Byte.{pick}
@@ -135,11 +135,11 @@ zeroSync =
       interval = 0;
     }
 
--- "Numbers given back", well formed: 12 bits for counts and latches, 10 for the interval
+-- "Numbers given back", well formed: counts, latches and interval no more than their last values
 unfoldable pub wellSync : Sync → Bool
 wellSync s =
-    (((ltb (s .lines .count .0) 4096
-    && ltb (s .lines .latch .0) 4096)
-    && ltb (s .periods .count .0) 4096)
-    && ltb (s .periods .latch .0) 4096)
-    && ltb (s .interval) 1024
+    (((ltb (s .lines .count .0) (countLast + 1)
+    && ltb (s .lines .latch .0) (countLast + 1))
+    && ltb (s .periods .count .0) (countLast + 1))
+    && ltb (s .periods .latch .0) (countLast + 1))
+    && ltb (s .interval) (intervalLast + 1)
