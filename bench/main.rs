@@ -1,15 +1,10 @@
 //! Words a second: the proved list call, linked from its static library, beside the independent model in the same run.
 //! Usage: bench SEED COUNT
 
-#[allow(dead_code)]
-#[path = "../model/chip.rs"]
-mod chip;
-#[allow(dead_code)]
-#[path = "../model/traffic.rs"]
-mod traffic;
-
+use nt6861_model::{chip, traffic};
 use std::time::Instant;
 
+#[link(name = "capi", kind = "static")]
 extern "C" {
     fn nt6861_run(words: *const u32, count: usize, answers: *mut u32, places: usize) -> u8;
 }

@@ -8,9 +8,9 @@ work=$(mktemp -d)
 trap 'rm -rf "$work"' EXIT
 rt check replay > "$work/log" || { cat "$work/log"; exit 1; }
 rt staticlib capi > "$work/log" || { cat "$work/log"; exit 1; }
-rustc -O --edition 2021 -L target/staticlib -l static=capi -o "$work/bench" bench/main.rs
-rustc -O --edition 2021 -o "$work/model" model/main.rs
-"$work/bench" "$seed"
+cargo build --offline --quiet --release --features proved --bin bench --bin model
+model=target/cargo/release/model
+target/cargo/release/bench "$seed"
 
 # the best of three runs, in seconds
 seconds() {
@@ -27,8 +27,8 @@ seconds() {
 
 echo "MB of words, replay in s, model in s, ratio of speeds"
 for mb in 1 4 16 64; do
-    "$work/model" words "$seed" $((mb * 262144)) > "$work/words"
+    "$model" words "$seed" $((mb * 262144)) > "$work/words"
     ours=$(seconds target/bin/replay)
-    theirs=$(seconds "$work/model" answers)
+    theirs=$(seconds "$model" answers)
     echo "$mb $ours $theirs" | awk '{ printf "%d, %.3f, %.3f, %.2f\n", $1, $2, $3, $3 / $2 }'
 done

@@ -1,21 +1,15 @@
-//! A second, independent model of the NT6861 peripherals, for comparison by running.
-//!
-//! It is written from document 01 and the readings in docs/DECISIONS.md, and shares no code with the
-//! proved crates. One program reads words and answers them, makes seeded words, and compares another program's answers with its own.
+//! The independent model as a program: it reads words and answers them, makes seeded words, and compares another program's
+//! answers with its own.
 
-mod chip;
-mod coverage;
-#[cfg(test)]
-mod tests;
-mod traffic;
-
-use chip::Chip;
+use nt6861_model::chip::Chip;
+use nt6861_model::coverage;
+use nt6861_model::replay::{generate, replay};
+use nt6861_model::traffic::Traffic;
 use std::fs;
 use std::hint::black_box;
 use std::io::{self, Read, Write};
 use std::process::ExitCode;
 use std::time::Instant;
-use traffic::Traffic;
 
 const USAGE: &str = "usage:
   model answers                          words on standard input, answers on standard output
@@ -34,7 +28,7 @@ fn main() -> ExitCode {
         ["words", seed, count, tail] => words(seed, count, tail),
         ["compare", seed, count, file] => compare(seed, count, file, "0"),
         ["compare", seed, count, file, tail] => compare(seed, count, file, tail),
-        ["coverage", seed, count] => coverage(seed, count),
+        ["coverage", seed, count] => covered(seed, count),
         ["time", count] => time(count),
         _ => Err(USAGE.to_string()),
     };
@@ -68,32 +62,6 @@ fn print_bytes(bytes: &[u8]) -> Result<bool, String> {
     Ok(true)
 }
 
-fn push_line(out: &mut Vec<u8>, answer: u32) {
-    const DIGITS: &[u8; 16] = b"0123456789ABCDEF";
-    for place in (0..8).rev() {
-        out.push(DIGITS[(answer >> (4 * place) & 0xF) as usize]);
-    }
-    out.push(b'\n');
-}
-
-/// The answers to a stream of bytes, one a line, from a fresh chip.
-pub fn replay(bytes: &[u8]) -> Vec<u8> {
-    let mut chip = Chip::fresh();
-    let mut out = Vec::with_capacity(bytes.len() / 4 * 9 + 9);
-    let words = bytes.chunks_exact(4);
-    let leftover = !words.remainder().is_empty();
-    for word in words {
-        push_line(
-            &mut out,
-            chip.step(u32::from_le_bytes([word[0], word[1], word[2], word[3]])),
-        );
-    }
-    if leftover {
-        push_line(&mut out, chip.answer_to_leftover());
-    }
-    out
-}
-
 fn answers() -> Result<bool, String> {
     let mut bytes = Vec::new();
     io::stdin()
@@ -101,16 +69,6 @@ fn answers() -> Result<bool, String> {
         .read_to_end(&mut bytes)
         .map_err(|error| error.to_string())?;
     print_bytes(&replay(&bytes))
-}
-
-fn generate(seed: u64, count: usize, tail: usize) -> Vec<u8> {
-    let mut bytes = Vec::with_capacity(4 * count + tail);
-    for word in Traffic::new(seed).take(count) {
-        bytes.extend(word.to_le_bytes());
-    }
-    // Any bytes will do; these would begin a read of IRQX.
-    bytes.extend(&[0x00, 0x10, 0x00][..tail]);
-    bytes
 }
 
 fn words(seed: &str, count: &str, tail: &str) -> Result<bool, String> {
@@ -155,7 +113,7 @@ fn compare(seed: &str, count: &str, file: &str, tail: &str) -> Result<bool, Stri
     Ok(false)
 }
 
-fn coverage(seed: &str, count: &str) -> Result<bool, String> {
+fn covered(seed: &str, count: &str) -> Result<bool, String> {
     Ok(coverage::report(number(seed)?, number(count)?))
 }
 

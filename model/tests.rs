@@ -1,8 +1,9 @@
 //! The cases of document 01, more worked out from its rules, and checks of the generator.
 
 use crate::chip::{flag, pin, Chip, Counter, Phase};
+use crate::coverage;
+use crate::replay::{generate, replay};
 use crate::traffic::Traffic;
-use crate::{coverage, generate, replay};
 
 /// A chip with calls for events that must not be refused.
 struct Rig(Chip);

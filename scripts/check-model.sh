@@ -6,14 +6,14 @@ set -euo pipefail
 cd "$(dirname "$0")/.."
 work=$(mktemp -d)
 trap 'rm -rf "$work"' EXIT
-rustc -O --edition 2021 -o "$work/model" model/main.rs
-rustc -O --edition 2021 --test -o "$work/tests" model/main.rs
-"$work/tests" --quiet > "$work/tests.log" 2>&1 || { cat "$work/tests.log"; exit 1; }
+cargo build --offline --quiet --release --bin model
+cargo test --offline --quiet --release > "$work/tests.log" 2>&1 || { cat "$work/tests.log"; exit 1; }
+model=target/cargo/release/model
 seed=${SEED:-1}
 count=${COUNT:-500000}
 for tail in 0 1 2 3; do
-    "$work/model" words "$seed" "$count" "$tail" > "$work/words"
+    "$model" words "$seed" "$count" "$tail" > "$work/words"
     target/bin/replay < "$work/words" > "$work/answers"
-    "$work/model" compare "$seed" "$count" "$work/answers" "$tail"
+    "$model" compare "$seed" "$count" "$work/answers" "$tail"
     seed=$((seed + 1))
 done

@@ -6,8 +6,6 @@ cd "$(dirname "$0")/.."
 work=$(mktemp -d)
 trap 'rm -rf "$work"' EXIT
 rt staticlib rates_capi > "$work/log" 2>&1 || { cat "$work/log"; exit 1; }
-build() { rustc -O --edition 2021 -L target/staticlib -l static=rates_capi "$@" tests/rates.rs; }
-build --test -o "$work/tests"
-"$work/tests" --quiet > "$work/log" 2>&1 || { cat "$work/log"; exit 1; }
-build -o "$work/rates"
-"$work/rates"
+cargo test --offline --quiet --release --features proved --bin rates > "$work/log" 2>&1 || { cat "$work/log"; exit 1; }
+cargo build --offline --quiet --release --features proved --bin rates
+target/cargo/release/rates

@@ -1,6 +1,7 @@
 //! The proved rates, linked from their static library, beside an independent computation, bit for bit: division of whole
 //! numbers, rounded to nearest even, with no arithmetic on doubles. Every latch, and every pair of latches.
 
+#[link(name = "rates_capi", kind = "static")]
 extern "C" {
     fn nt6861_field_rate(v: u16) -> f64;
     fn nt6861_interval_rate(h: u16) -> f64;

@@ -1,0 +1,10 @@
+//! A second, independent model of the NT6861 peripherals, for comparison by running.
+//!
+//! It is written from document 01 and the readings in docs/DECISIONS.md, and shares no code with the proved crates.
+
+pub mod chip;
+pub mod coverage;
+pub mod replay;
+#[cfg(test)]
+mod tests;
+pub mod traffic;

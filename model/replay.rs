@@ -1,0 +1,41 @@
+//! Bytes to answers as text, and generated words as bytes.
+
+use crate::chip::Chip;
+use crate::traffic::Traffic;
+
+fn push_line(out: &mut Vec<u8>, answer: u32) {
+    const DIGITS: &[u8; 16] = b"0123456789ABCDEF";
+    for place in (0..8).rev() {
+        out.push(DIGITS[(answer >> (4 * place) & 0xF) as usize]);
+    }
+    out.push(b'\n');
+}
+
+/// The answers to a stream of bytes, one a line, from a fresh chip.
+pub fn replay(bytes: &[u8]) -> Vec<u8> {
+    let mut chip = Chip::fresh();
+    let mut out = Vec::with_capacity(bytes.len() / 4 * 9 + 9);
+    let words = bytes.chunks_exact(4);
+    let leftover = !words.remainder().is_empty();
+    for word in words {
+        push_line(
+            &mut out,
+            chip.step(u32::from_le_bytes([word[0], word[1], word[2], word[3]])),
+        );
+    }
+    if leftover {
+        push_line(&mut out, chip.answer_to_leftover());
+    }
+    out
+}
+
+/// `count` words of the generator, lowest byte first, then `tail` bytes more.
+pub fn generate(seed: u64, count: usize, tail: usize) -> Vec<u8> {
+    let mut bytes = Vec::with_capacity(4 * count + tail);
+    for word in Traffic::new(seed).take(count) {
+        bytes.extend(word.to_le_bytes());
+    }
+    // Any bytes will do; these would begin a read of IRQX.
+    bytes.extend(&[0x00, 0x10, 0x00][..tail]);
+    bytes
+}
