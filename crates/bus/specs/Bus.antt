@@ -55,7 +55,7 @@ pullsSda (Addressed bits ninth) = ninth
 pullsSda Ignoring = false
 pullsSda (Receive count bits) = eqb count 9
 pullsSda (Transmit count byte) = pullsAtBit count byte
-pullsSda Held = false
+pullsSda (Held clocks) = false
 
 -- the SCL line pulled by the phase: the chip holds the clock
 unfoldable pub pullsScl : Phase → Bool
@@ -65,7 +65,7 @@ pullsScl (Addressed bits ninth) = false
 pullsScl Ignoring = false
 pullsScl (Receive count bits) = false
 pullsScl (Transmit count byte) = false
-pullsScl Held = true
+pullsScl (Held clocks) = true
 
 -- SDA pulled: with DDC off never; in DDC1 while the shift register's top bit is 0; in DDC2B as the phase says
 unfoldable pub sdaPulled : Mode → Phase → Shifter → Bool

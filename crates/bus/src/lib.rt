@@ -22,15 +22,30 @@ pub enum Edge {
 // The phase of the bus (document 01, "The forms we expect"). An address gathers up to seven bits; with its eighth it is the chip's
 // own, `Addressed`, or the bus is ignored. `ninth`: the eighth fall has pulled SDA, and the ninth clock runs. A receive counts the
 // bits gathered, 0 to 8; in the ninth clock it stands at 9 where SDA is pulled (ACK) and at 10 where it is released (NACK). A
-// transmit counts the bits put out, 1 to 8; at 9 the acknowledge is awaited and at 10 it has been taken.
+// transmit counts the bits put out, 1 to 8; at 9 the acknowledge is awaited and at 10 it has been taken. `Held`: the chip holds SCL
+// low (clock stretching), for so many clocks of 8 µs.
 pub enum Phase {
     Idle,
-    Address { count: u8, bits: u8 },
-    Addressed { bits: u8, ninth: bool },
+    Address {
+        count: u8,
+        bits: u8,
+    },
+    Addressed {
+        bits: u8,
+        ninth: bool,
+    },
     Ignoring,
-    Receive { count: u8, bits: u8 },
-    Transmit { count: u8, byte: u8 },
-    Held,
+    Receive {
+        count: u8,
+        bits: u8,
+    },
+    Transmit {
+        count: u8,
+        byte: u8,
+    },
+    Held {
+        clocks: u16,
+    },
 }
 
 // The shift register of DDC1, and the rises of VSYNCI left before the next load.
@@ -116,7 +131,7 @@ pub fn pulls_sda(phase: Phase) -> bool
         Phase::Ignoring => false,
         Phase::Receive { count, bits: _ } => count == 9,
         Phase::Transmit { count, byte } => pulls_at_bit(count, byte),
-        Phase::Held => false,
+        Phase::Held { clocks: _ } => false,
     }
 }
 
@@ -132,7 +147,7 @@ pub fn pulls_scl(phase: Phase) -> bool
         Phase::Ignoring => false,
         Phase::Receive { count: _, bits: _ } => false,
         Phase::Transmit { count: _, byte: _ } => false,
-        Phase::Held => true,
+        Phase::Held { clocks: _ } => true,
     }
 }
 

@@ -76,7 +76,7 @@ hit-is own sda (Addressed bits ninth) = refl
 hit-is own sda Ignoring = refl
 hit-is own sda (Receive count bits) = refl
 hit-is own sda (Transmit count byte) = refl
-hit-is own sda Held = refl
+hit-is own sda (Held clocks) = refl
 
 ninth-is : (p : Phase) → holdsAtFall p ≡ inNinthClock p
 unfolding holdsAtFall
@@ -86,7 +86,7 @@ ninth-is (Addressed bits ninth) = refl
 ninth-is Ignoring = refl
 ninth-is (Receive count bits) = refl
 ninth-is (Transmit count byte) = refl
-ninth-is Held = refl
+ninth-is (Held clocks) = refl
 
 abbrev hits : Core → Bool
 hits c = completesMatch (c .bus .iiadr) (line (pullsSda (c .bus .phase)) (c .sda)) (c .bus .phase)

@@ -108,7 +108,7 @@ completesMatch own sda (Addressed bits ninth) = false
 completesMatch own sda Ignoring = false
 completesMatch own sda (Receive count bits) = false
 completesMatch own sda (Transmit count byte) = false
-completesMatch own sda Held = false
+completesMatch own sda (Held clocks) = false
 
 -- the ninth clock of a byte runs, acknowledged or not, or the acknowledge of a transmit was taken: the next fall ends it
 abbrev pub inNinthClock : Phase → Bool
@@ -118,7 +118,7 @@ inNinthClock (Addressed bits ninth) = ninth
 inNinthClock Ignoring = false
 inNinthClock (Receive count bits) = ltb 8 count
 inNinthClock (Transmit count byte) = eqb count 10
-inNinthClock Held = false
+inNinthClock (Held clocks) = false
 
 -- ---- causes
 

@@ -8,11 +8,13 @@ use Rattle.events.specs.Clocks as clock
 use Rattle.sync.specs.Sync.{onPeriod}
 use Rattle.counters.specs.Count.{timerNext, timerOverflows, watchdogNext, watchdogFires}
 use Rattle.chip.specs.declared.Core.{Core}
-use Rattle.chip.specs.State.{hselOf, resetCore, raised, withBt, withWatchdog, withSync, withPolarity}
+use Rattle.chip.specs.State.{hselOf, resetCore, raised, withBt, withWatchdog, withSync, withBus, withPolarity}
+use Rattle.ddc2b.specs.Ddc2b.{phaseAtPeriod}
+use Rattle.edges.specs.Edges.{withPhase}
 
--- 8 µs: VCNT steps, and with HSEL 0 the interval
+-- 8 µs: VCNT steps, and with HSEL 0 the interval; a hold of SCL has lasted one clock more
 unfoldable pub periodClock : Core → Core
-periodClock c = withSync c (onPeriod (hselOf c) (c .sync))
+periodClock c = withBus (withSync c (onPeriod (hselOf c) (c .sync))) (withPhase (c .bus) (phaseAtPeriod (c .bus .phase)))
 
 -- the base timer runs while ENBT of BTCON is 0, on the base clock that TBS selects
 unfoldable pub timerRuns : ℕ → ℕ → Bool

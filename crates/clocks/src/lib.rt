@@ -14,13 +14,16 @@ use registers::INTR;
 use registers::TBS;
 use registers::VPOLI;
 
-// A clock of 8 µs: VCNT steps, and with HSEL 0 the interval runs.
+// A clock of 8 µs: VCNT steps, with HSEL 0 the interval runs, and a hold of SCL has lasted one clock more.
 // Wrong answers: HSEL taken inverted; the base timer stepped too.
 pub fn period_clock(c: Core) -> Core
     ensures { λ r. ⌜ r ≡ periodClock c ⌝ }
 {
     let counters = c.sync;
-    chip::with_sync(c, sync::on_period(chip::hsel(c), counters))
+    let b = c.bus;
+    let phase = b.phase;
+    let n = chip::with_sync(c, sync::on_period(chip::hsel(c), counters));
+    chip::with_bus(n, edges::with_phase(b, ddc2b::phase_at_period(phase)))
 }
 
 fn timer_runs(btcon: u8, k: u8) -> bool

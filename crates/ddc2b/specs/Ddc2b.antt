@@ -45,7 +45,7 @@ phaseAtRise own sda (Addressed bits ninth) = Addressed bits ninth
 phaseAtRise own sda Ignoring = Ignoring
 phaseAtRise own sda (Receive count bits) = pick (ltb count 8) (Receive (count + 1) (gathered bits sda)) (Receive count bits)
 phaseAtRise own sda (Transmit count byte) = pick (eqb count 9) (Transmit 10 byte) (Transmit count byte)
-phaseAtRise own sda Held = Held
+phaseAtRise own sda (Held clocks) = Held clocks
 
 -- with the eighth bit gathered II DAT holds the byte, a foreign address too
 unfoldable pub dataAtRise : Bool → Phase → ℕ → ℕ
@@ -55,7 +55,7 @@ dataAtRise sda (Addressed bits ninth) byte = byte
 dataAtRise sda Ignoring byte = byte
 dataAtRise sda (Receive count bits) byte = pick (eqb count 7) (gathered bits sda) byte
 dataAtRise sda (Transmit count sent) byte = byte
-dataAtRise sda Held byte = byte
+dataAtRise sda (Held clocks) byte = byte
 
 -- flag A is set where the eighth address bit completes an address that matches
 unfoldable pub matchesAtRise : ℕ → Bool → Phase → Bool
@@ -65,7 +65,7 @@ matchesAtRise own sda (Addressed bits ninth) = false
 matchesAtRise own sda Ignoring = false
 matchesAtRise own sda (Receive count bits) = false
 matchesAtRise own sda (Transmit count byte) = false
-matchesAtRise own sda Held = false
+matchesAtRise own sda (Held clocks) = false
 
 -- the first rise after the eighth fall of a transmit puts SDA in RXAK of II STS
 unfoldable pub statusAtRise : Bool → Phase → ℕ → ℕ
@@ -75,7 +75,7 @@ statusAtRise sda (Addressed bits ninth) status = status
 statusAtRise sda Ignoring status = status
 statusAtRise sda (Receive count bits) status = status
 statusAtRise sda (Transmit count byte) status = pick (eqb count 9) (withBit status RXAK sda) status
-statusAtRise sda Held status = status
+statusAtRise sda (Held clocks) status = status
 
 -- ---- a fall of the SCL line
 -- the fall that ends the ninth clock of a byte, acknowledged or not: flag D is set and the chip holds SCL low
@@ -86,7 +86,7 @@ holdsAtFall (Addressed bits ninth) = ninth
 holdsAtFall Ignoring = false
 holdsAtFall (Receive count bits) = ltb 8 count
 holdsAtFall (Transmit count byte) = eqb count 10
-holdsAtFall Held = false
+holdsAtFall (Held clocks) = false
 
 -- a received byte is acknowledged where TXAK of II STS is 0 (document 02, Wish 2)
 unfoldable pub acknowledges : ℕ → Bool
@@ -96,16 +96,30 @@ acknowledges status = not (bit TXAK status)
 abbrev pub ninthClock : ℕ → ℕ
 ninthClock status = pick (acknowledges status) 9 10
 
--- after eight bits a fall begins the ninth clock and the next one holds; a matched address is always acknowledged. A transmit puts
+-- after eight bits a fall begins the ninth clock and the next one holds, for no clock of 8 µs yet; a matched address is always acknowledged. A transmit puts
 -- the next bit, releases SDA at the eighth fall, waits there for the acknowledge, and holds once it was taken
 unfoldable pub phaseAtFall : ℕ → Phase → Phase
 phaseAtFall status Idle = Idle
 phaseAtFall status (Address count bits) = Address count bits
-phaseAtFall status (Addressed bits ninth) = pick ninth Held (Addressed bits true)
+phaseAtFall status (Addressed bits ninth) = pick ninth (Held 0) (Addressed bits true)
 phaseAtFall status Ignoring = Ignoring
-phaseAtFall status (Receive count bits) = pick (ltb 8 count) Held (pick (eqb count 8) (Receive (ninthClock status) bits) (Receive count bits))
-phaseAtFall status (Transmit count byte) = pick (ltb count 9) (Transmit (count + 1) byte) (pick (eqb count 10) Held (Transmit count byte))
-phaseAtFall status Held = Held
+phaseAtFall status (Receive count bits) = pick (ltb 8 count) (Held 0) (pick (eqb count 8) (Receive (ninthClock status) bits) (Receive count bits))
+phaseAtFall status (Transmit count byte) = pick (ltb count 9) (Transmit (count + 1) byte) (pick (eqb count 10) (Held 0) (Transmit count byte))
+phaseAtFall status (Held clocks) = Held clocks
+
+-- ---- a clock of 8 µs
+-- the clocks of 8 µs since the chip took SCL low, up to 65,535 (document 02, Wish 9)
+unfoldable pub heldLonger : ℕ → ℕ
+heldLonger clocks = pick (ltb clocks 65535) (clocks + 1) clocks
+
+unfoldable pub phaseAtPeriod : Phase → Phase
+phaseAtPeriod Idle = Idle
+phaseAtPeriod (Address count bits) = Address count bits
+phaseAtPeriod (Addressed bits ninth) = Addressed bits ninth
+phaseAtPeriod Ignoring = Ignoring
+phaseAtPeriod (Receive count bits) = Receive count bits
+phaseAtPeriod (Transmit count byte) = Transmit count byte
+phaseAtPeriod (Held clocks) = Held (heldLonger clocks)
 
 -- ---- letting SCL go
 -- a write to II DAT while held: TRX of II STS at 1 puts bit 7 of the byte on SDA; at 0 a receive begins

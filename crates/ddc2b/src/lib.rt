@@ -1,7 +1,7 @@
 // DDC2B: the phases of a transfer. What each edge of the SCL line does to the phase, to II DAT, to RXAK and to the flags.
 ghost use mathlib.Core.Path.{_≡_};
 ghost use Rattle.bus.specs.declared.Phase.{Phase};
-ghost use Rattle.ddc2b.specs.Ddc2b.{matches as matchesOf, gathered as gatheredBits, addressed as addressedOf, phaseAtRise, dataAtRise, matchesAtRise, statusAtRise, holdsAtFall, acknowledges as acknowledgesOf, ninthClock, phaseAtFall, phaseLetGo};
+ghost use Rattle.ddc2b.specs.Ddc2b.{matches as matchesOf, gathered as gatheredBits, addressed as addressedOf, phaseAtRise, dataAtRise, matchesAtRise, statusAtRise, holdsAtFall, acknowledges as acknowledgesOf, ninthClock, phaseAtFall, heldLonger, phaseAtPeriod, phaseLetGo};
 use bus::Phase;
 use registers::RXAK;
 use registers::TXAK;
@@ -93,7 +93,7 @@ pub fn phase_at_rise(own: u8, sda: bool, phase: Phase) -> Phase
         Phase::Ignoring => phase,
         Phase::Receive { count, bits } => receive_at_rise(own, sda, count, bits),
         Phase::Transmit { count, byte } => transmit_at_rise(own, sda, count, byte),
-        Phase::Held => phase,
+        Phase::Held { clocks: _ } => phase,
     }
 }
 
@@ -107,15 +107,9 @@ pub fn data_at_rise(sda: bool, phase: Phase, byte: u8) -> u8
         Phase::Address { count, bits } => { if count < 7 { byte } else { gathered(bits, sda) } }
         Phase::Addressed { bits: _, ninth: _ } => byte,
         Phase::Ignoring => byte,
-        Phase::Receive { count, bits } => {
-            if count == 7 {
-                gathered(bits, sda)
-            } else {
-                byte
-            }
-        }
+        Phase::Receive { count, bits } => { if count == 7 { gathered(bits, sda) } else { byte } }
         Phase::Transmit { count: _, byte: _ } => byte,
-        Phase::Held => byte,
+        Phase::Held { clocks: _ } => byte,
     }
 }
 
@@ -137,7 +131,7 @@ pub fn matches_at_rise(own: u8, sda: bool, phase: Phase) -> bool
         Phase::Ignoring => false,
         Phase::Receive { count: _, bits: _ } => false,
         Phase::Transmit { count: _, byte: _ } => false,
-        Phase::Held => false,
+        Phase::Held { clocks: _ } => false,
     }
 }
 
@@ -159,7 +153,7 @@ pub fn status_at_rise(sda: bool, phase: Phase, status: u8) -> u8
                 status
             }
         }
-        Phase::Held => status,
+        Phase::Held { clocks: _ } => status,
     }
 }
 
@@ -175,7 +169,7 @@ pub fn holds_at_fall(phase: Phase) -> bool
         Phase::Ignoring => false,
         Phase::Receive { count, bits: _ } => 8 < count,
         Phase::Transmit { count, byte: _ } => count == 10,
-        Phase::Held => false,
+        Phase::Held { clocks: _ } => false,
     }
 }
 
@@ -191,7 +185,7 @@ fn addressed_at_fall(status: u8, bits: u8, ninth: bool) -> Phase
     ensures { λ r. ⌜ r ≡ phaseAtFall status (Phase.Addressed bits ninth) ⌝ }
 {
     if ninth {
-        Phase::Held
+        Phase::Held { clocks: 0 }
     } else {
         Phase::Addressed {
             bits: bits,
@@ -210,7 +204,7 @@ fn receive_at_fall(status: u8, count: u8, bits: u8) -> Phase
     ensures { λ r. ⌜ r ≡ phaseAtFall status (Phase.Receive count bits) ⌝ }
 {
     if 8 < count {
-        return Phase::Held;
+        return Phase::Held { clocks: 0 };
     }
     if count == 8 {
         Phase::Receive {
@@ -235,7 +229,7 @@ fn transmit_at_fall(status: u8, count: u8, byte: u8) -> Phase
         };
     }
     if count == 10 {
-        Phase::Held
+        Phase::Held { clocks: 0 }
     } else {
         Phase::Transmit {
             count: count,
@@ -256,7 +250,30 @@ pub fn phase_at_fall(status: u8, phase: Phase) -> Phase
         Phase::Ignoring => phase,
         Phase::Receive { count, bits } => receive_at_fall(status, count, bits),
         Phase::Transmit { count, byte } => transmit_at_fall(status, count, byte),
-        Phase::Held => phase,
+        Phase::Held { clocks: _ } => phase,
+    }
+}
+
+// One clock of 8 µs more, up to 65,535.
+fn held_longer(clocks: u16) -> u16
+    ensures { λ r. ⌜ r ≡ heldLonger clocks ⌝ }
+{
+    if clocks < 65535 { clocks + 1 } else { clocks }
+}
+
+// The phase after a clock of 8 µs: a hold has lasted one more.
+// Wrong answers: the count begun anew at 65,535; the count as it was.
+pub fn phase_at_period(phase: Phase) -> Phase
+    ensures { λ r. ⌜ r ≡ phaseAtPeriod phase ⌝ }
+{
+    match phase {
+        Phase::Idle => phase,
+        Phase::Address { count: _, bits: _ } => phase,
+        Phase::Addressed { bits: _, ninth: _ } => phase,
+        Phase::Ignoring => phase,
+        Phase::Receive { count: _, bits: _ } => phase,
+        Phase::Transmit { count: _, byte: _ } => phase,
+        Phase::Held { clocks } => Phase::Held { clocks: held_longer(clocks) },
     }
 }
 

@@ -14,7 +14,9 @@ use registers::MD12;
 use registers::START;
 use registers::STOP;
 
-fn with_phase(b: Bus, phase: Phase) -> Bus
+// The bus with its phase put anew.
+// Wrong answers: the phase as it was; II DAT cleared.
+pub fn with_phase(b: Bus, phase: Phase) -> Bus
     ensures { λ r. ⌜ r ≡ withPhase b phase ⌝ }
 {
     let shifter = b.shifter;

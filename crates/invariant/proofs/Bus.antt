@@ -21,7 +21,7 @@ use Rattle.bus.specs.declared.Phase.the-variants.{Idle, Address, Addressed, Ign
 use Rattle.bus.specs.declared.Shifter.{Shifter}
 use Rattle.bus.specs.Bus.{mode, modeBy, changesMode, pullsScl}
 use Rattle.bus.specs.Ddc1.{shifter, unusedShifter, shifterAtRise}
-use Rattle.ddc2b.specs.Ddc2b.{matches, gathered, startStatus, startPhase, stopStatus, addressed, phaseAtRise, statusAtRise, acknowledges, ninthClock, phaseAtFall, phaseLetGo}
+use Rattle.ddc2b.specs.Ddc2b.{matches, gathered, startStatus, startPhase, stopStatus, addressed, phaseAtRise, statusAtRise, acknowledges, ninthClock, phaseAtFall, phaseAtPeriod, phaseLetGo}
 use Rattle.chip.specs.declared.Bus.{Bus}
 use Rattle.chip.specs.State.{busOf, released}
 use Rattle.well_formed.specs.WellFormed.{gatheredFits, phaseFits, isIdle, isUnused, busFits}
@@ -80,7 +80,7 @@ phase-at-rise own sda (Receive count bits) t =
     (λ e. let few = ltb-true count 8 e in and-both _ _ (lt-ltb (count + 1) 11 (omega arith)) (gathers count bits sda few (both (ltb count 11) (gatheredFits count bits) t .1)))
     (λ _. t)
 phase-at-rise own sda (Transmit count byte) t = pick-by Fits (eqb count 9) (λ _. refl) (λ _. t)
-phase-at-rise own sda Held t = refl
+phase-at-rise own sda (Held clocks) t = refl
 
 phase-at-fall : (status : ℕ) (p : Phase) → Fits p → Fits (phaseAtFall status p)
 unfolding phaseAtFall phaseFits
@@ -96,7 +96,7 @@ phase-at-fall status (Transmit count byte) t =
     pick-by Fits (ltb count 9)
     (λ e. and-both _ _ (lt-ltb 0 (count + 1) (omega arith)) (lt-ltb (count + 1) 11 (omega (arith, ltb-true count 9 e))))
     (λ _. pick-by Fits (eqb count 10) (λ _. refl) (λ _. t))
-phase-at-fall status Held t = refl
+phase-at-fall status (Held clocks) t = refl
 
 phase-let-go : (trx : Bool) (byte : ℕ) → Fits (phaseLetGo trx byte)
 unfolding phaseFits gatheredFits
@@ -129,7 +129,7 @@ status-bit sda (Addressed bits ninth) status = refl
 status-bit sda Ignoring status = refl
 status-bit sda (Receive count bits) status = refl
 status-bit sda (Transmit count byte) status = pick-by (λ (n : ℕ). bit 3 n ≡ bit 3 status) (eqb count 9) (λ _. rxak-bit status sda) (λ _. refl)
-status-bit sda Held status = refl
+status-bit sda (Held clocks) status = refl
 
 status-lt : (sda : Bool) (p : Phase) (status : ℕ) → status < 64 → statusAtRise sda p status < 64
 unfolding statusAtRise
@@ -139,7 +139,7 @@ status-lt sda (Addressed bits ninth) status h = h
 status-lt sda Ignoring status h = h
 status-lt sda (Receive count bits) status h = h
 status-lt sda (Transmit count byte) status h = pick-below (eqb count 9) _ _ 64 (with-bit-below 6 status 1 sda (omega arith) h) h
-status-lt sda Held status h = h
+status-lt sda (Held clocks) status h = h
 
 -- modes that do not differ by their number are the same
 mode-same : (old new : Mode) → changesMode old new ≡ false → old ≡ new
@@ -228,7 +228,7 @@ idle-lets-go (Addressed bits ninth) t = refl
 idle-lets-go Ignoring t = refl
 idle-lets-go (Receive count bits) t = refl
 idle-lets-go (Transmit count byte) t = refl
-idle-lets-go Held t = absurd (impossible t)
+idle-lets-go (Held clocks) t = absurd (impossible t)
 
 -- so SCL is held in DDC2B alone
 pub held-in-ddc2b : (m : Mode) (p : Phase) (s : Shifter) → busFits m p s ≡ true → pullsScl p ≡ true → m ≡ Ddc2b
@@ -236,6 +236,38 @@ unfolding busFits
 held-in-ddc2b Off p s t h = let low = idle-lets-go p (both _ _ t .0) in absurd (impossible (sym low ∙ h))
 held-in-ddc2b Ddc1 p s t h = let low = idle-lets-go p (both _ _ t .0) in absurd (impossible (sym low ∙ h))
 held-in-ddc2b Ddc2b p s t h = refl
+
+-- ---- a clock of 8 µs: a hold of SCL lasts one clock longer, in the mode that it was in
+
+period-idle : (p : Phase) → isIdle (phaseAtPeriod p) ≡ isIdle p
+unfolding phaseAtPeriod isIdle
+period-idle Idle = refl
+period-idle (Address count bits) = refl
+period-idle (Addressed bits ninth) = refl
+period-idle Ignoring = refl
+period-idle (Receive count bits) = refl
+period-idle (Transmit count byte) = refl
+period-idle (Held clocks) = refl
+
+period-phase : (p : Phase) → phaseFits (phaseAtPeriod p) ≡ phaseFits p
+unfolding phaseAtPeriod phaseFits
+period-phase Idle = refl
+period-phase (Address count bits) = refl
+period-phase (Addressed bits ninth) = refl
+period-phase Ignoring = refl
+period-phase (Receive count bits) = refl
+period-phase (Transmit count byte) = refl
+period-phase (Held clocks) = refl
+
+period-fits : (m : Mode) (p : Phase) (s : Shifter) → busFits m (phaseAtPeriod p) s ≡ busFits m p s
+unfolding busFits
+period-fits Off p s = rw (period-idle p)
+period-fits Ddc1 p s = rw (period-idle p)
+period-fits Ddc2b p s = rw (period-phase p)
+
+pub period-formed : (mdcon : ℕ) (b : Bus) → BusFormed mdcon b → BusFormed mdcon (withPhase b (phaseAtPeriod (b .phase)))
+period-formed mdcon b f =
+    record { iists = f .iists; iiadr = f .iiadr; fits = period-fits (mode (b .iists) mdcon) (b .phase) (b .shifter) ∙ f .fits }
 
 -- ---- DDC1
 

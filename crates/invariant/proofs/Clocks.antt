@@ -12,7 +12,8 @@ use Rattle.sync.proofs.WellFormed.{period-well}
 use Rattle.chip.specs.declared.Core.{Core}
 use Rattle.chip.specs.State.{hselOf}
 use Rattle.clocks.specs.Clocks.{periodClock, timerRuns, timerStep, timerClock, watchdogClock, clockedAs, clocked, polarityFound}
-use Rattle.invariant.proofs.Formed.{Formed, with-flags, with-polarity, with-bt, with-watchdog, with-sync}
+use Rattle.invariant.proofs.Formed.{Formed, with-flags, with-polarity, with-bt, with-watchdog, with-sync, with-bus}
+use Rattle.invariant.proofs.Bus.{period-formed}
 use Rattle.invariant.proofs.Ranges.{with-bit-below, pick-below}
 use Rattle.invariant.proofs.Reset.{reset-core-formed}
 
@@ -32,7 +33,7 @@ clocked-as-formed : (btcon : ℕ) (c : Core) (k : ℕ) → Formed c → Formed (
 unfolding clockedAs periodClock
 clocked-as-formed btcon c k f =
     pick-by Formed (eqb k 0)
-    (λ _. with-sync f _ (period-well (hselOf c) (c .sync) (f .sync)))
+    (λ _. with-bus (with-sync f _ (period-well (hselOf c) (c .sync) (f .sync))) _ (period-formed (c .mdcon) (c .bus) (f .bus)))
     (λ _. pick-by Formed (eqb k 3) (λ _. watchdog-formed c f) (λ _. timer-formed btcon c k f))
 
 pub clock-formed : (btcon : ℕ) (c : Core) (k : ℕ) → Formed c → Formed (clocked btcon c k)

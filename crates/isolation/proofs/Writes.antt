@@ -11,6 +11,7 @@ use Rattle.registers.specs.Table.{isWritable}
 use Rattle.events.specs.declared.Decoded.the-variants.{Write, Clock}
 use Rattle.bus.specs.declared.Phase.{Phase}
 use Rattle.bus.specs.Bus.{changesMode}
+use Rattle.ddc2b.specs.Ddc2b.{phaseAtPeriod}
 use Rattle.chip.specs.declared.Core.{Core}
 use Rattle.chip.specs.State.{busOf, withBus, withMdcon, withSync, withPolarity, withBt, withWatchdog, withReset}
 use Rattle.counters.specs.Count.{cycleNext, timerOverflows, watchdogNext, watchdogFires}
@@ -23,7 +24,7 @@ use Rattle.registers.specs.Table.{updated}
 use Rattle.clocks.specs.Clocks.{periodClock, timerRuns, timerStep, timerClock, watchdogClock, clockedAs, clocked, polarityFound}
 use Rattle.isolation.specs.Foreign.{Trace, Observer, observe, permitted, turnsOff, asksDdc1}
 use Rattle.isolation.proofs.Bits.{address-written, md-written, enddc-written}
-use Rattle.isolation.proofs.Related.{frame, observer, Apart, KeptBy, Related, related, left-released, right-released, kept-status, kept-mdcon, kept-raised-if, kept-cleared}
+use Rattle.isolation.proofs.Related.{frame, observer, Apart, idle, ignoring, address, KeptBy, Related, related, left-released, right-released, kept-status, kept-mdcon, kept-raised-if, kept-cleared}
 
 -- ---- writes
 
@@ -79,11 +80,18 @@ watchdog-related btcon (related g true s x x′ y y′ k o) h =
     let few : ltb (g .watchdog) 63 ≡ true = not-false _ (not-true _ h) in
     rw few (related (withWatchdog g (g .watchdog + 1)) true s x x′ y y′ k o)
 
+-- no transfer is for this chip, so SCL is not held and a clock of 8 µs counts nothing there
+period-apart : {q q′ : Phase} {t t′ : Trace} → Apart q q′ t t′ → Apart (phaseAtPeriod q) (phaseAtPeriod q′) t t′
+unfolding phaseAtPeriod
+period-apart idle = idle
+period-apart (ignoring ls ls′) = ignoring ls ls′
+period-apart (address ls ls′ e h) = address ls ls′ e h
+
 -- the clock of 8 µs, or a base clock
 other-clock-related : {c d : Core} {o o′ : Observer} → Related c d o o′ → (period runs : Bool)
     → Related (pick period (periodClock c) (pick runs (timerStep c) c)) (pick period (periodClock d) (pick runs (timerStep d) d)) o o′
 unfolding periodClock timerStep
-other-clock-related (related g z s x x′ y y′ k o) true runs = related (periodClock g) z s x x′ y y′ k o
+other-clock-related (related g z s x x′ y y′ k o) true runs = related (periodClock g) z s x x′ y y′ (period-apart k) o
 other-clock-related (related g z s x x′ y y′ k o) false true = related (timerStep g) z s x x′ y y′ k (kept-raised-if (timerOverflows (g .bt)) INTR o)
 other-clock-related (related g z s x x′ y y′ k o) false false = related g z s x x′ y y′ k o
 

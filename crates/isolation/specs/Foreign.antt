@@ -237,7 +237,7 @@ comparedPhase (Addressed bits ninth) = Addressed bits ninth
 comparedPhase Ignoring = Ignoring
 comparedPhase (Receive count bits) = Receive count bits
 comparedPhase (Transmit count byte) = Transmit count byte
-comparedPhase Held = Held
+comparedPhase (Held clocks) = Held clocks
 
 -- the part of a state that is compared: all but SDA's level, II DAT and the address bits gathered
 abbrev pub comparedCore : Core → Core

@@ -60,7 +60,7 @@ phaseFits (Addressed bits ninth) = gatheredFits 8 bits
 phaseFits Ignoring = true
 phaseFits (Receive count bits) = ltb count 11 && gatheredFits count bits
 phaseFits (Transmit count byte) = ltb 0 count && ltb count 11
-phaseFits Held = true
+phaseFits (Held clocks) = true
 
 unfoldable pub isIdle : Phase → Bool
 isIdle Idle = true
@@ -69,7 +69,7 @@ isIdle (Addressed bits ninth) = false
 isIdle Ignoring = false
 isIdle (Receive count bits) = false
 isIdle (Transmit count byte) = false
-isIdle Held = false
+isIdle (Held clocks) = false
 
 -- the shift register unused since the last release
 unfoldable pub isUnused : Shifter → Bool

@@ -141,7 +141,7 @@ fn phase_fits(phase: Phase) -> bool
         Phase::Ignoring => true,
         Phase::Receive { count, bits } => (count < 11) & gathered_fits(count, bits),
         Phase::Transmit { count, byte: _ } => (0 < count) & (count < 11),
-        Phase::Held => true,
+        Phase::Held { clocks: _ } => true,
     }
 }
 
@@ -155,7 +155,7 @@ fn is_idle(phase: Phase) -> bool
         Phase::Ignoring => false,
         Phase::Receive { count: _, bits: _ } => false,
         Phase::Transmit { count: _, byte: _ } => false,
-        Phase::Held => false,
+        Phase::Held { clocks: _ } => false,
     }
 }
 

@@ -13,4 +13,7 @@ period-clock-spec =
     (λ c κs. search needs)
     (λ c κs. search needs)
     (λ c κs. search needs)
-    (λ c. simp (c .with-sync .ensures, c .before .on-period .ensures, c .before .before .hsel .ensures)))
+    (λ c κs. search needs)
+    (λ c κs. search needs)
+    (λ c κs. search needs)
+    (λ c. simp (c .with-bus .ensures, c .before .with-phase .ensures, c .before .before .phase-at-period .ensures, c .before .before .before .with-sync .ensures, c .before .before .before .before .on-period .ensures, c .before .before .before .before .before .hsel .ensures)))
