@@ -224,6 +224,8 @@ pub struct Chip {
     pub phase: Phase,
     pub pull_sda: bool,
     pub pull_scl: bool,
+    /// 8 µs clocks since SCL was taken low, as far as 16 bits go; 0 while it is not held.
+    pub held_clocks: u16,
     pub shift: u8,
     pub edges_left: u8,
 }
@@ -287,6 +289,7 @@ impl Chip {
             phase: Phase::Idle,
             pull_sda: false,
             pull_scl: false,
+            held_clocks: 0,
             shift: 0xFF,
             edges_left: 9,
         }
@@ -496,6 +499,9 @@ impl Chip {
 /// Clocks and pins.
 impl Chip {
     fn sync_clock(&mut self) {
+        if self.phase == Phase::Held {
+            self.held_clocks = self.held_clocks.saturating_add(1);
+        }
         self.vcnt.step();
         if !self.hsel {
             self.interval += 1;
@@ -595,10 +601,16 @@ impl Chip {
         self.level(pin::SDA) && !self.pull_sda
     }
 
+    /// For how many 8 µs clocks SCL has been held; None while it is not.
+    pub fn hold(&self) -> Option<u16> {
+        (self.phase == Phase::Held).then_some(self.held_clocks)
+    }
+
     /// A change of mode; the wires may move with it, and that is no edge.
     fn restart_bus(&mut self) {
         self.pull_sda = false;
         self.pull_scl = false;
+        self.held_clocks = 0;
         self.phase = Phase::Idle;
         self.shift = 0xFF;
         self.edges_left = 9;
@@ -680,15 +692,15 @@ impl Chip {
             return;
         }
         match &mut self.phase {
-            Phase::Incoming { bits: 8, .. } if self.pull_sda => self.hold(),
+            Phase::Incoming { bits: 8, .. } if self.pull_sda => self.take_scl(),
             Phase::Incoming {
                 bits: 8,
                 address: false,
                 ..
             } if self.txak => self.phase = Phase::NotAcknowledged,
             Phase::Incoming { bits: 8, .. } => self.pull_sda = true,
-            Phase::NotAcknowledged => self.hold(),
-            Phase::Outgoing { acked: true, .. } => self.hold(),
+            Phase::NotAcknowledged => self.take_scl(),
+            Phase::Outgoing { acked: true, .. } => self.take_scl(),
             Phase::Outgoing { rest, falls, .. } if *falls < 8 => {
                 *rest <<= 1;
                 *falls += 1;
@@ -699,10 +711,11 @@ impl Chip {
     }
 
     /// The ninth fall of a byte.
-    fn hold(&mut self) {
+    fn take_scl(&mut self) {
         self.irqx |= flag::D;
         self.pull_sda = false;
         self.pull_scl = true;
+        self.held_clocks = 0;
         self.phase = Phase::Held;
     }
 
@@ -727,6 +740,7 @@ impl Chip {
             };
         }
         self.pull_scl = false;
+        self.held_clocks = 0;
         if self.scl() {
             self.scl_rise();
         }

@@ -190,6 +190,21 @@ const CLASSES: &[&str] = &[
     "let go: to transmit bit 0, outside SCL 1",
     "let go: to transmit bit 1, outside SCL 0",
     "let go: to transmit bit 1, outside SCL 1",
+    // How long it lasts; an end counts if there was something to zero
+    "hold count: step",
+    "hold count: step with outside SCL 1",
+    "hold count: clock of another sort while held",
+    "hold count: 8 us clock in a transfer, not held",
+    "hold count: reaches 65,535",
+    "hold count: stands at 65,535",
+    "hold count: ended by II DAT",
+    "hold count: ended by ENDDC",
+    "hold count: ended by MD",
+    "hold count: ended by RESET",
+    "hold count: ended by the watchdog",
+    "hold count: ended at 65,535",
+    "hold count: ended at 0",
+    "hold count: a hold after one with a count",
 ];
 
 const PLACES: [&str; 8] = [
@@ -225,6 +240,8 @@ struct DataByte {
 
 struct Tally {
     data: DataByte,
+    /// Count of the last hold that ended.
+    last_hold: u16,
     classes: BTreeMap<&'static str, u64>,
     moves: [[u64; 8]; 8],
     reads: [u64; 0x26],
@@ -236,6 +253,7 @@ impl Tally {
     fn new() -> Tally {
         Tally {
             data: DataByte::default(),
+            last_hold: 0,
             classes: CLASSES.iter().map(|&class| (class, 0)).collect(),
             moves: [[0; 8]; 8],
             reads: [0; 0x26],
@@ -273,6 +291,7 @@ impl Tally {
         }
         self.moves[place(old)][place(new)] += 1;
         let event = decode(word).expect("answered 0");
+        self.hold(old, event, new);
         if watchdog_reset == 1 {
             self.hit("reset: watchdog");
             self.hit_if(old.phase != Phase::Idle, "reset: watchdog in a transfer");
@@ -342,6 +361,55 @@ impl Tally {
             }
             Event::WatchdogClock => self.hit_if(new.watchdog == 63, "watchdog: 63rd clock kept"),
         }
+    }
+
+    fn hold(&mut self, old: &Chip, event: Event, new: &Chip) {
+        let (before, after) = match (old.hold(), new.hold()) {
+            (None, None) => {
+                let clock = event == Event::SyncClock && old.phase != Phase::Idle;
+                self.hit_if(clock, "hold count: 8 us clock in a transfer, not held");
+                return;
+            }
+            (None, Some(_)) => {
+                let again = self.last_hold > 0;
+                self.hit_if(again, "hold count: a hold after one with a count");
+                return;
+            }
+            (Some(count), None) => {
+                self.hold_ended(count, event);
+                return;
+            }
+            (Some(before), Some(after)) => (before, after),
+        };
+        match event {
+            Event::SyncClock if before == u16::MAX => self.hit("hold count: stands at 65,535"),
+            Event::SyncClock => {
+                self.hit("hold count: step");
+                let high = old.level(pin::SCL);
+                self.hit_if(high, "hold count: step with outside SCL 1");
+                self.hit_if(after == u16::MAX, "hold count: reaches 65,535");
+            }
+            Event::BaseClock { .. } | Event::WatchdogClock => {
+                self.hit("hold count: clock of another sort while held");
+            }
+            _ => {}
+        }
+    }
+
+    fn hold_ended(&mut self, count: u16, event: Event) {
+        self.last_hold = count;
+        if count == 0 {
+            self.hit("hold count: ended at 0");
+            return;
+        }
+        self.hit_if(count == u16::MAX, "hold count: ended at 65,535");
+        self.hit(match event {
+            Event::Write { register: 0x14, .. } => "hold count: ended by II DAT",
+            Event::Write { register: 0x15, .. } => "hold count: ended by ENDDC",
+            Event::Write { .. } => "hold count: ended by MD",
+            Event::WatchdogClock => "hold count: ended by the watchdog",
+            _ => "hold count: ended by RESET",
+        });
     }
 
     fn flags(&mut self, old: &Chip, event: Event, new: &Chip) {

@@ -3,7 +3,7 @@
 
 use nt6861_model::chip::Chip;
 use nt6861_model::coverage;
-use nt6861_model::replay::{generate, replay};
+use nt6861_model::replay::{generate, hold_text, replay, sample};
 use nt6861_model::traffic::Traffic;
 use std::fs;
 use std::hint::black_box;
@@ -17,6 +17,8 @@ const USAGE: &str = "usage:
   model compare SEED COUNT FILE [TAIL]   the lines of FILE against this model's answers;
                                          the place of a difference counts from 0
   model coverage SEED COUNT              what the generated words do
+  model holds SEED COUNT EVERY           the 8 us clocks for which SCL has been held, or -, after
+                                         every EVERY generated words
   model time COUNT                       speed of the step";
 
 fn main() -> ExitCode {
@@ -29,6 +31,7 @@ fn main() -> ExitCode {
         ["compare", seed, count, file] => compare(seed, count, file, "0"),
         ["compare", seed, count, file, tail] => compare(seed, count, file, tail),
         ["coverage", seed, count] => covered(seed, count),
+        ["holds", seed, count, every] => sampled(seed, count, every, hold_text),
         ["time", count] => time(count),
         _ => Err(USAGE.to_string()),
     };
@@ -115,6 +118,19 @@ fn compare(seed: &str, count: &str, file: &str, tail: &str) -> Result<bool, Stri
 
 fn covered(seed: &str, count: &str) -> Result<bool, String> {
     Ok(coverage::report(number(seed)?, number(count)?))
+}
+
+fn sampled(
+    seed: &str,
+    count: &str,
+    every: &str,
+    show: fn(&Chip) -> String,
+) -> Result<bool, String> {
+    let every = match number(every)? {
+        0 => return Err(format!("EVERY is not 0\n{USAGE}")),
+        every => every,
+    };
+    print_bytes(sample(number(seed)?, number(count)?, every, show).as_bytes())
 }
 
 fn time(count: &str) -> Result<bool, String> {

@@ -1,4 +1,4 @@
-//! Bytes to answers as text, and generated words as bytes.
+//! Bytes to answers as text, generated words as bytes, and what they leave in the chip.
 
 use crate::chip::Chip;
 use crate::traffic::Traffic;
@@ -27,6 +27,28 @@ pub fn replay(bytes: &[u8]) -> Vec<u8> {
         push_line(&mut out, chip.answer_to_leftover());
     }
     out
+}
+
+/// A line for the chip after every `every` of `count` words of the generator.
+pub fn sample(seed: u64, count: usize, every: usize, show: impl Fn(&Chip) -> String) -> String {
+    let mut chip = Chip::fresh();
+    let mut lines = String::new();
+    for (place, word) in Traffic::new(seed).take(count).enumerate() {
+        chip.step(word);
+        if (place + 1) % every == 0 {
+            lines += &show(&chip);
+            lines.push('\n');
+        }
+    }
+    lines
+}
+
+/// The hold as text: the 8 µs clocks so far, or `-` without one.
+pub fn hold_text(chip: &Chip) -> String {
+    match chip.hold() {
+        Some(clocks) => clocks.to_string(),
+        None => "-".to_string(),
+    }
 }
 
 /// `count` words of the generator, lowest byte first, then `tail` bytes more.

@@ -3,7 +3,7 @@
 
 use crate::chip::{flag, pin, Chip, Counter, Phase};
 use crate::coverage;
-use crate::replay::{generate, replay};
+use crate::replay::{generate, hold_text, replay, sample};
 use crate::traffic::Traffic;
 
 /// A chip with calls for events that must not be refused.
@@ -1102,6 +1102,159 @@ fn without_txak_every_data_byte_is_acknowledged() {
     }
 }
 
+// The hold count (Wish 9).
+
+#[test]
+fn hold_counts_8_us_clocks() {
+    for (clocks, count) in [
+        (0, 0),
+        (1, 1),
+        (2, 2),
+        (65_534, 65_534),
+        (65_535, 65_535),
+        (65_536, 65_535),
+        (65_600, 65_535),
+    ] {
+        let mut rig = Rig::addressed_for_write(0x00);
+        assert_eq!(rig.0.hold(), Some(0));
+        rig.clocks(0, clocks);
+        assert_eq!(rig.0.hold(), Some(count), "{clocks} clocks");
+    }
+}
+
+#[test]
+fn hold_begins_at_the_ninth_fall() {
+    let mut rig = Rig::ddc2b();
+    rig.clocks(0, 5);
+    rig.start();
+    rig.bits(0xA0, 8);
+    rig.clocks(0, 5);
+    rig.sda(1);
+    rig.scl(1);
+    rig.clocks(0, 5);
+    assert_eq!(rig.0.hold(), None);
+    assert_eq!(rig.0.held_clocks, 0);
+    rig.scl(0);
+    assert_eq!(rig.0.hold(), Some(0));
+    rig.clocks(0, 3);
+    assert_eq!(rig.0.hold(), Some(3));
+}
+
+#[test]
+fn hold_runs_whatever_else_happens() {
+    let mut rig = Rig::addressed_for_write(0x00);
+    rig.clocks(0, 10);
+    // The other clocks are not counted in.
+    rig.clocks(1, 7);
+    rig.clocks(2, 7);
+    rig.clocks(3, 7);
+    assert_eq!(rig.0.hold(), Some(10));
+    for level in [1, 0, 1] {
+        rig.scl(level);
+        rig.sda(1 - level);
+        rig.clock(0);
+    }
+    assert_eq!(rig.0.hold(), Some(13));
+    // No change of mode, no II DAT, refused words.
+    rig.write(0x15, 0x05);
+    rig.write(0x05, 0x0E);
+    rig.write(0x13, 0x42);
+    rig.write(0x12, 0x55);
+    rig.clear_flags();
+    rig.raw(0x02010000);
+    rig.raw(0x04000001);
+    rig.raw(0x02001000);
+    rig.rises(pin::VSYNCI, 2);
+    assert_eq!(rig.0.hold(), Some(13));
+    rig.clock(0);
+    assert_eq!(rig.0.hold(), Some(14));
+}
+
+#[test]
+fn second_hold_begins_at_0() {
+    let mut rig = Rig::addressed_for_write(0x00);
+    rig.clocks(0, 20);
+    // Acknowledged, not acknowledged, sent.
+    for (status, clocks) in [(0x00, 0), (0x01, 7), (0x04, 70_000), (0x04, 3)] {
+        rig.write(0x15, status);
+        rig.write(0x14, 0xFF);
+        assert_eq!(rig.0.hold(), None);
+        assert_eq!(rig.0.held_clocks, 0);
+        rig.clocks(0, 4);
+        rig.send(0x34);
+        assert_eq!(rig.0.hold(), Some(0));
+        rig.clocks(0, clocks);
+        assert_eq!(rig.0.hold(), Some(clocks.min(65_535) as u16));
+    }
+}
+
+#[test]
+fn hold_ended_in_five_ways() {
+    let ends: [(&str, fn(&mut Rig)); 7] = [
+        ("II DAT, receive", |rig| rig.write(0x14, 0x00)),
+        ("II DAT, transmit", |rig| {
+            rig.write(0x15, 0x04);
+            rig.write(0x14, 0x00);
+        }),
+        ("II DAT, outside SCL 1", |rig| {
+            rig.scl(1);
+            rig.write(0x14, 0x00);
+        }),
+        ("ENDDC", |rig| rig.write(0x15, 0x08)),
+        ("MD", |rig| rig.write(0x05, 0x07)),
+        ("RESET", |rig| {
+            rig.pin(pin::RESET, 0);
+        }),
+        ("watchdog", |rig| {
+            rig.clocks(3, 63);
+            assert_eq!(rig.0.hold(), Some(9));
+            assert_eq!(rig.clock(3), 0x00010000);
+        }),
+    ];
+    for (name, end) in ends {
+        let mut rig = Rig::addressed_for_write(0x00);
+        rig.clocks(0, 9);
+        assert_eq!(rig.0.hold(), Some(9));
+        end(&mut rig);
+        assert_eq!(rig.0.hold(), None, "{name}");
+        assert_eq!(rig.0.held_clocks, 0, "{name}");
+        rig.clocks(0, 5);
+        assert_eq!(rig.0.held_clocks, 0, "{name}");
+    }
+}
+
+#[test]
+fn hold_stands_in_reset() {
+    // No run leads here, but the state is well formed.
+    let mut rig = Rig::addressed_for_write(0x00);
+    rig.clocks(0, 4);
+    rig.0.levels &= !(1 << pin::RESET);
+    assert!(well_formed(&rig.0));
+    rig.clocks(0, 5);
+    assert_eq!(rig.0.hold(), Some(4));
+    rig.pin(pin::RESET, 1);
+    rig.clock(0);
+    assert_eq!(rig.0.hold(), Some(5));
+}
+
+#[test]
+fn holds_are_sampled_after_the_words() {
+    let lines = sample(1, 9_999, 500, hold_text);
+    let lines: Vec<&str> = lines.lines().collect();
+    assert_eq!(lines.len(), 19);
+    let mut chip = Chip::fresh();
+    for (place, word) in Traffic::new(1).take(9_500).enumerate() {
+        chip.step(word);
+        if place % 500 == 499 {
+            assert_eq!(lines[place / 500], hold_text(&chip));
+        }
+    }
+    let dense = sample(1, 9_999, 1, hold_text);
+    assert!(dense.lines().any(|line| line == "-"));
+    assert!(dense.lines().any(|line| line == "0"));
+    assert!(dense.lines().any(|line| line == "5"));
+}
+
 // The generator.
 
 #[test]
@@ -1149,7 +1302,9 @@ fn well_formed(chip: &Chip) -> bool {
         }
         _ => !chip.pull_sda,
     };
-    counts && reserved && mode && sda_as_said && chip.pull_scl == (chip.phase == Phase::Held)
+    let held = chip.phase == Phase::Held;
+    let count = held || chip.held_clocks == 0;
+    counts && reserved && mode && sda_as_said && chip.pull_scl == held && count
 }
 
 #[test]

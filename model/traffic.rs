@@ -163,6 +163,7 @@ impl Traffic {
             17..=20 => self.overflow_h_by_interval(),
             21..=26 => self.overflow_both(),
             27..=226 => self.two_at_once(),
+            227 => self.long_hold(),
             _ => self.short_scenario(),
         }
     }
@@ -1333,6 +1334,10 @@ impl Traffic {
         for _ in 0..3 {
             self.trouble();
         }
+        self.pass_time();
+        if self.rng.one_in(20) {
+            self.upset();
+        }
         let wrong = self.rng.one_in(16);
         if !self.rng.one_in(6) {
             let byte = if reading != wrong { TRX } else { 0 };
@@ -1352,6 +1357,72 @@ impl Traffic {
         };
         self.write(IIDAT, byte);
         self.probe_one_in(10);
+    }
+
+    /// Clocks, mostly those that a hold is counted in.
+    fn pass_time(&mut self) {
+        let clocks = match self.rng.below(12) {
+            0 => self.rng.range(10, 60),
+            1..=4 => self.rng.range(1, 9),
+            _ => 0,
+        };
+        for _ in 0..clocks {
+            let which = match self.rng.one_in(12) {
+                true => self.rng.below(4) as u8,
+                false => SYNC_CLOCK,
+            };
+            self.clock(which);
+        }
+    }
+
+    /// A hold about as long as its count goes, one of its ends, and a short hold after it.
+    fn long_hold(&mut self) {
+        self.wake();
+        self.calm();
+        let noise = std::mem::replace(&mut self.noise, 0);
+        self.scl(true);
+        self.sda(true);
+        self.write(IISTS, ENDDC);
+        self.write(MDCON, HSEL);
+        self.write(IISTS, 0);
+        self.sda(false);
+        self.scl(false);
+        self.plain_byte(0xA0);
+        self.noise = noise;
+        let clocks = match self.rng.below(6) {
+            0 => 65_534,
+            1 => 65_535,
+            2 => 65_536,
+            _ => self.rng.range(65_537, 65_600),
+        };
+        for _ in 0..clocks {
+            self.clock(SYNC_CLOCK);
+            if self.rng.one_in(500) {
+                self.toggle(pin::SCL);
+            }
+        }
+        self.scl(false);
+        if self.rng.one_in(3) {
+            self.upset();
+            return;
+        }
+        self.write(IIDAT, 0);
+        let byte = self.rng.byte();
+        self.plain_byte(byte);
+        self.pass_time();
+        self.write(IIDAT, 0);
+    }
+
+    /// Eight bits and the clock for the acknowledge, undisturbed.
+    fn plain_byte(&mut self, byte: u8) {
+        for place in (0..8).rev() {
+            self.sda(byte >> place & 1 == 1);
+            self.scl(true);
+            self.scl(false);
+        }
+        self.sda(true);
+        self.scl(true);
+        self.scl(false);
     }
 
     /// Now and then something cuts into the transfer.
