@@ -168,6 +168,15 @@ pub enum Phase {
     Held,
 }
 
+/// Which of the chip's two addresses a first byte was equal to, the direction left out.
+#[derive(Clone, Copy, PartialEq, Eq, Debug)]
+pub enum Outcome {
+    None,
+    A0,
+    IiAdr,
+    Both,
+}
+
 #[derive(Clone, Copy, PartialEq, Eq, Debug)]
 pub struct Chip {
     /// Outside level of pin n in bit n.
@@ -222,6 +231,8 @@ pub struct Chip {
 
     // Bus engine
     pub phase: Phase,
+    /// Of the current transfer's address; None where there is none that matched.
+    pub compared: Outcome,
     pub pull_sda: bool,
     pub pull_scl: bool,
     /// 8 µs clocks since SCL was taken low, as far as 16 bits go; 0 while it is not held.
@@ -287,6 +298,7 @@ impl Chip {
             rxak: false,
             txak: false,
             phase: Phase::Idle,
+            compared: Outcome::None,
             pull_sda: false,
             pull_scl: false,
             held_clocks: 0,
@@ -606,12 +618,18 @@ impl Chip {
         (self.phase == Phase::Held).then_some(self.held_clocks)
     }
 
+    /// What the address of the current transfer was compared equal to.
+    pub fn outcome(&self) -> Outcome {
+        self.compared
+    }
+
     /// A change of mode; the wires may move with it, and that is no edge.
     fn restart_bus(&mut self) {
         self.pull_sda = false;
         self.pull_scl = false;
         self.held_clocks = 0;
         self.phase = Phase::Idle;
+        self.compared = Outcome::None;
         self.shift = 0xFF;
         self.edges_left = 9;
     }
@@ -630,6 +648,7 @@ impl Chip {
 
     fn start_seen(&mut self) {
         self.start = true;
+        self.compared = Outcome::None;
         self.pull_sda = false;
         self.phase = Phase::Incoming {
             address: true,
@@ -640,12 +659,18 @@ impl Chip {
 
     fn stop_seen(&mut self) {
         self.stop = true;
+        self.compared = Outcome::None;
         self.pull_sda = false;
         self.phase = Phase::Idle;
     }
 
-    fn address_matches(&self, byte: u8) -> bool {
-        byte >> 1 == 0xA0 >> 1 || byte >> 1 == self.iiadr >> 1
+    fn compare(&self, byte: u8) -> Outcome {
+        match (byte >> 1 == 0xA0 >> 1, byte >> 1 == self.iiadr >> 1) {
+            (false, false) => Outcome::None,
+            (true, false) => Outcome::A0,
+            (false, true) => Outcome::IiAdr,
+            (true, true) => Outcome::Both,
+        }
     }
 
     fn scl_rise(&mut self) {
@@ -676,10 +701,11 @@ impl Chip {
     fn byte_in(&mut self, address: bool, byte: u8) {
         self.iidat = byte;
         if address {
-            if self.address_matches(byte) {
-                self.irqx |= flag::A;
-            } else {
+            self.compared = self.compare(byte);
+            if self.compared == Outcome::None {
                 self.phase = Phase::Ignoring;
+            } else {
+                self.irqx |= flag::A;
             }
         }
     }

@@ -3,7 +3,7 @@
 //! Every class is named beforehand, so one that never occurs shows with a count of 0. The counts
 //! come from the states before and after each step; the chip itself counts nothing.
 
-use crate::chip::{decode, flag, pin, Chip, Counter, Event, Phase};
+use crate::chip::{decode, flag, pin, Chip, Counter, Event, Outcome, Phase};
 use crate::traffic::Traffic;
 use std::collections::BTreeMap;
 
@@ -171,11 +171,43 @@ const CLASSES: &[&str] = &[
     "RXAK: 1 taken",
     "RXAK: changed",
     "TRX: changed in a transmit",
+    "TRX: changed in a receive",
+    "TRX: decides as 1, 0 when SCL was taken",
+    "TRX: decides as 0, 1 when SCL was taken",
     "II DAT: written in a transmit",
     "II DAT: written in a receive or address",
     "II DAT: written in a not-acknowledged ninth clock",
     "II DAT: written while idle or ignoring",
     "II ADR: written in an address",
+    "II ADR: written in an address, deciding",
+    // Between the eighth rise and the eighth fall
+    "II ADR: late write, the match gone by it",
+    "II ADR: late write, another match by it",
+    "II ADR: late write, a foreign address matched by it",
+    "II ADR: late write, held all the same",
+    "II ADR: late write, ignored all the same",
+    "II ADR: written past the address, another outcome by it",
+    // Which address it was
+    "outcome A0H: in an address",
+    "outcome A0H: in a receive",
+    "outcome A0H: in a transmit",
+    "outcome A0H: held",
+    "outcome II ADR: in an address",
+    "outcome II ADR: in a receive",
+    "outcome II ADR: in a transmit",
+    "outcome II ADR: held",
+    "outcome both: in an address",
+    "outcome both: in a receive",
+    "outcome both: in a transmit",
+    "outcome both: held",
+    "outcome: another by a repeated START",
+    "outcome: foreign after a repeated START",
+    "outcome: ended by START",
+    "outcome: ended by STOP",
+    "outcome: ended by ENDDC",
+    "outcome: ended by MD",
+    "outcome: ended by RESET",
+    "outcome: ended by the watchdog",
     // Hold
     "hold: after an address",
     "hold: after a data byte in",
@@ -238,8 +270,33 @@ struct DataByte {
     acknowledged_before: Option<bool>,
 }
 
+/// What the chip does not keep of the transfer under way.
+struct Transfer {
+    iiadr_at_start: u8,
+    /// The address once it is complete.
+    address: u8,
+    /// The chip has not seen the fall after it yet.
+    eighth_high: bool,
+    /// By II ADR as written since the eighth rise a match would be foreign, or the reverse.
+    late: bool,
+    /// Outcome of the transfer that a repeated START ended.
+    before_start: Outcome,
+    trx_when_taken: bool,
+}
+
+/// By the rule of document 01, apart from the chip's own comparison.
+fn compared(address: u8, iiadr: u8) -> Outcome {
+    match ((address ^ 0xA0) & 0xFE == 0, (address ^ iiadr) & 0xFE == 0) {
+        (true, true) => Outcome::Both,
+        (true, false) => Outcome::A0,
+        (false, true) => Outcome::IiAdr,
+        (false, false) => Outcome::None,
+    }
+}
+
 struct Tally {
     data: DataByte,
+    transfer: Transfer,
     /// Count of the last hold that ended.
     last_hold: u16,
     classes: BTreeMap<&'static str, u64>,
@@ -253,6 +310,14 @@ impl Tally {
     fn new() -> Tally {
         Tally {
             data: DataByte::default(),
+            transfer: Transfer {
+                iiadr_at_start: 0,
+                address: 0,
+                eighth_high: false,
+                late: false,
+                before_start: Outcome::None,
+                trx_when_taken: false,
+            },
             last_hold: 0,
             classes: CLASSES.iter().map(|&class| (class, 0)).collect(),
             moves: [[0; 8]; 8],
@@ -292,6 +357,7 @@ impl Tally {
         self.moves[place(old)][place(new)] += 1;
         let event = decode(word).expect("answered 0");
         self.hold(old, event, new);
+        self.outcome(old, event, new);
         if watchdog_reset == 1 {
             self.hit("reset: watchdog");
             self.hit_if(old.phase != Phase::Idle, "reset: watchdog in a transfer");
@@ -371,6 +437,7 @@ impl Tally {
                 return;
             }
             (None, Some(_)) => {
+                self.transfer.trx_when_taken = old.trx;
                 let again = self.last_hold > 0;
                 self.hit_if(again, "hold count: a hold after one with a count");
                 return;
@@ -410,6 +477,73 @@ impl Tally {
             Event::WatchdogClock => "hold count: ended by the watchdog",
             _ => "hold count: ended by RESET",
         });
+    }
+
+    fn outcome(&mut self, old: &Chip, event: Event, new: &Chip) {
+        let name = match (new.outcome(), place(new)) {
+            (Outcome::A0, 3) => Some("outcome A0H: in an address"),
+            (Outcome::A0, 5) => Some("outcome A0H: in a receive"),
+            (Outcome::A0, 6) => Some("outcome A0H: in a transmit"),
+            (Outcome::A0, _) => Some("outcome A0H: held"),
+            (Outcome::IiAdr, 3) => Some("outcome II ADR: in an address"),
+            (Outcome::IiAdr, 5) => Some("outcome II ADR: in a receive"),
+            (Outcome::IiAdr, 6) => Some("outcome II ADR: in a transmit"),
+            (Outcome::IiAdr, _) => Some("outcome II ADR: held"),
+            (Outcome::Both, 3) => Some("outcome both: in an address"),
+            (Outcome::Both, 5) => Some("outcome both: in a receive"),
+            (Outcome::Both, 6) => Some("outcome both: in a transmit"),
+            (Outcome::Both, _) => Some("outcome both: held"),
+            (Outcome::None, _) => None,
+        };
+        if let Some(name) = name {
+            self.hit(name);
+        }
+        if !new.ddc2b() || new.phase == Phase::Idle {
+            self.transfer.before_start = Outcome::None;
+        }
+        if old.outcome() != Outcome::None && new.outcome() == Outcome::None {
+            let end = match event {
+                Event::Write { register: 0x15, .. } => "outcome: ended by ENDDC",
+                Event::Write { .. } => "outcome: ended by MD",
+                Event::WatchdogClock => "outcome: ended by the watchdog",
+                Event::Pin { pin, .. } if pin == pin::RESET => "outcome: ended by RESET",
+                Event::Pin { level: true, .. } => "outcome: ended by STOP",
+                _ => {
+                    self.transfer.before_start = old.outcome();
+                    "outcome: ended by START"
+                }
+            };
+            self.hit(end);
+        }
+    }
+
+    /// II ADR written with an address or more of the transfer seen.
+    fn iiadr_written(&mut self, old: &Chip, new: &Chip) {
+        let by_it = compared(self.transfer.address, new.iiadr);
+        let eighth_high = self.transfer.eighth_high;
+        let name = match old.phase {
+            Phase::Incoming {
+                address: true,
+                bits: 8,
+                ..
+            } if eighth_high && by_it == Outcome::None => {
+                "II ADR: late write, the match gone by it"
+            }
+            Phase::Incoming {
+                address: true,
+                bits: 8,
+                ..
+            } if eighth_high => "II ADR: late write, another match by it",
+            Phase::Ignoring if eighth_high => "II ADR: late write, a foreign address matched by it",
+            Phase::Idle | Phase::Ignoring | Phase::Incoming { address: true, .. } => return,
+            _ => "II ADR: written past the address, another outcome by it",
+        };
+        if by_it != old.outcome() {
+            self.hit(name);
+        }
+        if eighth_high {
+            self.transfer.late = (by_it == Outcome::None) != (old.outcome() == Outcome::None);
+        }
     }
 
     fn flags(&mut self, old: &Chip, event: Event, new: &Chip) {
@@ -511,9 +645,15 @@ impl Tally {
             0x13 => {
                 let address = matches!(old.phase, Phase::Incoming { address: true, .. });
                 self.hit_if(address, "II ADR: written in an address");
+                self.iiadr_written(old, new);
             }
             0x14 if held => {
                 self.data.txak_at_letting_go = old.txak;
+                match (self.transfer.trx_when_taken, old.trx) {
+                    (false, true) => self.hit("TRX: decides as 1, 0 when SCL was taken"),
+                    (true, false) => self.hit("TRX: decides as 0, 1 when SCL was taken"),
+                    _ => {}
+                }
                 self.hit(match (old.trx, byte & 0x80 != 0, old.level(pin::SCL)) {
                     (false, _, false) => "let go: to receive, outside SCL 0",
                     (false, _, true) => "let go: to receive, outside SCL 1",
@@ -532,6 +672,8 @@ impl Tally {
             0x15 => {
                 let outgoing = matches!(old.phase, Phase::Outgoing { .. });
                 self.hit_if(outgoing && old.trx != new.trx, "TRX: changed in a transmit");
+                let receive = place(old) == 5;
+                self.hit_if(receive && old.trx != new.trx, "TRX: changed in a receive");
                 if old.txak != new.txak {
                     self.txak_changed(old);
                 }
@@ -653,6 +795,9 @@ impl Tally {
 
     /// SCL moved outside, in DDC2B.
     fn scl(&mut self, old: &Chip, level: bool, new: &Chip) {
+        if !level {
+            self.fall_after_address(old, new);
+        }
         match (old.phase, level) {
             (Phase::Idle, false) => self.hit("idle: SCL fall"),
             (Phase::Idle, true) => {}
@@ -665,6 +810,9 @@ impl Tally {
                 self.hit("incoming: bit gathered");
                 if bits == 7 && address {
                     self.data.acknowledged_before = None;
+                    self.transfer.address = new.iidat;
+                    self.transfer.eighth_high = true;
+                    self.transfer.late = false;
                     self.address(new);
                 } else if bits == 7 {
                     self.data.txak_at_eighth_rise = old.txak;
@@ -753,15 +901,38 @@ impl Tally {
         self.hit_if(decided != old.txak, "TXAK: told, unlike in the ninth clock");
     }
 
+    /// A fall at the chip; the second one after a complete address shows what came of it.
+    fn fall_after_address(&mut self, old: &Chip, new: &Chip) {
+        if self.transfer.eighth_high {
+            self.transfer.eighth_high = false;
+        } else if std::mem::take(&mut self.transfer.late) {
+            let ignored = old.phase == Phase::Ignoring;
+            self.hit_if(ignored, "II ADR: late write, ignored all the same");
+            let held = new.phase == Phase::Held;
+            self.hit_if(held, "II ADR: late write, held all the same");
+        }
+    }
+
     /// An address is complete; it stands in II DAT.
     fn address(&mut self, chip: &Chip) {
+        let by_first = compared(chip.iidat, self.transfer.iiadr_at_start);
+        let decided = by_first != chip.outcome();
+        self.hit_if(decided, "II ADR: written in an address, deciding");
+        let before = self.transfer.before_start;
+        if before != Outcome::None && before != chip.outcome() {
+            self.hit(if chip.outcome() == Outcome::None {
+                "outcome: foreign after a repeated START"
+            } else {
+                "outcome: another by a repeated START"
+            });
+        }
         let off_a0 = (chip.iidat ^ 0xA0) & 0xFE;
         let off_own = (chip.iidat ^ chip.iiadr) & 0xFE;
-        self.hit(match (off_a0 == 0, off_own == 0) {
-            (true, true) => "address: both matched",
-            (true, false) => "address: A0H matched",
-            (false, true) => "address: II ADR matched",
-            (false, false) => "address: foreign",
+        self.hit(match compared(chip.iidat, chip.iiadr) {
+            Outcome::Both => "address: both matched",
+            Outcome::A0 => "address: A0H matched",
+            Outcome::IiAdr => "address: II ADR matched",
+            Outcome::None => "address: foreign",
         });
         let near = off_a0.count_ones() == 1 || off_own.count_ones() == 1;
         self.hit_if(
@@ -815,6 +986,9 @@ impl Tally {
             (true, _) => "STOP: in a transmit",
         });
         self.hit_if(!level && old.start, "START: START bit already set");
+        self.transfer.eighth_high = false;
+        self.transfer.late = false;
+        self.transfer.iiadr_at_start = old.iiadr;
     }
 
     fn empty(&self) -> Vec<&'static str> {

@@ -3,7 +3,7 @@
 
 use nt6861_model::chip::Chip;
 use nt6861_model::coverage;
-use nt6861_model::replay::{generate, hold_text, replay, sample};
+use nt6861_model::replay::{generate, hold_text, outcome_text, replay, sample};
 use nt6861_model::traffic::Traffic;
 use std::fs;
 use std::hint::black_box;
@@ -19,6 +19,8 @@ const USAGE: &str = "usage:
   model coverage SEED COUNT              what the generated words do
   model holds SEED COUNT EVERY           the 8 us clocks for which SCL has been held, or -, after
                                          every EVERY generated words
+  model outcomes SEED COUNT EVERY        likewise what the current transfer's address was equal
+                                         to: none, a0, ii-adr or both
   model time COUNT                       speed of the step";
 
 fn main() -> ExitCode {
@@ -32,6 +34,7 @@ fn main() -> ExitCode {
         ["compare", seed, count, file, tail] => compare(seed, count, file, tail),
         ["coverage", seed, count] => covered(seed, count),
         ["holds", seed, count, every] => sampled(seed, count, every, hold_text),
+        ["outcomes", seed, count, every] => sampled(seed, count, every, outcome_text),
         ["time", count] => time(count),
         _ => Err(USAGE.to_string()),
     };

@@ -1,6 +1,6 @@
 //! Bytes to answers as text, generated words as bytes, and what they leave in the chip.
 
-use crate::chip::Chip;
+use crate::chip::{Chip, Outcome};
 use crate::traffic::Traffic;
 
 fn push_line(out: &mut Vec<u8>, answer: u32) {
@@ -49,6 +49,17 @@ pub fn hold_text(chip: &Chip) -> String {
         Some(clocks) => clocks.to_string(),
         None => "-".to_string(),
     }
+}
+
+/// The outcome of the current transfer's address as text.
+pub fn outcome_text(chip: &Chip) -> String {
+    match chip.outcome() {
+        Outcome::None => "none",
+        Outcome::A0 => "a0",
+        Outcome::IiAdr => "ii-adr",
+        Outcome::Both => "both",
+    }
+    .to_string()
 }
 
 /// `count` words of the generator, lowest byte first, then `tail` bytes more.

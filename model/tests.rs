@@ -1,9 +1,9 @@
 //! The cases of document 01, more worked out from the rules of documents 01 and 02, and checks of
 //! the generator.
 
-use crate::chip::{flag, pin, Chip, Counter, Phase};
+use crate::chip::{flag, pin, Chip, Counter, Outcome, Phase};
 use crate::coverage;
-use crate::replay::{generate, hold_text, replay, sample};
+use crate::replay::{generate, hold_text, outcome_text, replay, sample};
 use crate::traffic::Traffic;
 
 /// A chip with calls for events that must not be refused.
@@ -1255,6 +1255,232 @@ fn holds_are_sampled_after_the_words() {
     assert!(dense.lines().any(|line| line == "5"));
 }
 
+// Which address it was (Wish 12).
+
+#[test]
+fn outcomes_of_the_comparison() {
+    for (own, address, outcome) in [
+        (0xFF, 0xA0, Outcome::A0),
+        (0xFF, 0xA1, Outcome::A0),
+        (0x6E, 0x6E, Outcome::IiAdr),
+        (0x6E, 0x6F, Outcome::IiAdr),
+        (0x6F, 0x6E, Outcome::IiAdr),
+        (0x6E, 0xA0, Outcome::A0),
+        // Its bit 0 is neither stored nor compared.
+        (0xA0, 0xA0, Outcome::Both),
+        (0xA0, 0xA1, Outcome::Both),
+        (0xA1, 0xA0, Outcome::Both),
+        (0xA1, 0xA1, Outcome::Both),
+        (0xA0, 0xA2, Outcome::None),
+        (0xA2, 0xA2, Outcome::IiAdr),
+        (0x6E, 0x6C, Outcome::None),
+        (0x6E, 0xEE, Outcome::None),
+        (0x6E, 0x20, Outcome::None),
+    ] {
+        let mut rig = Rig::ddc2b();
+        rig.write(0x13, own);
+        rig.start();
+        rig.bits(address, 7);
+        assert_eq!(rig.0.outcome(), Outcome::None);
+        rig.sda(address & 1);
+        rig.scl(1);
+        assert_eq!(rig.0.outcome(), outcome, "{own:02X} {address:02X}");
+        let matched = rig.flags() & flag::A != 0;
+        assert_eq!(matched, outcome != Outcome::None);
+        assert_eq!(rig.0.phase == Phase::Ignoring, !matched);
+        rig.scl(0);
+        rig.ninth_clock(1);
+        assert_eq!(rig.0.outcome(), outcome, "{own:02X} {address:02X}");
+        assert_eq!(rig.0.phase == Phase::Held, matched);
+    }
+}
+
+#[test]
+fn flag_a_for_all_but_none() {
+    let mut counts = [0; 4];
+    for own in (0..=0xFE).step_by(2) {
+        for address in 0..=0xFF {
+            let mut rig = Rig::ddc2b();
+            rig.write(0x13, own);
+            rig.start();
+            rig.bits(address, 8);
+            let outcome = rig.0.outcome();
+            assert_eq!(rig.flags() & flag::A != 0, outcome != Outcome::None);
+            counts[outcome as usize] += 1;
+        }
+    }
+    // None, A0H, II ADR, both. Foreign: 127 addresses with 127 values of II ADR, two directions.
+    assert_eq!(counts, [2 * 127 * 127, 2 * 127, 2 * 127, 2]);
+}
+
+/// Addressed with an outcome of each sort and held.
+fn matched() -> [(Outcome, Rig); 3] {
+    [
+        (0x6E, 0xA0, Outcome::A0),
+        (0x6E, 0x6E, Outcome::IiAdr),
+        (0xA0, 0xA0, Outcome::Both),
+    ]
+    .map(|(own, address, outcome)| {
+        let mut rig = Rig::ddc2b();
+        rig.write(0x13, own);
+        rig.start();
+        rig.send(address);
+        (outcome, rig)
+    })
+}
+
+#[test]
+fn outcome_stays_for_the_transfer() {
+    for (outcome, mut rig) in matched() {
+        assert_eq!(rig.0.outcome(), outcome);
+        // In, not acknowledged, out; the data are addresses, and II ADR moves.
+        for (status, own, data) in [
+            (0x00, 0xA0, 0x6E),
+            (0x01, 0x42, 0xA0),
+            (0x04, 0x6E, 0x42),
+            (0x00, 0x00, 0x00),
+        ] {
+            rig.write(0x15, status);
+            rig.write(0x13, own);
+            assert_eq!(rig.0.outcome(), outcome);
+            rig.write(0x14, data);
+            assert_eq!(rig.0.outcome(), outcome);
+            rig.bits(data, 8);
+            assert_eq!(rig.0.outcome(), outcome);
+            rig.ninth_clock(1);
+            assert_eq!(rig.0.phase, Phase::Held);
+            assert_eq!(rig.0.outcome(), outcome);
+        }
+        rig.clear_flags();
+        rig.clocks(0, 3);
+        rig.rises(pin::VSYNCI, 1);
+        assert_eq!(rig.0.outcome(), outcome);
+    }
+}
+
+#[test]
+fn iiadr_counts_until_the_eighth_rise() {
+    // II ADR before the eighth rise and after it.
+    for (own, address, late, outcome) in [
+        (0x6E, 0x6E, 0x10, Outcome::IiAdr),
+        (0x10, 0x6E, 0x6E, Outcome::None),
+        (0x10, 0xA0, 0xA0, Outcome::A0),
+        (0xA0, 0xA0, 0x10, Outcome::Both),
+    ] {
+        let mut rig = Rig::ddc2b();
+        rig.start();
+        rig.bits(address, 7);
+        rig.write(0x13, own);
+        rig.sda(address & 1);
+        rig.scl(1);
+        rig.write(0x13, late);
+        assert_eq!(rig.0.outcome(), outcome);
+        rig.scl(0);
+        rig.write(0x13, late ^ 2);
+        rig.write(0x13, late);
+        rig.ninth_clock(1);
+        assert_eq!(rig.0.outcome(), outcome);
+        assert!(well_formed(&rig.0));
+        let matched = outcome != Outcome::None;
+        assert_eq!(rig.0.phase == Phase::Held, matched);
+        let flags = if matched { flag::A | flag::D } else { 0 };
+        assert_eq!(rig.flags(), flag::S | flags);
+    }
+}
+
+#[test]
+fn repeated_start_compares_anew() {
+    for (_, mut rig) in matched() {
+        for (address, outcome) in [
+            (0xA0, Outcome::A0),
+            (0x6E, Outcome::IiAdr),
+            (0x42, Outcome::None),
+            (0xA0, Outcome::A0),
+        ] {
+            rig.write(0x13, 0x6E);
+            rig.write(0x15, 0x00);
+            rig.write(0x14, 0x00);
+            rig.sda(1);
+            rig.scl(1);
+            rig.sda(0);
+            assert_eq!(rig.0.outcome(), Outcome::None);
+            rig.scl(0);
+            rig.bits(address, 7);
+            assert_eq!(rig.0.outcome(), Outcome::None);
+            rig.sda(address & 1);
+            rig.scl(1);
+            rig.scl(0);
+            rig.ninth_clock(1);
+            assert_eq!(rig.0.outcome(), outcome);
+        }
+    }
+}
+
+#[test]
+fn outcome_ends_with_the_transfer() {
+    type End = fn(&mut Rig);
+    let ends: [(&str, End); 8] = [
+        ("START in a receive", |rig| {
+            rig.write(0x14, 0x00);
+            rig.sda(1);
+            rig.scl(1);
+            rig.sda(0);
+        }),
+        ("STOP in a receive", |rig| {
+            rig.write(0x14, 0x00);
+            rig.sda(0);
+            rig.scl(1);
+            rig.sda(1);
+        }),
+        ("STOP in a transmit", |rig| {
+            rig.write(0x15, 0x04);
+            rig.write(0x14, 0xFF);
+            rig.sda(0);
+            rig.scl(1);
+            rig.sda(1);
+        }),
+        ("STOP in a ninth clock", |rig| {
+            rig.write(0x15, 0x01);
+            rig.data_to_ninth_high(0x30);
+            rig.sda(1);
+        }),
+        ("ENDDC", |rig| rig.write(0x15, 0x08)),
+        ("MD", |rig| rig.write(0x05, 0x07)),
+        ("RESET", |rig| {
+            rig.pin(pin::RESET, 0);
+        }),
+        ("watchdog", |rig| rig.clocks(3, 64)),
+    ];
+    for (name, end) in ends {
+        for (outcome, mut rig) in matched() {
+            assert_eq!(rig.0.outcome(), outcome);
+            end(&mut rig);
+            assert_eq!(rig.0.outcome(), Outcome::None, "{name}");
+            assert!(well_formed(&rig.0), "{name}");
+        }
+    }
+    // Between the eighth rise and the fall.
+    for level in [0, 1] {
+        let mut rig = Rig::ddc2b();
+        rig.start();
+        rig.bits(0xA0, 7);
+        rig.sda(1 - level);
+        rig.scl(1);
+        assert_eq!(rig.0.outcome(), Outcome::A0);
+        rig.sda(level);
+        assert_eq!(rig.0.outcome(), Outcome::None);
+    }
+}
+
+#[test]
+fn outcomes_are_sampled_as_text() {
+    let lines = sample(1, 100_000, 10, outcome_text);
+    assert_eq!(lines.lines().count(), 10_000);
+    for name in ["none", "a0", "ii-adr", "both"] {
+        assert!(lines.lines().any(|line| line == name), "{name}");
+    }
+}
+
 // The generator.
 
 #[test]
@@ -1304,7 +1530,13 @@ fn well_formed(chip: &Chip) -> bool {
     };
     let held = chip.phase == Phase::Held;
     let count = held || chip.held_clocks == 0;
-    counts && reserved && mode && sda_as_said && chip.pull_scl == held && count
+    let matched = match chip.phase {
+        Phase::Idle | Phase::Ignoring => false,
+        Phase::Incoming { address, bits, .. } => !address || bits == 8,
+        Phase::NotAcknowledged | Phase::Outgoing { .. } | Phase::Held => true,
+    };
+    let outcome = matched == (chip.outcome() != Outcome::None);
+    counts && reserved && mode && sda_as_said && chip.pull_scl == held && count && outcome
 }
 
 #[test]

@@ -102,6 +102,13 @@ fn word(kind: u8, a: u8, b: u8) -> u32 {
     u32::from_be_bytes([kind, 0, a, b])
 }
 
+/// What a byte of the master is to the chip, if that follows.
+#[derive(PartialEq, Eq)]
+enum Sent {
+    Address,
+    Data,
+}
+
 /// How the master leaves the ninth clock of a byte that it sent.
 #[derive(PartialEq, Eq)]
 enum Ninth {
@@ -1125,8 +1132,7 @@ impl Traffic {
             _ => self.rng.byte(),
         };
         let reading = address & 1 == 1;
-        let txak = self.rng.one_in(4);
-        let mut ninth = self.send_byte(address, txak);
+        let mut ninth = self.send_byte(address, Sent::Address);
         for _ in 0..self.rng.below(5) {
             if ninth != Ninth::Fall {
                 break;
@@ -1136,8 +1142,7 @@ impl Traffic {
             if reading {
                 self.receive_byte();
             } else {
-                let txak = self.rng.flip();
-                ninth = self.send_byte(next, txak);
+                ninth = self.send_byte(next, Sent::Data);
             }
         }
         if ninth != Ninth::Fall {
@@ -1184,9 +1189,12 @@ impl Traffic {
         self.probe_one_in(4);
     }
 
-    /// Eight bits and the clock for the acknowledge. With `txak` the firmware writes TXAK at any
-    /// moment of it, and what tells whether SDA is pulled is likely to follow.
-    fn send_byte(&mut self, byte: u8, txak: bool) -> Ninth {
+    /// Eight bits and the clock for the acknowledge. The firmware may write TXAK at any moment of
+    /// it, and then what tells whether SDA is pulled is likely to follow; of an address also II
+    /// ADR.
+    fn send_byte(&mut self, byte: u8, sent: Sent) -> Ninth {
+        let txak = self.rng.one_in(if sent == Sent::Address { 4 } else { 2 });
+        let own = sent == Sent::Address && self.rng.one_in(4);
         for place in (0..8).rev() {
             let bit = byte >> place & 1 == 1;
             // With SCL already high the bit was laid on SDA while the chip held.
@@ -1197,6 +1205,9 @@ impl Traffic {
             let often = if place == 0 { 3 } else { 16 };
             if txak {
                 self.write_txak_one_in(often);
+            }
+            if own {
+                self.write_iiadr_about_one_in(often, byte);
             }
             if place == 0 {
                 self.probe_one_in(4);
@@ -1234,6 +1245,20 @@ impl Traffic {
         self.scl(false);
         self.probe_one_in(3);
         Ninth::Fall
+    }
+
+    /// Makes the address a match, a near miss or something else.
+    fn write_iiadr_about_one_in(&mut self, n: u32, address: u8) {
+        if !self.rng.one_in(n) {
+            return;
+        }
+        self.own = match self.rng.below(3) {
+            0 => address ^ self.rng.below(2) as u8,
+            1 => address ^ 1 << self.rng.range(1, 7),
+            _ => return self.write_iiadr(),
+        };
+        let byte = self.own;
+        self.write(IIADR, byte);
     }
 
     /// Whatever else II STS takes is left to chance; DDC stays on.
@@ -1337,6 +1362,9 @@ impl Traffic {
         self.pass_time();
         if self.rng.one_in(20) {
             self.upset();
+        }
+        if self.rng.one_in(16) {
+            self.write_iiadr();
         }
         let wrong = self.rng.one_in(16);
         if !self.rng.one_in(6) {
