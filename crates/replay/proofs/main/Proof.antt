@@ -1,14 +1,29 @@
--- `replay::main` is safe and ends: the measure is the number of blocks that may still come.
+-- `replay::main` is safe and ends: the measure is the number of turns that may still come. The loop's invariant: the bytes carried
+-- over are within the input.
 -- Assumes nothing.
+use Prim.Native.Nat.{_≤_}
+use lib.ListN.{length}
 use borrow.Author.Needs.{needs}
 use Rattle.replay.proofs.main.Statement.{statement}
 use Rattle.replay.proofs.main.Tie as tie
 
 abbrev Inv-loop : tie.InvT-loop
-Inv-loop c₀ blocks₀ c blocks = Unit {0}
+Inv-loop input₀ out₀ c₀ carried₀ turns₀ input out c carried turns = carried ≤ length input
 
 abbrev μ-loop : tie.MeasureT-loop
-μ-loop c₀ blocks₀ c blocks = blocks
+μ-loop input₀ out₀ c₀ carried₀ turns₀ input out c carried turns = turns
+
+large-buffer-requires : tie.Need-large-buffer-requires Inv-loop μ-loop
+large-buffer-requires c κs = search needs
+
+slice-aggregate-input : tie.Need-slice-aggregate-input Inv-loop μ-loop
+slice-aggregate-input c = search needs
+
+text-buffer-requires : tie.Need-text-buffer-requires Inv-loop μ-loop
+text-buffer-requires c κs = search needs
+
+slice-aggregate-out : tie.Need-slice-aggregate-out Inv-loop μ-loop
+slice-aggregate-out c = search needs
 
 fresh-requires : tie.Need-fresh-requires Inv-loop μ-loop
 fresh-requires c κs = search needs
@@ -16,11 +31,11 @@ fresh-requires c κs = search needs
 loop-holds : tie.Need-loop-holds Inv-loop μ-loop
 loop-holds c = search needs
 
-answer-block-requires : tie.Need-answer-block-requires Inv-loop μ-loop
-answer-block-requires c κs = search needs
+take-turn-requires : tie.Need-take-turn-requires Inv-loop μ-loop
+take-turn-requires c κs = search needs
 
-sub-blocks : tie.Need-sub-blocks Inv-loop μ-loop
-sub-blocks c = search needs
+sub-turns : tie.Need-sub-turns Inv-loop μ-loop
+sub-turns c = search needs
 
 loop-less : tie.Need-loop-less Inv-loop μ-loop
 loop-less c = search needs
@@ -40,10 +55,14 @@ main-spec =
     (tie.spec
     Inv-loop
     μ-loop
+    large-buffer-requires
+    slice-aggregate-input
+    text-buffer-requires
+    slice-aggregate-out
     fresh-requires
     loop-holds
-    answer-block-requires
-    sub-blocks
+    take-turn-requires
+    sub-turns
     loop-less
     loop-again
     returns
