@@ -37,5 +37,16 @@ while IFS= read -r line; do
     fi
 done < "$crate/stdout"
 
+# what cannot be read or written is told
+said() {
+    local told
+    told=$(cd "$crate/data" && "$program" "${@:2}" 2>&1 > "${out:-/dev/null}") || complain "vectors ${*:2}: status $?"
+    [ "$told" = "$1" ] || complain "vectors ${*:2}: said '$told', not '$1'"
+}
+said 'vectors: no listing is named'
+said '.: Is a directory' . p01-read-mdcon.txt
+said 'missing.txt: No such file or directory' missing.txt
+out=/dev/full said 'vectors: standard output: No space left on device' p01-read-mdcon.txt p02-last-register.txt
+
 [ "$bad" = 0 ] && echo "vectors: $listings, each named in args, none empty, each answered as it says"
 exit "$bad"
