@@ -97,8 +97,7 @@ partAnswered c bytes places =
 -- what is left in the places for the text
 unfoldable pub partText : Chip → List ℕ → List ℕ → List ℕ
 partText c bytes places =
-    pick (ltb (length places) (length (wordsText c bytes)))
-    places
+    pick (ltb (length places) (length (wordsText c bytes))) places
     (wordsText c bytes ++ drop (length (wordsText c bytes)) places)
 
 -- what is left in those of the bytes: at their start those carried over
