@@ -1,10 +1,7 @@
 #!/usr/bin/env bash
 # Builds each wrong answer of the must-fail edits that changes code, unproved, and sees a run differ from the right program's
 # (scripts/wrong_answers.py). Not part of the gate: it takes a quarter of an hour. docs/WRONG-ANSWERS.md keeps the last result.
-# Usage: scripts/check-wrong-answers.sh [CRATE | CRATE/LABEL ..]; without arguments all are run and the page is written anew.
+# Usage: scripts/check-wrong-answers.sh [CRATE | CRATE/LABEL ..]; with arguments only these are run, and the others keep their rows.
 set -euo pipefail
 cd "$(dirname "$0")/.."
-if [ $# = 0 ]; then
-    set -- --write docs/WRONG-ANSWERS.md
-fi
-python3 scripts/wrong_answers.py "$@"
+python3 scripts/wrong_answers.py --write docs/WRONG-ANSWERS.md "$@"

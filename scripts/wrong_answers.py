@@ -1,5 +1,5 @@
 #!/usr/bin/env python3
-"""wrong_answers.py [--write FILE] [CRATE | CRATE/NAME ..]: shows by running that each wrong answer is wrong.
+"""wrong_answers.py [--write FILE] [CRATE | CRATE/NAME ..]: shows by running that each wrong answer, or each named one, is wrong.
 
 A refusal by the prover can mean that a fact fails, or only that the proof does not find it. So each wrong answer of
 crates/*/must-fail that edits code (not a definition, not a contract) is built unproved, with that edit alone, and run beside the
@@ -7,7 +7,8 @@ right program. A run that differs tells the two apart:
     listings    vectors over crates/vectors/data and a listing made of the model's words and the model's answers
     replay      replay over its file `stdin`, and over a stream that ends within a word
     driver      tests/drivers/CRATE.txt, a program over the crate's functions that prints what they give
-An answer that no run tells apart fails: it is no wrong answer, or a driver is missing. --write puts the result into FILE.
+An answer that no run tells apart fails: it is no wrong answer, or a driver is missing. --write puts the result into FILE, where
+answers that are not run now keep their row.
 """
 import os
 import pathlib
@@ -59,6 +60,10 @@ class Answer:
 
     def title(self):
         return f"{self.crate}/{self.name}" if self.name else f"{self.crate}::{self.function}"
+
+    def row(self):
+        """the first two cells of its row in the report"""
+        return self.title(), self.words.replace("|", "/")
 
     def edited(self, folder):
         """the crate's src/ with the edit, in a folder; None where no code changes"""
@@ -178,47 +183,62 @@ def runs(work):
 def main(arguments):
     out = pathlib.Path(arguments.pop(arguments.index("--write") + 1)) if "--write" in arguments else None
     wanted = [word for word in arguments if word != "--write"]
-    rows, untold, skipped = [], [], 0
+    kept = rows_of(out) if out and wanted else {}
+    rows, skipped, failed = [], 0, 0
     with tempfile.TemporaryDirectory() as folder:
         work = pathlib.Path(folder)
         programs = runs(work)
         for number, answer in enumerate(answers()):
-            if wanted and answer.crate not in wanted and answer.title() not in wanted:
-                continue
             lib = answer.edited(work / f"edit-{number}")
             if lib is None:
                 skipped += 1
-                continue
-            own = sorted((run for run in programs if answer.crate in run.deps), key=lambda run: run.rank(answer.crate))
-            said, by = None, None
-            for run in own:
-                if said := run.told(answer.crate, lib):
-                    by = f"{run.name}, {first_difference(run, said)}" if run.name == "listings" else run.name
-                    break
+            elif wanted and answer.crate not in wanted and answer.title() not in wanted:
+                rows += [kept[answer.row()]] if answer.row() in kept else []
+            else:
+                by = told_by(programs, answer, lib)
+                failed += by is None
+                rows.append((*answer.row(), by or "NOTHING: it is to be replaced"))
+                print(f"{answer.title()}: {by or 'NOTHING TELLS IT APART: ' + answer.words}", flush=True)
             shutil.rmtree(work / f"edit-{number}")
-            (rows if said else untold).append((answer, by, said))
-            print(f"{answer.title()}: {by if said else 'NOTHING TELLS IT APART: ' + answer.words}", flush=True)
-    print(f"wrong answers: {len(rows)} of {len(rows) + len(untold)} that edit code differ in a run; {skipped} edit a contract alone")
+    print(f"wrong answers: {len(rows)} that edit code are run, {failed} of them now told apart by nothing; {skipped} edit a contract alone")
     if out:
-        out.write_text(report(rows, untold, skipped))
-    sys.exit(1 if untold else 0)
+        out.write_text(report(rows, skipped))
+    sys.exit(1 if failed else 0)
 
 
-def report(rows, untold, skipped):
+def told_by(programs, answer, lib):
+    """the run that differs with the edit, or None"""
+    own = sorted((run for run in programs if answer.crate in run.deps), key=lambda run: run.rank(answer.crate))
+    for run in own:
+        if said := run.told(answer.crate, lib):
+            return f"{run.name}, {first_difference(run, said)}" if run.name == "listings" else run.name
+    return None
+
+
+def rows_of(page):
+    """the rows of an earlier result, by wrong answer and words"""
+    lines = page.read_text().split("\n") if page.is_file() else []
+    cells = [[cell.strip() for cell in line.strip("|").split("|")] for line in lines if line.startswith("| ")]
+    return {(row[0], row[1]): tuple(row) for row in cells if len(row) == 3}
+
+
+def report(rows, skipped):
+    told = sum(not by.startswith("NOTHING") for _, _, by in rows)
     lines = [
         "# Wrong answers that were run",
         "",
         "The last result of `scripts/check-wrong-answers.sh`, which writes this page. Each wrong answer of a must-fail edit that changes code",
         "was built unproved, with that edit alone, and run beside the right program; the run named in the last column differed.",
-        f"{len(rows)} of {len(rows) + len(untold)} differ; {skipped} more edit a contract alone, and have no code to run. Edits of definitions",
-        "are not run: there a theorem about the definition fails.",
+        "`listings` are those of `crates/vectors/data` and one of generated words with the independent model's answers (generated.txt), `driver",
+        "NAME` is `tests/drivers/NAME.txt`.",
+        "",
+        f"{told} of {len(rows)} differ. {skipped} more edit a contract alone, and have no code to run. Edits of definitions are not run: there a",
+        "theorem about the definition fails.",
         "",
         "| wrong answer | what it does | the run that differs |",
         "|---|---|---|",
     ]
-    lines += [f"| {a.title()} | {a.words.replace('|', '/')} | {by} |" for a, by, _ in rows]
-    lines += [f"| {a.title()} | {a.words.replace('|', '/')} | none: it is to be replaced |" for a, _, _ in untold]
-    return "\n".join(lines) + "\n"
+    return "\n".join(lines + [f"| {title} | {words} | {by} |" for title, words, by in rows]) + "\n"
 
 
 main(sys.argv[1:])
