@@ -29,6 +29,22 @@ def found(folder, pattern):
     return names
 
 
+def theorems_proved():
+    """the public laws of proofs/, as crate.name: neither definitions nor the fields of a record"""
+    names = set()
+    for path in CRATES.glob("*/proofs/**/*.antt"):
+        record = None
+        for line in path.read_text().split("\n"):
+            indent = len(line) - len(line.lstrip(" "))
+            if record is not None and line.strip() and indent <= record:
+                record = None
+            if re.match(r" *(?:pub )?(?:record|data) ", line):
+                record = indent
+            elif record is None and (m := re.match(r" *pub ([^\s:]+) *[:({]", line)):
+                names.add(f"{path.parts[1]}.{m.group(1)}")
+    return names
+
+
 def edits():
     """the labelled edits, as crate/label"""
     labels = set()
@@ -51,7 +67,7 @@ def contracts():
 
 definitions = found("*/specs/**/*.antt", r"^ *(?:(?:unfoldable|abbrev) )*pub (?:(?:data|record) )?([^\s:]+)")
 types = found("*/src/*.rt", r"(?:struct|enum|const) (\w+)")
-theorems = found("*/proofs/**/*.antt", r"^ *pub ([^\s:]+) *[:({]")
+theorems = theorems_proved()
 proof_items = found("*/proofs/**/*.antt", r"^ *(?:(?:unfoldable|abbrev) )*pub (?:(?:data|record) )?([^\s:]+)")
 computed = {name for name in theorems if re.match(r"(?:[a-z0-9_]*_)?cases\.", name)}
 listings = {str(path.relative_to(CRATES / "vectors/data")) for path in (CRATES / "vectors/data").rglob("*.txt")}
