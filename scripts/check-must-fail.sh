@@ -2,7 +2,8 @@
 # Reads the logs of the must-fail edits that `rt ci` has tried. An edit file with headers '# FUNCTION: wrong answer' holds a wrong
 # answer for each of these functions, and each of them is refused by its own proof; any other edit file is one wrong program,
 # and its first error counts. A refusal that only says that a proof no longer fits the code, or that a callee was refused, shows
-# nothing about the contract and fails the check. Each public function has at least two wrong answers.
+# nothing about the contract and fails the check. It cannot tell a fact that fails from one that the proof does not find: that the
+# edited code is wrong indeed, scripts/check-wrong-answers.sh sees by running it. Each public function has at least two wrong answers.
 set -euo pipefail
 cd "$(dirname "$0")/.."
 bad=0
@@ -58,5 +59,5 @@ while IFS=: read -r source name; do
     [ "$count" -ge 2 ] || complain "$name has $count wrong answers tried, not two"
 done < <(grep -oE '^pub (extern "C" )?fn [a-z0-9_]+' crates/*/src/lib.rt | sed -E 's/:pub .*fn /:/')
 
-[ "$bad" = 0 ] && echo "must-fail: $answers wrong answers, each refused because a fact fails; at least two for each of $functions public functions"
+[ "$bad" = 0 ] && echo "must-fail: $answers wrong answers, each refused at a fact of its own proof; at least two for each of $functions public functions"
 exit "$bad"

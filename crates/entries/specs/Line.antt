@@ -1,6 +1,7 @@
--- A line of a listing, byte by byte: a word and its expected answer, eight hex digits each, with a blank or more between; before
--- them a count of one to five decimal digits and `*`, if the word is given more than once; after them a blank and a comment. An
--- empty line and one that begins with `#` are passed over.
+-- A line of a listing, byte by byte: a word and its expected answer, eight hex digits each, with white space between; before them a
+-- count, one to five decimal digits that are not all 0, and `*`, if the word is given more than once; after them white space and a
+-- comment. A line of nothing but white space and one whose first other byte is `#` are passed over. White space is blanks, tabs and
+-- the carriage returns of lines that end in CR LF.
 use Prim.Native.Nat.{ℕ, _+_, _-_, _*_, _%_}
 use lib.Dec.{eqb, ltb}
 use Rattle.bits.specs.Byte.{pick}
@@ -26,7 +27,8 @@ digitOf b =
 
 unfoldable pub symbolOf : ℕ → Symbol
 symbolOf b =
-    pick (eqb b 10) Newline (pick (eqb b 32) Blank (pick (eqb b 42) Star (pick (eqb b 35) Hash (digitOf b))))
+    pick (eqb b 10) Newline
+    (pick (eqb b 9) Blank (pick (eqb b 13) Blank (pick (eqb b 32) Blank (pick (eqb b 42) Star (pick (eqb b 35) Hash (digitOf b))))))
 
 -- ---- fields
 
@@ -34,7 +36,7 @@ symbolOf b =
 abbrev pub readerAt : Place → ℕ → ℕ → Reader
 readerAt place times word = record { place = place; digits = 0; value = 0; count = 0; times = times; word = word }
 
--- the first byte of a line is to come; a word is given once if nothing else is said
+-- the first field of a line is to come; a word is given once if nothing else is said
 abbrev pub lineStart : Reader
 lineStart = readerAt Start 1 0
 
@@ -60,9 +62,11 @@ grown r d =
     }))
     Refused
 
--- the end of a count: one to five decimal digits
+-- the end of a count: one to five decimal digits, and not 0, which would give the word to no chip
 unfoldable pub countEnd : Reader → Found
-countEnd r = pick (ltb (r .digits) 6) (pick (ltb (r .count) 100000) (Within (readerAt Repeated (r .count) 0)) Refused) Refused
+countEnd r =
+    pick (eqb (r .count) 0) Refused
+    (pick (ltb (r .digits) 6) (pick (ltb (r .count) 100000) (Within (readerAt Repeated (r .count) 0)) Refused) Refused)
 
 -- the end of a word: eight digits
 unfoldable pub wordEnd : Reader → Found
@@ -82,7 +86,7 @@ entryEnd r = pick (eqb (r .digits) 8) (Entry (r .times) (r .word) (r .value)) Re
 
 abbrev pub atStart : Symbol → Found
 atStart Newline = Within lineStart
-atStart Blank = Refused
+atStart Blank = Within lineStart
 atStart Star = Refused
 atStart Hash = Within (readerAt Remark 1 0)
 atStart (Digit d) = Within (begun First 1 0 d)

@@ -5,6 +5,7 @@ ghost use Rattle.entries.specs.Line.{digitOf, symbolOf, readerAt, counte
 // What a byte is to the reader of a line.
 pub enum Symbol {
     Newline,
+    // white space within a line: a blank, a tab, or the carriage return of a line that ends in CR LF
     Blank,
     Star,
     Hash,
@@ -15,7 +16,7 @@ pub enum Symbol {
 
 // Where in a line the reader stands.
 pub enum Place {
-    // before its first byte
+    // before its first field
     Start,
     // in a line that is passed over
     Remark,
@@ -78,6 +79,8 @@ fn symbol_of(b: u8) -> Symbol
 {
     match b {
         10 => Symbol::Newline,
+        9 => Symbol::Blank,
+        13 => Symbol::Blank,
         32 => Symbol::Blank,
         42 => Symbol::Star,
         35 => Symbol::Hash,
@@ -146,6 +149,9 @@ fn grown(r: Reader, d: u8) -> Found
 fn count_end(r: Reader) -> Found
     ensures { λ f. ⌜ f ≡ countEnd r ⌝ }
 {
+    if r.count == 0 {
+        return Found::Refused;
+    }
     if r.digits < 6 {
         if r.count < 100000 {
             Found::Within(reader_at(Place::Repeated, r.count, 0))
@@ -208,7 +214,7 @@ fn at_start(s: Symbol) -> Found
 {
     match s {
         Symbol::Newline => Found::Within(reader_at(Place::Start, 1, 0)),
-        Symbol::Blank => Found::Refused,
+        Symbol::Blank => Found::Within(reader_at(Place::Start, 1, 0)),
         Symbol::Star => Found::Refused,
         Symbol::Hash => Found::Within(reader_at(Place::Remark, 1, 0)),
         Symbol::Digit(d) => Found::Within(begun(Place::First, 1, 0, d)),
@@ -331,7 +337,7 @@ pub fn line_start() -> Reader
 }
 
 // A byte of a line.
-// Wrong answers: a word of seven digits taken; a count of six digits taken.
+// Wrong answers: a word of seven digits taken; a count of six digits taken; a count of 0 taken; a tab refused.
 pub fn next(r: Reader, b: u8) -> Found
     ensures { λ f. ⌜ f ≡ nextOf r b ⌝ }
 {

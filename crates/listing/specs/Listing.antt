@@ -1,5 +1,6 @@
 -- A listing run from a fresh chip: each word is given as often as its line says, and each answer is held to the expected one.
--- Reading stops at the first malformed line and at the first difference; nothing after it is run.
+-- Reading stops at the first malformed line and at the first difference; nothing after it is run. A listing without a word agrees with
+-- nothing, and is told from one that does.
 use Prim.Native.Nat.{ℕ, zero, suc, _+_}
 use mathlib.Core.List.{List, [], _∷_}
 use lib.Dec.{eqb, ltb}
@@ -12,7 +13,7 @@ use Rattle.entries.specs.declared.Reader.{Reader}
 use Rattle.entries.specs.declared.Found.{Found}
 use Rattle.entries.specs.declared.Found.the-variants.{Within, Refused, Entry}
 use Rattle.listing.specs.declared.Verdict.{Verdict}
-use Rattle.listing.specs.declared.Verdict.the-variants.{Agrees, Malformed, Differs}
+use Rattle.listing.specs.declared.Verdict.the-variants.{Agrees, Malformed, Differs, Empty}
 use Rattle.listing.specs.declared.Progress.{Progress}
 use Rattle.entries.specs.Line.{lineStart, next}
 
@@ -42,6 +43,7 @@ unfoldable pub givenAt : Verdict → Progress → ℕ → ℕ → Progress
 givenAt Agrees p word expected = given p word expected
 givenAt Malformed p word expected = p
 givenAt (Differs w e a) p word expected = p
+givenAt Empty p word expected = p
 
 unfoldable pub repeated : ℕ → Progress → ℕ → ℕ → Progress
 repeated zero p word expected = p
@@ -55,6 +57,7 @@ unfoldable pub lineEnd : Verdict → Progress → Progress
 lineEnd Agrees p = nextLine p
 lineEnd Malformed p = p
 lineEnd (Differs w e a) p = p
+lineEnd Empty p = p
 
 abbrev pub within : Progress → Reader → Progress
 within p r = record { chip = p .chip; reader = r; line = p .line; words = p .words; verdict = p .verdict }
@@ -73,12 +76,20 @@ unfoldable pub byteRead : Verdict → Progress → ℕ → Progress
 byteRead Agrees p b = taken p b (next (p .reader) b)
 byteRead Malformed p b = p
 byteRead (Differs w e a) p b = p
+byteRead Empty p b = p
 
 -- a part of the text
 unfoldable pub read : Progress → List ℕ → Progress
 read p [] = p
 read p (b ∷ rest) = read (byteRead (p .verdict) p b) rest
 
+-- a listing that has agreed so far and gave no word shows nothing: it is empty
+unfoldable pub concluded : Verdict → Progress → Progress
+concluded Agrees p = pick (eqb (p .words) 0) (stopped p Empty) p
+concluded Malformed p = p
+concluded (Differs w e a) p = p
+concluded Empty p = p
+
 -- the end of the text ends its last line
 unfoldable pub closed : Progress → Progress
-closed p = byteRead (p .verdict) p 10
+closed p = concluded (byteRead (p .verdict) p 10 .verdict) (byteRead (p .verdict) p 10)

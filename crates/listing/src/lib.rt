@@ -1,15 +1,17 @@
 // Listings: words with their expected answers, as text, run from a fresh chip.
 ghost use mathlib.Core.Path.{_≡_};
-ghost use Rattle.listing.specs.Listing.{oneMore, opened as openedOf, stopped as stoppedOf, given as givenOf, givenAt, repeated as repeatedOf, nextLine, lineEnd, within as withinOf, entered as enteredOf, taken as takenOf, byteRead, read as readOf, closed as closedOf};
+ghost use Rattle.listing.specs.Listing.{oneMore, opened as openedOf, stopped as stoppedOf, given as givenOf, givenAt, repeated as repeatedOf, nextLine, lineEnd, within as withinOf, entered as enteredOf, taken as takenOf, byteRead, read as readOf, concluded as concludedOf, closed as closedOf};
 use chip::Chip;
 use entries::Found;
 use entries::Reader;
 
-// What is known of a listing so far. A difference has the word, the expected answer and the one given.
+// What is known of a listing so far. A difference has the word, the expected answer and the one given; a listing that has ended
+// without a word is empty.
 pub enum Verdict {
     Agrees,
     Malformed,
     Differs(u32, u32, u32),
+    Empty,
 }
 
 // The chip, the reader, the number of the line, the words that were answered as expected, and the verdict.
@@ -83,6 +85,7 @@ fn given_at(verdict: Verdict, p: Progress, word: u32, expected: u32) -> Progress
         Verdict::Agrees => given(p, word, expected),
         Verdict::Malformed => p,
         Verdict::Differs(_, _, _) => p,
+        Verdict::Empty => p,
     }
 }
 
@@ -121,6 +124,7 @@ fn line_end(verdict: Verdict, p: Progress) -> Progress
         Verdict::Agrees => next_line(p),
         Verdict::Malformed => p,
         Verdict::Differs(_, _, _) => p,
+        Verdict::Empty => p,
     }
 }
 
@@ -176,6 +180,7 @@ fn byte_read(verdict: Verdict, p: Progress, b: u8) -> Progress
         Verdict::Agrees => next_byte(p, b),
         Verdict::Malformed => p,
         Verdict::Differs(_, _, _) => p,
+        Verdict::Empty => p,
     }
 }
 
@@ -194,11 +199,31 @@ pub fn read(start: Progress, text: &[u8]) -> Progress
     p
 }
 
+// A listing without a word shows nothing.
+fn concluded(verdict: Verdict, p: Progress) -> Progress
+    ensures { λ r. ⌜ r ≡ concludedOf verdict p ⌝ }
+{
+    match verdict {
+        Verdict::Agrees => {
+            if p.words == 0 {
+                stopped(p, Verdict::Empty)
+            } else {
+                p
+            }
+        }
+        Verdict::Malformed => p,
+        Verdict::Differs(_, _, _) => p,
+        Verdict::Empty => p,
+    }
+}
+
 // The end of the text, which ends its last line.
-// Wrong answers: a last line without its newline lost; a complete listing called malformed.
+// Wrong answers: a last line without its newline lost; a complete listing called malformed; an empty one that agrees.
 pub fn closed(p: Progress) -> Progress
     ensures { λ r. ⌜ r ≡ closedOf p ⌝ }
 {
     let verdict = p.verdict;
-    byte_read(verdict, p, 10)
+    let last = byte_read(verdict, p, 10);
+    let told = last.verdict;
+    concluded(told, last)
 }

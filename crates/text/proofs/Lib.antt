@@ -1,4 +1,6 @@
 pub mod Place
+pub mod Move
 pub mod Words
 pub mod Lines
 pub mod Stream
+pub mod Parts

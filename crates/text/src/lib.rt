@@ -1,11 +1,11 @@
 // From the bytes of event words to the text of the answers (document 01, "Replay program and cases").
 ghost use mathlib.Core.Path.{_≡_};
-ghost use Prim.Native.Nat.{_+_, _*_, _/_, _≤_, _<_};
+ghost use Prim.Native.Nat.{_+_, _-_, _*_, _/_, _≤_, _<_};
 ghost use mathlib.Core.List.{_++_};
 ghost use lib.ListN.{length, take, drop, getD};
 ghost use Rattle.run.specs.Run.{advanced, advancedAnswers};
 ghost use Rattle.hex.specs.Hex.{hexLine};
-ghost use Rattle.text.specs.Text.{hexLines, wordsOf, leftOverAnswer, answered, answeredText};
+ghost use Rattle.text.specs.Text.{hexLines, wordsOf, leftOverAnswer, answered, answeredText, partAnswered, partText, partBytes};
 use chip::Chip;
 use step::Stepped;
 
@@ -13,6 +13,13 @@ use step::Stepped;
 pub struct Answered {
     pub chip: Chip,
     pub count: usize,
+}
+
+// What a part gives: the chip after its whole words, the bytes of text written, and how many bytes are carried over to the next.
+pub struct Part {
+    pub chip: Chip,
+    pub count: usize,
+    pub carried: usize,
 }
 
 // The line of an answer, at an index of the text.
@@ -96,5 +103,40 @@ pub fn answer_block(start: Chip, bytes: &[u8], text: &mut [u8]) -> Answered
     Answered {
         chip: c,
         count: 9 * whole + 9,
+    }
+}
+
+// The bytes from an index on, to the start.
+fn carry(bytes: &mut [u8], from: usize)
+    requires { ⌜ from ≤ length (now bytes) ⌝ }
+    ensures { λ _. ⌜ now (bytes .exit) ≡ drop from (now (bytes .entry)) ++ drop (length (now (bytes .entry)) - from) (now (bytes .entry)) ⌝ }
+{
+    let mut i = 0;
+    while i < bytes.len() - from {
+        bytes[i] = bytes[from + i];
+        i += 1;
+    }
+}
+
+// A part of a stream that comes as it comes, behind the bytes carried over from the part before: the text of its whole words to
+// the start of `text`, and the bytes of a cut word to the start of `bytes`. Where the text does not fit nothing is written.
+// Wrong answers: bytes of other words carried over; two bytes of a cut word counted as none.
+pub fn answer_part(start: Chip, bytes: &mut [u8], text: &mut [u8]) -> Part
+    ensures { λ r. ⌜ (r ≡ partAnswered start (now (bytes .entry)) (now (text .entry))) × ((now (bytes .exit) ≡ partBytes start (now (bytes .entry)) (now (text .entry))) × (now (text .exit) ≡ partText start (now (bytes .entry)) (now (text .entry)))) ⌝ }
+{
+    let whole = bytes.len() / 4;
+    if text.len() / 9 < whole {
+        return Part {
+            chip: start,
+            count: 0,
+            carried: bytes.len(),
+        };
+    }
+    let c = answer_words(start, bytes, text);
+    carry(bytes, 4 * whole);
+    Part {
+        chip: c,
+        count: 9 * whole,
+        carried: bytes.len() % 4,
     }
 }

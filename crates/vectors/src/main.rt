@@ -1,101 +1,135 @@
 // Runs each listing that an argument names from a fresh chip, and prints a line for each: how many words were answered as
-// expected, or where the first difference is, or which line is malformed.
+// expected, or where the first difference is, or which line is malformed, or that it has no words. A listing that cannot be read
+// and output that cannot be written are told on standard error.
+use libc::STDERR_FILENO;
 use libc::STDOUT_FILENO;
 use listing::Progress;
 use listing::Verdict;
 
+// A listing so far, whether more of it may come, and whether a read failed.
 struct Turn {
     progress: Progress,
     more: bool,
+    failed: bool,
 }
 
-// A block of a listing.
-fn read_block(p: Progress, fd: i32) -> Turn {
+// A part of a listing.
+fn read_part(p: Progress, fd: i32) -> Turn {
     let mut block = io::large_buffer();
-    let n = io::read_full(fd, &mut block);
+    let got = libc::read(fd, &mut block);
+    if got < 0 {
+        return Turn {
+            progress: p,
+            more: false,
+            failed: true,
+        };
+    }
+    let n = io::count(got, &block);
     let next = listing::read(p, &block[..n]);
     Turn {
         progress: next,
-        more: n == 65536,
+        more: n > 0,
+        failed: false,
     }
 }
 
 // A listing to its end. The loop counts its turns down, since nothing says that a file ends.
-fn read_all(fd: i32) -> Progress {
-    let mut p = listing::opened();
+fn read_all(fd: i32) -> Turn {
+    let mut t = Turn {
+        progress: listing::opened(),
+        more: true,
+        failed: false,
+    };
     let mut turns = u64::MAX;
     while turns > 0 {
-        let t = read_block(p, fd);
-        let next = t.progress;
+        let p = t.progress;
+        t = read_part(p, fd);
         if t.more {
-            p = next;
             turns -= 1;
         } else {
-            return listing::closed(next);
+            return t;
         }
     }
-    listing::closed(p)
+    t
 }
 
-fn print_word(w: u32) {
+fn print(text: &[u8]) -> bool {
+    io::write_all(STDOUT_FILENO, text)
+}
+
+fn print_number(n: u64) -> bool {
+    io::print_decimal(STDOUT_FILENO, n)
+}
+
+fn print_word(w: u32) -> bool {
     let line = hex::hex_line(w);
-    io::write_all(STDOUT_FILENO, &line[..8]);
+    print(&line[..8])
 }
 
-fn print_line(line: u64) {
-    io::write_all(STDOUT_FILENO, b": line ");
-    io::print_decimal(STDOUT_FILENO, line);
+fn print_line(line: u64) -> bool {
+    print(b": line ") & print_number(line)
 }
 
-fn print_difference(words: u64, word: u32, expected: u32, given: u32) {
-    io::write_all(STDOUT_FILENO, b": after words ");
-    io::print_decimal(STDOUT_FILENO, words);
-    io::write_all(STDOUT_FILENO, b" word ");
-    print_word(word);
-    io::write_all(STDOUT_FILENO, b" expected ");
-    print_word(expected);
-    io::write_all(STDOUT_FILENO, b" given ");
-    print_word(given);
+fn print_difference(words: u64, word: u32, expected: u32, given: u32) -> bool {
+    let place = print(b": after words ") & print_number(words);
+    let asked = print(b" word ") & print_word(word) & print(b" expected ") & print_word(expected);
+    place & asked & print(b" given ") & print_word(given)
 }
 
-fn print_verdict(verdict: Verdict, line: u64, words: u64) {
+fn print_verdict(verdict: Verdict, line: u64, words: u64) -> bool {
     match verdict {
-        Verdict::Agrees => {
-            io::write_all(STDOUT_FILENO, b": words ");
-            io::print_decimal(STDOUT_FILENO, words);
-        }
-        Verdict::Malformed => {
-            print_line(line);
-            io::write_all(STDOUT_FILENO, b" malformed");
-        }
-        Verdict::Differs(word, expected, given) => {
-            print_line(line);
-            print_difference(words, word, expected, given);
-        }
+        Verdict::Agrees => print(b": words ") & print_number(words),
+        Verdict::Malformed => print_line(line) & print(b" malformed"),
+        Verdict::Differs(word, expected, given) => print_line(line)
+            & print_difference(words, word, expected, given),
+        Verdict::Empty => print(b": no words"),
     }
-    io::write_all(STDOUT_FILENO, b"\n");
 }
 
-fn run_listing(i: usize) {
+// Prints the line of a listing, and tells whether it could.
+fn print_result(path: &[u8], p: Progress) -> bool {
+    let verdict = p.verdict;
+    let is_printed = print(path) & print_verdict(verdict, p.line, p.words) & print(b"\n");
+    if is_printed {
+        return true;
+    }
+    os::fail(b"vectors: standard output");
+    false
+}
+
+// Runs the listing that an argument names, and tells whether the next one is worth running.
+fn run_listing(i: usize) -> bool {
     let mut path = io::buffer();
     let n = os::arg(i, &mut path);
     let fd = os::open_read(&path[..n]);
     if fd < 0 {
         os::fail(&path[..n]);
-        return;
+        return true;
     }
-    io::write_all(STDOUT_FILENO, &path[..n]);
-    let p = read_all(fd);
-    let verdict = p.verdict;
-    print_verdict(verdict, p.line, p.words);
+    let t = read_all(fd);
+    if t.failed {
+        os::fail(&path[..n]);
+        libc::close(fd);
+        return true;
+    }
     libc::close(fd);
+    let p = t.progress;
+    print_result(&path[..n], listing::closed(p))
 }
 
 fn main() {
     let n = os::arg_count();
+    if n < 2 {
+        io::write_all(STDERR_FILENO, b"vectors: no listing is named\n");
+        return;
+    }
     let mut i = 1;
     while i < n {
-        run_listing(i);
-        i += 1;
+        let goes_on = run_listing(i);
+        if goes_on {
+            i += 1;
+        } else {
+            return;
+        }
     }
 }

@@ -1,6 +1,6 @@
 -- `entries::count_end` meets its contract.
 -- Assumes nothing.
-use borrow.Author.Tests.{lt-ltb, le-ltb}
+use borrow.Author.Tests.{lt-ltb, le-ltb, eq-eqb, ne-eqb}
 use Rattle.entries.specs.Line.{countEnd}
 use borrow.Author.Needs.{needs}
 use Rattle.entries.proofs.count_end.Statement.{statement}
@@ -11,7 +11,8 @@ unfolding countEnd
 count-end-spec =
     tie.close
     (tie.spec
+    (λ c. simp (eq-eqb _ _ (c .if1 .taken)))
     (λ c κs. search needs)
-    (λ c. simp (c .reader-at .ensures, lt-ltb _ _ (c .before .if2 .taken), lt-ltb _ _ (c .before .before .before .if1 .taken)))
-    (λ c. simp (le-ltb _ _ (c .if2 .left), lt-ltb _ _ (c .before .before .if1 .taken)))
-    (λ c. simp (le-ltb _ _ (c .if1 .left))))
+    (λ c. simp (c .reader-at .ensures, lt-ltb _ _ (c .before .if3 .taken), lt-ltb _ _ (c .before .before .before .if2 .taken), ne-eqb _ _ (c .before .before .before .before .before .if1 .left)))
+    (λ c. simp (le-ltb _ _ (c .if3 .left), lt-ltb _ _ (c .before .before .if2 .taken), ne-eqb _ _ (c .before .before .before .before .if1 .left)))
+    (λ c. simp (le-ltb _ _ (c .if2 .left), ne-eqb _ _ (c .before .before .if1 .left))))

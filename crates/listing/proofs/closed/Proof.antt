@@ -1,6 +1,8 @@
 -- `listing::closed` meets its contract.
 -- Assumes nothing.
-use Rattle.listing.specs.Listing.{closed}
+use mathlib.Core.Path.{ap, _∙_}
+use Rattle.listing.specs.declared.Progress.{Progress}
+use Rattle.listing.specs.Listing.{concluded, closed}
 use borrow.Author.Needs.{needs}
 use Rattle.listing.proofs.closed.Statement.{statement}
 use Rattle.listing.proofs.closed.Tie as tie
@@ -11,4 +13,5 @@ closed-spec =
     tie.close
     (tie.spec
     (λ c κs. search needs)
-    (λ c. c .byte-read .ensures))
+    (λ c κs. search needs)
+    (λ c. c .concluded .ensures ∙ ap (λ (p : Progress). concluded (p .verdict) p) (c .before .byte-read .ensures)))

@@ -5,10 +5,10 @@ use Rattle.vectors.proofs.read_all.Statement.{statement}
 use Rattle.vectors.proofs.read_all.Tie as tie
 
 abbrev Inv-loop : tie.InvT-loop
-Inv-loop fd p₀ turns₀ p turns = Unit {0}
+Inv-loop fd t₀ turns₀ t turns = Unit {0}
 
 abbrev μ-loop : tie.MeasureT-loop
-μ-loop fd p₀ turns₀ p turns = turns
+μ-loop fd t₀ turns₀ t turns = turns
 
 opened-requires : tie.Need-opened-requires Inv-loop μ-loop
 opened-requires c κs = search needs
@@ -16,8 +16,8 @@ opened-requires c κs = search needs
 loop-holds : tie.Need-loop-holds Inv-loop μ-loop
 loop-holds c = search needs
 
-read-block-requires : tie.Need-read-block-requires Inv-loop μ-loop
-read-block-requires c κs = search needs
+read-part-requires : tie.Need-read-part-requires Inv-loop μ-loop
+read-part-requires c κs = search needs
 
 sub-turns : tie.Need-sub-turns Inv-loop μ-loop
 sub-turns c = search needs
@@ -28,14 +28,8 @@ loop-less c = search needs
 loop-again : tie.Need-loop-again Inv-loop μ-loop
 loop-again c = search needs
 
-closed-requires : tie.Need-closed-requires Inv-loop μ-loop
-closed-requires c κs = search needs
-
 returns : tie.Need-returns Inv-loop μ-loop
 returns c = search needs
-
-closed-requires-2 : tie.Need-closed-requires-2 Inv-loop μ-loop
-closed-requires-2 c κs = search needs
 
 returns-2 : tie.Need-returns-2 Inv-loop μ-loop
 returns-2 c = search needs
@@ -48,11 +42,9 @@ read-all-spec =
     μ-loop
     opened-requires
     loop-holds
-    read-block-requires
+    read-part-requires
     sub-turns
     loop-less
     loop-again
-    closed-requires
     returns
-    closed-requires-2
     returns-2)

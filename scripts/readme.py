@@ -1,0 +1,39 @@
+#!/usr/bin/env python3
+"""readme.py [PAGE]: runs the examples of README.md as they are written.
+
+In an indented block a line `$ command` is run by bash in the repository's top folder, and the lines after it are what it prints. A block
+of nothing but comments and entries of a listing is run by target/bin/vectors from a fresh chip.
+"""
+import pathlib
+import re
+import subprocess
+import sys
+import tempfile
+
+ENTRY = re.compile(r"#.*|(?:[0-9]{1,5}\* *)?[0-9A-Fa-f]{8} +[0-9A-Fa-f]{8}(?: .*)?")
+complaints = []
+commands = listings = 0
+page = pathlib.Path(sys.argv[1] if len(sys.argv) > 1 else "README.md")
+for block in re.findall(r"(?:^    .*\n)+", page.read_text(), re.M):
+    lines = [line[4:] for line in block.rstrip("\n").split("\n")]
+    if lines[0].startswith("$ "):
+        for part in re.split(r"^\$ ", "\n".join(lines), flags=re.M)[1:]:
+            command, _, expected = part.partition("\n")
+            done = subprocess.run(["bash", "-c", command], capture_output=True, text=True)
+            commands += 1
+            if done.returncode != 0 or done.stdout.rstrip("\n") != expected.rstrip("\n"):
+                complaints.append(f"'{command}' ends with status {done.returncode} and prints\n{done.stdout}{done.stderr}")
+    elif all(ENTRY.fullmatch(line) for line in lines):
+        with tempfile.TemporaryDirectory() as folder:
+            pathlib.Path(folder, "example.txt").write_text("\n".join(lines) + "\n")
+            done = subprocess.run([pathlib.Path("target/bin/vectors").resolve(), "example.txt"], cwd=folder, capture_output=True, text=True)
+        listings += 1
+        if done.stderr or not re.fullmatch(r"example\.txt: words \d+\n", done.stdout):
+            complaints.append(f"the listing that begins '{lines[0]}': {done.stdout}{done.stderr}")
+if commands == 0 or listings == 0:
+    complaints.append(f"{commands} commands and {listings} listings are found: one of each at least is expected")
+for text in complaints:
+    print(f"readme: {text}")
+if complaints:
+    sys.exit(1)
+print(f"readme: {commands} commands and {listings} listings of {page} give what they say")
