@@ -26,26 +26,12 @@ pub enum Edge {
 // low (clock stretching), for so many clocks of 8 µs.
 pub enum Phase {
     Idle,
-    Address {
-        count: u8,
-        bits: u8,
-    },
-    Addressed {
-        bits: u8,
-        ninth: bool,
-    },
+    Address { count: u8, bits: u8 },
+    Addressed { bits: u8, ninth: bool },
     Ignoring,
-    Receive {
-        count: u8,
-        bits: u8,
-    },
-    Transmit {
-        count: u8,
-        byte: u8,
-    },
-    Held {
-        clocks: u16,
-    },
+    Receive { count: u8, bits: u8 },
+    Transmit { count: u8, byte: u8 },
+    Held { clocks: u16 },
 }
 
 // The shift register of DDC1, and the rises of VSYNCI left before the next load.

@@ -107,7 +107,13 @@ pub fn data_at_rise(sda: bool, phase: Phase, byte: u8) -> u8
         Phase::Address { count, bits } => { if count < 7 { byte } else { gathered(bits, sda) } }
         Phase::Addressed { bits: _, ninth: _ } => byte,
         Phase::Ignoring => byte,
-        Phase::Receive { count, bits } => { if count == 7 { gathered(bits, sda) } else { byte } }
+        Phase::Receive { count, bits } => {
+            if count == 7 {
+                gathered(bits, sda)
+            } else {
+                byte
+            }
+        }
         Phase::Transmit { count: _, byte: _ } => byte,
         Phase::Held { clocks: _ } => byte,
     }
@@ -273,7 +279,9 @@ pub fn phase_at_period(phase: Phase) -> Phase
         Phase::Ignoring => phase,
         Phase::Receive { count: _, bits: _ } => phase,
         Phase::Transmit { count: _, byte: _ } => phase,
-        Phase::Held { clocks } => Phase::Held { clocks: held_longer(clocks) },
+        Phase::Held { clocks } => Phase::Held {
+            clocks: held_longer(clocks),
+        },
     }
 }
 

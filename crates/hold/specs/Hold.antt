@@ -1,5 +1,5 @@
 -- How long the chip has held SCL low (document 02, Wish 9): what is told, and what each case says.
-use Prim.Native.Nat.{ℕ}
+use Prim.Native.Nat.{ℕ, _+_, _*_}
 use mathlib.Core.Path.{_≡_}
 use mathlib.Core.Bool.{true, false}
 use Rattle.bits.specs.Byte.{pick}
@@ -35,6 +35,10 @@ abbrev pub holdClocks : Hold → ℕ
 holdClocks IllFormed = 0
 holdClocks NotHeld = 0
 holdClocks (HeldFor clocks) = clocks
+
+-- the same in one number: the paper's number in bits 31..24, the count below
+unfoldable pub holdWord : Hold → ℕ
+holdWord h = holdNumber h * 16777216 + holdClocks h
 
 -- what a case says of the chip
 unfoldable pub HoldCase : Chip → Hold → Type 0

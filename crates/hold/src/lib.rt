@@ -1,6 +1,6 @@
 // How long the chip has held SCL low, which is clock stretching (document 02, Wish 9).
 ghost use mathlib.Core.Path.{_≡_};
-ghost use Rattle.hold.specs.Hold.{holdOf, holdReport, HoldCase};
+ghost use Rattle.hold.specs.Hold.{holdOf, holdReport, holdWord, HoldCase};
 use bus::Phase;
 use chip::Chip;
 
@@ -26,7 +26,7 @@ fn hold_of(phase: Phase) -> Hold
 }
 
 // The clocks of 8 µs since the chip took SCL low. An ill formed state is told before all else.
-// Wrong answers: not held told of an ill formed state; not held told of a hold.
+// Wrong answers: not held told of an ill formed state; not held told of a hold; a clock more told of it.
 pub fn held_for(c: Chip) -> Hold
     ensures { λ r. ⌜ (r ≡ holdReport c) × HoldCase c r ⌝ }
 {
@@ -37,5 +37,17 @@ pub fn held_for(c: Chip) -> Hold
         hold_of(phase)
     } else {
         Hold::IllFormed
+    }
+}
+
+// A report in one number: bits 31 to 24 say 8 where the state is ill formed, bits 15 to 0 are the count.
+// Wrong answers: 7 for an ill formed state; the count shifted up by eight.
+pub fn hold_word(h: Hold) -> u32
+    ensures { λ r. ⌜ r ≡ holdWord h ⌝ }
+{
+    match h {
+        Hold::IllFormed => 0x0800_0000,
+        Hold::NotHeld => 0,
+        Hold::Held(clocks) => clocks as u32,
     }
 }
