@@ -1,0 +1,5 @@
+#!/usr/bin/env bash
+# The picture of the crates in docs/READING.md is that of crates.txt.
+set -euo pipefail
+cd "$(dirname "$0")/.."
+python3 scripts/graph.py --check
