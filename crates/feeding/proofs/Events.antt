@@ -1,0 +1,135 @@
+-- Every event, and every list of words, at a chip that is fed.
+-- Assumes nothing.
+use Prim.Native.Nat.{ℕ, _+_, _<_}
+use mathlib.Core.Path.{_≡_, refl}
+use mathlib.Core.List.{List, [], _∷_, _++_}
+use mathlib.Core.Bool.{Bool, true, false, not, _&&_, _||_, Bool·beq}
+use lib.ListN.{length, take}
+use lib.Dec.{eqb, ltb}
+use borrow.Author.Tests.{eqb-true, not-true, not-false}
+use Rattle.bits.specs.Byte.{pick, bit}
+use Rattle.bits.proofs.Finite.{both, neither}
+use Rattle.registers.specs.Names.{BTCON, MDCON, IISTS}
+use Rattle.registers.specs.Table.{isWritable}
+use Rattle.events.specs.declared.Decoded.{Decoded}
+use Rattle.events.specs.declared.Decoded.the-variants.{Read, Write, Pin, Clock, Polarity, Refused}
+use Rattle.events.specs.Word.{decode, InRange}
+use Rattle.events.proofs.Refusal.{decode-in-range}
+use Rattle.chip.specs.declared.Chip.{Chip}
+use Rattle.chip.specs.State.{registerAt, withReset, withWatchdog}
+use Rattle.counters.specs.Count.{cycleNext, watchdogNext, watchdogFires}
+use Rattle.writes.specs.Writes.{writeRegister}
+use Rattle.pins.specs.Pins.{pinMoved}
+use Rattle.pins.proofs.Numbers.{numbered}
+use Rattle.clocks.specs.Clocks.{periodClock, timerRuns, timerStep, timerClock, watchdogClock, clockedAs, clocked, polarityFound}
+use Rattle.outcome.specs.Outcome.{next}
+use Rattle.feeding.specs.Observer.{Observer, vsynciOf, watchdogOf, turnsOff, changesMd, secondByte, observe, permitted, throughout}
+use Rattle.feeding.specs.Levels.{bytesWritten, shows, sdaPut, Level, level, byShifts, serial}
+use Rattle.feeding.proofs.Tracks.{frame, observer, seen, ModeOf, Stage, Pending, Tracks, tracks, in-ddc2b, kept, followed}
+use Rattle.feeding.proofs.Pins.{After, kind-moved}
+use Rattle.feeding.proofs.Writes.{write-by}
+
+-- ---- clocks and polarity
+
+module _ (g : Chip) {a b loaded written : Bool} {y r n : ℕ} {p : List Bool} {d : List ℕ} (k : ModeOf g a b) (t : Stage a b loaded n r p) (w : Pending written y d) where
+  watchdog-tracks : (z s : Bool) → not (z && not (ltb (watchdogOf g) 63)) ≡ true
+      → Tracks (clocked (frame g z s y r n) 3) (observe (seen g z s a b n loaded written) (Clock 3)) p d
+  unfolding clocked clockedAs watchdogClock watchdogFires watchdogNext cycleNext observe
+  watchdog-tracks false s h = tracks g false s k t w
+  watchdog-tracks true s h =
+      let few : ltb (watchdogOf g) 63 ≡ true = not-false _ (not-true _ h) in
+      rw few (tracks (withWatchdog g (watchdogOf g + 1)) true s k t w)
+
+  other-tracks : (z s period runs : Bool) → Tracks (pick period (periodClock (frame g z s y r n)) (pick runs (timerStep (frame g z s y r n)) (frame g z s y r n))) (seen g z s a b n loaded written) p d
+  unfolding periodClock timerStep
+  other-tracks z s true runs = tracks (periodClock g) z s k t w
+  other-tracks z s false true = tracks (timerStep g) z s k t w
+  other-tracks z s false false = tracks g z s k t w
+
+  clock-tracks : (z s : Bool) (clock : ℕ) (watchdog : Bool) → eqb clock 3 ≡ watchdog → not (z && (watchdog && not (ltb (watchdogOf g) 63))) ≡ true
+      → Tracks (clocked (frame g z s y r n) clock) (observe (seen g z s a b n loaded written) (Clock clock)) p d
+  unfolding clocked clockedAs timerClock observe
+  clock-tracks z s clock true e h = rw (eqb-true clock 3 e) (watchdog-tracks z s h)
+  clock-tracks false s clock false e h = tracks g false s k t w
+  clock-tracks true s clock false e h = rw e (other-tracks true s (eqb clock 0) (timerRuns (registerAt g BTCON) clock))
+
+  polarity-tracks : (z s vertical l : Bool) → Tracks (polarityFound (frame g z s y r n) vertical l) (seen g z s a b n loaded written) p d
+  unfolding polarityFound
+  polarity-tracks false s vertical l = tracks g false s k t w
+  polarity-tracks true s vertical l = tracks (polarityFound (withReset g true) vertical l) true s k t w
+
+-- ---- every event
+
+pub event-moved : (g : Chip) (z s : Bool) {a m loaded fresh : Bool} {y r n : ℕ} {p : List Bool} {d : List ℕ} → ModeOf g a m → Stage a m loaded n r p → Pending fresh y d
+    → (e : Decoded) → InRange e → permitted (seen g z s a m n loaded fresh) e ≡ true
+    → After (next (frame g z s y r n) e) (seen g z s a m n loaded fresh) e p d
+unfolding next writeRegister pinMoved observe permitted
+event-moved g z s k t w (Read x) u h = kept (tracks g z s k t w)
+event-moved g z s k t w (Write x b) u h = write-by g z (isWritable x) s k t w x b (u .1) h
+event-moved g z s k t w (Pin q l) u h = kind-moved g z s k t w (numbered q) l h
+event-moved g z s k t w (Clock c) u h = kept (clock-tracks g k t w z s c (eqb c 3) refl h)
+event-moved g z s k t w (Polarity v l) u h = kept (polarity-tracks g k t w z s v l)
+event-moved g z s k t w (Refused c) u h = kept (tracks g z s k t w)
+
+-- ---- DDC2B stays, and no rise of VSYNCI shifts
+
+pub data Ddc2bBy : Observer → Type 0 where
+  ddc2b-by : (z s v : Bool) (n w : ℕ) (loaded fresh : Bool) → Ddc2bBy (observer z s v false false n w loaded fresh)
+
+-- a bit that only a forbidden write would set
+stays-low : (t x rest : Bool) → ((t && x) || rest) ≡ false → pick t x false ≡ false
+stays-low true x rest h = neither x rest h .0
+stays-low false x rest h = refl
+
+md-differs : (x : Bool) → not (Bool·beq x false) ≡ x
+md-differs true = refl
+md-differs false = refl
+
+never-shows : (q z r y : Bool) → (q && ((z && (r && false)) && y)) ≡ false
+never-shows false z r y = refl
+never-shows true false r y = refl
+never-shows true true false y = refl
+never-shows true true true y = refl
+
+ddc2b-write : (z v s : Bool) (u : Bool) (n w : ℕ) (loaded fresh : Bool) (x b : ℕ) → not ((z && v) && (turnsOff (observer z s u false false n w loaded fresh) x b || (changesMd (observer z s u false false n w loaded fresh) x b || secondByte (observer z s u false false n w loaded fresh) x))) ≡ true
+    → (pick ((z && v) && eqb x IISTS) (bit 3 b) false ≡ false) × (pick ((z && v) && eqb x MDCON) (bit 0 b) false ≡ false)
+ddc2b-write false v s u n w loaded fresh x b h = (refl, refl)
+ddc2b-write true false s u n w loaded fresh x b h = (refl, refl)
+ddc2b-write true true s u n w loaded fresh x b h =
+    let two = neither (eqb x IISTS && bit 3 b) _ (not-true _ h) in
+    (stays-low (eqb x IISTS) (bit 3 b) _ (not-true _ h), stays-low (eqb x MDCON) (bit 0 b) _ (rw (md-differs (bit 0 b)) at (two .1)))
+
+ddc2b-stays : {o : Observer} → Ddc2bBy o → (e : Decoded) → permitted o e ≡ true → Ddc2bBy (observe o e) × (shows o e ≡ false)
+unfolding observe permitted
+ddc2b-stays (ddc2b-by z s v n w loaded fresh) (Read x) h = (ddc2b-by z s v n w loaded fresh, refl)
+ddc2b-stays (ddc2b-by z s v n w loaded fresh) (Write x b) h =
+    let low = ddc2b-write z (isWritable x) s v n w loaded fresh x b h in
+    (rw (low .0, low .1) (ddc2b-by z s v _ _ loaded _), refl)
+ddc2b-stays (ddc2b-by z s v n w loaded fresh) (Pin q l) h = (ddc2b-by _ _ _ _ w _ _, never-shows (eqb q 27) z (not v && l) _)
+ddc2b-stays (ddc2b-by z s v n w loaded fresh) (Clock c) h = (ddc2b-by z s v n _ loaded fresh, refl)
+ddc2b-stays (ddc2b-by z s v n w loaded fresh) (Polarity x l) h = (ddc2b-by z s v n w loaded fresh, refl)
+ddc2b-stays (ddc2b-by z s v n w loaded fresh) (Refused c) h = (ddc2b-by z s v n w loaded fresh, refl)
+
+-- ---- a list of words
+
+-- the levels without a test of the state at each word
+abbrev pub levelsNext : Observer → Chip → List ℕ → List Level
+levelsNext o c [] = []
+levelsNext o c (w ∷ ws) =
+    pick (shows o (decode w)) (level (eqb (o .left) 0) (sdaPut (next c (decode w))) ∷ []) [] ++ levelsNext (observe o (decode w)) (next c (decode w)) ws
+
+none-listed : {o : Observer} → Ddc2bBy o → (c : Chip) (ws : List ℕ) → throughout o ws ≡ true → levelsNext o c ws ≡ []
+none-listed i c [] h = refl
+none-listed {o} i c (w ∷ ws) h =
+    let one = both (permitted o (decode w)) _ h in
+    let stays = ddc2b-stays i (decode w) (one .0) in
+    rw (stays .1) (none-listed (stays .0) (next c (decode w)) ws (one .1))
+
+pub tracked-levels : {c : Chip} {o : Observer} {p : List Bool} {d : List ℕ} → Tracks c o p d → (ws : List ℕ) → throughout o ws ≡ true
+    → take (length (levelsNext o c ws)) (byShifts p ++ serial (d ++ bytesWritten o ws)) ≡ levelsNext o c ws
+tracked-levels f [] h = refl
+tracked-levels (in-ddc2b c z s v n w loaded fresh p d) (x ∷ xs) h = rw (none-listed (ddc2b-by z s v n w loaded fresh) c (x ∷ xs) h)
+tracked-levels {c} {o} (tracks g z s k t a) (w ∷ ws) h =
+    let one = both (permitted o (decode w)) _ h in
+    followed (event-moved g z s k t a (decode w) (decode-in-range w) (one .0)) (levelsNext (observe o (decode w)) (next c (decode w)) ws) (bytesWritten (observe o (decode w)) ws)
+    (λ q e f. tracked-levels f ws (one .1))
