@@ -7,6 +7,9 @@ use native.Mathlib.Omega.{arith}
 use native.Mathlib.Numerals.{add-one}
 use lib.ListN.{length, getD, take, drop, set, length-append, length-drop}
 use borrow.Author.Tests.{lt-ltb, le-ltb}
+use mathlib.Core.Bool.{Bool, true, false}
+use lib.Dec.{ltb}
+use Rattle.bits.specs.Byte.{pick}
 use Rattle.feed_words.specs.Words.{placedCount, placed}
 use lib.Seq.{length-take-le, take-length, take-suc, drop-cons, append-snoc, set-at}
 
@@ -54,3 +57,12 @@ module _ (list places : List ℕ) where
 
   pub placed-length : length list ≤ length places → (now : List ℕ) → now ≡ list ++ drop (length list) places → length now ≡ length places
   placed-length h now f = ap length f ∙ length-append list (drop (length list) places) ∙ omega (arith, length-drop (length list) places)
+
+-- what is written is within its places
+within-by : (list places : List ℕ) (short : Bool) → pick short 0 (length list) ≤ length (pick short places (list ++ drop (length list) places))
+within-by list places true = omega arith
+within-by list places false = omega (arith, length-append list (drop (length list) places))
+
+pub placed-within : (list places : List ℕ) (n : ℕ) (now : List ℕ) → n ≡ placedCount list places → now ≡ placed list places → n ≤ length now
+unfolding placedCount placed
+placed-within list places n now e f = rw (e, f) (within-by list places (ltb (length places) (length list)))
