@@ -3,13 +3,13 @@
 use Prim.Native.Nat.{ℕ, _+_, _<_}
 use mathlib.Core.Path.{_≡_, refl}
 use mathlib.Core.List.{List, [], _∷_, _++_}
-use mathlib.Core.Bool.{Bool, true, false, not, _&&_, _||_, Bool·beq}
+use mathlib.Core.Bool.{Bool, true, false, not, _&&_, _||_, Bool·beq, true≢false}
 use lib.ListN.{length, take}
 use lib.Dec.{eqb, ltb}
 use borrow.Author.Tests.{eqb-true, not-true, not-false}
 use Rattle.bits.specs.Byte.{pick, bit}
 use Rattle.bits.proofs.Finite.{both, neither}
-use Rattle.registers.specs.Names.{BTCON, MDCON, IISTS}
+use Rattle.registers.specs.Names.{BTCON}
 use Rattle.registers.specs.Table.{isWritable}
 use Rattle.events.specs.declared.Decoded.{Decoded}
 use Rattle.events.specs.declared.Decoded.the-variants.{Read, Write, Pin, Clock, Polarity, Refused}
@@ -18,12 +18,14 @@ use Rattle.events.proofs.Refusal.{decode-in-range}
 use Rattle.chip.specs.declared.Chip.{Chip}
 use Rattle.chip.specs.State.{registerAt, withReset, withWatchdog}
 use Rattle.counters.specs.Count.{cycleNext, watchdogNext, watchdogFires}
+use Rattle.writes.specs.declared.Target.{Target}
+use Rattle.writes.proofs.Addresses.{Addressed, at-mdcon, at-hvcon, at-clrflg, at-clrwdt, at-iiadr, at-iidat, at-iists, at-bt, at-plain, addressed}
 use Rattle.writes.specs.Writes.{writeRegister}
 use Rattle.pins.specs.Pins.{pinMoved}
 use Rattle.pins.proofs.Numbers.{numbered}
 use Rattle.clocks.specs.Clocks.{periodClock, timerRuns, timerStep, timerClock, watchdogClock, clockedAs, clocked, polarityFound}
 use Rattle.outcome.specs.Outcome.{next}
-use Rattle.feeding.specs.Observer.{Observer, vsynciOf, watchdogOf, turnsOff, changesMd, secondByte, observe, permitted, throughout}
+use Rattle.feeding.specs.Observer.{Observer, vsynciOf, watchdogOf, observeAccepted, spoils, observe, permitted, throughout}
 use Rattle.feeding.specs.Levels.{bytesWritten, shows, sdaPut, Level, level, byShifts, serial}
 use Rattle.feeding.proofs.Tracks.{frame, observer, seen, ModeOf, Stage, Pending, Tracks, tracks, in-ddc2b, kept, followed}
 use Rattle.feeding.proofs.Pins.{After, kind-moved}
@@ -32,9 +34,9 @@ use Rattle.feeding.proofs.Writes.{write-by}
 -- ---- clocks and polarity
 
 module _ (g : Chip) {a b loaded written : Bool} {y r n : ℕ} {p : List Bool} {d : List ℕ} (k : ModeOf g a b) (t : Stage a b loaded n r p) (w : Pending written y d) where
-  watchdog-tracks : (z s : Bool) → not (z && not (ltb (watchdogOf g) 63)) ≡ true
+  watchdog-tracks : (z s : Bool) → permitted (seen g z s a b n loaded written) (Clock 3) ≡ true
       → Tracks (clocked (frame g z s y r n) 3) (observe (seen g z s a b n loaded written) (Clock 3)) p d
-  unfolding clocked clockedAs watchdogClock watchdogFires watchdogNext cycleNext observe
+  unfolding clocked clockedAs watchdogClock watchdogFires watchdogNext cycleNext observe permitted
   watchdog-tracks false s h = tracks g false s k t w
   watchdog-tracks true s h =
       let few : ltb (watchdogOf g) 63 ≡ true = not-false _ (not-true _ h) in
@@ -46,10 +48,10 @@ module _ (g : Chip) {a b loaded written : Bool} {y r n : ℕ} {p : List Bool} {d
   other-tracks z s false true = tracks (timerStep g) z s k t w
   other-tracks z s false false = tracks g z s k t w
 
-  clock-tracks : (z s : Bool) (clock : ℕ) (watchdog : Bool) → eqb clock 3 ≡ watchdog → not (z && (watchdog && not (ltb (watchdogOf g) 63))) ≡ true
+  clock-tracks : (z s : Bool) (clock : ℕ) (watchdog : Bool) → eqb clock 3 ≡ watchdog → permitted (seen g z s a b n loaded written) (Clock clock) ≡ true
       → Tracks (clocked (frame g z s y r n) clock) (observe (seen g z s a b n loaded written) (Clock clock)) p d
   unfolding clocked clockedAs timerClock observe
-  clock-tracks z s clock true e h = rw (eqb-true clock 3 e) (watchdog-tracks z s h)
+  clock-tracks z s clock true e h = rw (eqb-true clock 3 e) (watchdog-tracks z s (rw (eqb-true clock 3 e) at h))
   clock-tracks false s clock false e h = tracks g false s k t w
   clock-tracks true s clock false e h = rw e (other-tracks true s (eqb clock 0) (timerRuns (registerAt g BTCON) clock))
 
@@ -76,14 +78,9 @@ event-moved g z s k t w (Refused c) u h = kept (tracks g z s k t w)
 pub data Ddc2bBy : Observer → Type 0 where
   ddc2b-by : (z s v : Bool) (n w : ℕ) (loaded fresh : Bool) → Ddc2bBy (observer z s v false false n w loaded fresh)
 
--- a bit that only a forbidden write would set
-stays-low : (t x rest : Bool) → ((t && x) || rest) ≡ false → pick t x false ≡ false
-stays-low true x rest h = neither x rest h .0
-stays-low false x rest h = refl
-
-md-differs : (x : Bool) → not (Bool·beq x false) ≡ x
-md-differs true = refl
-md-differs false = refl
+md-same : (x : Bool) → not (Bool·beq x false) ≡ false → x ≡ false
+md-same true h = absurd (true≢false h)
+md-same false h = refl
 
 never-shows : (q z r y : Bool) → (q && ((z && (r && false)) && y)) ≡ false
 never-shows false z r y = refl
@@ -91,20 +88,29 @@ never-shows true false r y = refl
 never-shows true true false y = refl
 never-shows true true true y = refl
 
-ddc2b-write : (z v s : Bool) (u : Bool) (n w : ℕ) (loaded fresh : Bool) (x b : ℕ) → not ((z && v) && (turnsOff (observer z s u false false n w loaded fresh) x b || (changesMd (observer z s u false false n w loaded fresh) x b || secondByte (observer z s u false false n w loaded fresh) x))) ≡ true
-    → (pick ((z && v) && eqb x IISTS) (bit 3 b) false ≡ false) × (pick ((z && v) && eqb x MDCON) (bit 0 b) false ≡ false)
-ddc2b-write false v s u n w loaded fresh x b h = (refl, refl)
-ddc2b-write true false s u n w loaded fresh x b h = (refl, refl)
-ddc2b-write true true s u n w loaded fresh x b h =
-    let two = neither (eqb x IISTS && bit 3 b) _ (not-true _ h) in
-    (stays-low (eqb x IISTS) (bit 3 b) _ (not-true _ h), stays-low (eqb x MDCON) (bit 0 b) _ (rw (md-differs (bit 0 b)) at (two .1)))
+ddc2b-written : (s u : Bool) (n w : ℕ) (loaded fresh : Bool) {to : Target} {x : ℕ} → Addressed to x → (b : ℕ)
+    → spoils (observer true s u false false n w loaded fresh) x b ≡ false → Ddc2bBy (observeAccepted (observer true s u false false n w loaded fresh) x b)
+ddc2b-written s u n w loaded fresh at-mdcon b h = rw (md-same (bit 0 b) (neither (not (Bool·beq (bit 0 b) false)) false h .0)) (ddc2b-by true s u _ _ loaded _)
+ddc2b-written s u n w loaded fresh at-hvcon b h = ddc2b-by true s u _ _ loaded _
+ddc2b-written s u n w loaded fresh at-clrflg b h = ddc2b-by true s u _ _ loaded _
+ddc2b-written s u n w loaded fresh at-clrwdt b h = ddc2b-by true s u _ _ loaded _
+ddc2b-written s u n w loaded fresh at-iiadr b h = ddc2b-by true s u _ _ loaded _
+ddc2b-written s u n w loaded fresh at-iidat b h = ddc2b-by true s u _ _ loaded _
+ddc2b-written s u n w loaded fresh at-iists b h = rw (neither (bit 3 b) false h .0) (ddc2b-by true s u _ _ loaded _)
+ddc2b-written s u n w loaded fresh at-bt b h = ddc2b-by true s u _ _ loaded _
+ddc2b-written s u n w loaded fresh {x = x} (at-plain p) b h = rw (p .iists, p .mdcon, p .clrwdt, p .iidat) (ddc2b-by true s u _ _ loaded _)
+
+ddc2b-write : (z v s u : Bool) (n w : ℕ) (loaded fresh : Bool) (x b : ℕ) → not ((z && v) && spoils (observer z s u false false n w loaded fresh) x b) ≡ true
+    → Ddc2bBy (pick (z && v) (observeAccepted (observer z s u false false n w loaded fresh) x b) (observer z s u false false n w loaded fresh))
+ddc2b-write false v s u n w loaded fresh x b h = ddc2b-by false s u n w loaded fresh
+ddc2b-write true false s u n w loaded fresh x b h = ddc2b-by true s u n w loaded fresh
+ddc2b-write true true s u n w loaded fresh x b h = ddc2b-written s u n w loaded fresh (addressed x) b (not-true _ h)
 
 ddc2b-stays : {o : Observer} → Ddc2bBy o → (e : Decoded) → permitted o e ≡ true → Ddc2bBy (observe o e) × (shows o e ≡ false)
 unfolding observe permitted
 ddc2b-stays (ddc2b-by z s v n w loaded fresh) (Read x) h = (ddc2b-by z s v n w loaded fresh, refl)
 ddc2b-stays (ddc2b-by z s v n w loaded fresh) (Write x b) h =
-    let low = ddc2b-write z (isWritable x) s v n w loaded fresh x b h in
-    (rw (low .0, low .1) (ddc2b-by z s v _ _ loaded _), refl)
+    (ddc2b-write z (isWritable x) s v n w loaded fresh x b h, refl)
 ddc2b-stays (ddc2b-by z s v n w loaded fresh) (Pin q l) h = (ddc2b-by _ _ _ _ w _ _, never-shows (eqb q 27) z (not v && l) _)
 ddc2b-stays (ddc2b-by z s v n w loaded fresh) (Clock c) h = (ddc2b-by z s v n _ loaded fresh, refl)
 ddc2b-stays (ddc2b-by z s v n w loaded fresh) (Polarity x l) h = (ddc2b-by z s v n w loaded fresh, refl)

@@ -1,16 +1,15 @@
 -- Pins at a chip that is fed.
 -- Assumes nothing.
 use Prim.Native.Nat.{ℕ, zero, suc, _-_}
-use mathlib.Core.Path.{_≡_, refl, _∙_}
+use mathlib.Core.Path.{_≡_, refl, sym, _∙_}
 use mathlib.Core.List.{List, [], _∷_, _++_}
 use mathlib.Core.Bool.{Bool, true, false, not, _&&_, _||_, true≢false}
 use native.Mathlib.Omega.{arith}
 use lib.ListN.{length}
 use lib.Dec.{eqb}
 use lib.Bits.{bitOr}
-use borrow.Author.Tests.{ne-eqb, not-true}
+use borrow.Author.Tests.{ne-eqb}
 use Rattle.bits.specs.Byte.{pick, bit, weight, weightIf}
-use Rattle.bits.proofs.Finite.{both}
 use Rattle.registers.specs.Names.{INTV, INTD}
 use Rattle.events.specs.declared.Decoded.{Decoded}
 use Rattle.events.specs.declared.Decoded.the-variants.{Pin}
@@ -53,20 +52,28 @@ sda-quiet is-off high c e x = refl
 sda-quiet is-ddc1 high c e x = refl
 
 module _ (g : Chip) {a b loaded written : Bool} {y r n : ℕ} {p : List Bool} {d : List ℕ} (k : ModeOf g a b) (t : Stage a b loaded n r p) (w : Pending written y d) where
-  scl-moved : (z s l : Bool) → (s && not l) ≡ false → Moved (sclMoved (frame g z s y r n) l) (seen g z l a b n loaded written) [] [] p d
+  scl-to : (s l : Bool) → (s && not l) ≡ false → Moved (sclMoved (frame g true s y r n) l) (seen g true l a b n loaded written) [] [] p d
   unfolding sclMoved sclPulled onScl
+  scl-to s l h = rw (scl-free (quiet k t) Idle, scl-quiet (quiet k t) s l h) (kept (tracks g true l k t w))
+
+  scl-moved : (z s l : Bool) → permitted (seen g z s a b n loaded written) (Pin 25 l) ≡ true
+      → Moved (sclMoved (frame g z s y r n) l) (observe (seen g z s a b n loaded written) (Pin 25 l)) [] [] p d
+  unfolding sclMoved onScl observe permitted
   scl-moved false s l h = kept (tracks g false l k t w)
-  scl-moved true s l h = rw (scl-free (quiet k t) Idle, scl-quiet (quiet k t) s l h) (kept (tracks g true l k t w))
+  scl-moved true true true h = scl-to true true refl
+  scl-moved true true false h = absurd (true≢false (sym h))
+  scl-moved true false l h = scl-to false l refl
 
   sda-moved : (z s l : Bool) → Moved (sdaMoved (frame g z s y r n) l) (seen g z s a b n loaded written) [] [] p d
   unfolding sdaMoved onSda
   sda-moved false s l = kept (tracks (withSda g l) false s k t w)
   sda-moved true s l = rw (sda-quiet (quiet k t)) (kept (tracks (withSda g l) true s k t w))
 
-  reset-moved : (z s l : Bool) → (z && not l) ≡ false → Moved (resetMoved (frame g z s y r n) l) (observer l s (vsynciOf g) a b n (watchdogOf g) loaded written) [] [] p d
-  unfolding resetMoved onReset
+  reset-moved : (z s l : Bool) → permitted (seen g z s a b n loaded written) (Pin 28 l) ≡ true
+      → Moved (resetMoved (frame g z s y r n) l) (observe (seen g z s a b n loaded written) (Pin 28 l)) [] [] p d
+  unfolding resetMoved onReset observe permitted
   reset-moved true s true h = kept (tracks g true s k t w)
-  reset-moved true s false h = absurd (true≢false h)
+  reset-moved true s false h = absurd (true≢false (sym h))
   reset-moved false s true h = kept (tracks g true s k t w)
   reset-moved false s false h = kept (tracks g false s k t w)
 
@@ -90,40 +97,45 @@ level-put : {iists mdcon : ℕ} → ModeBits iists mdcon false true → (r n : �
 unfolding sdaPulled
 level-put k r n = rw (ddc1-mode k) (not-not (bit 7 r))
 
-rise-moved : (g : Chip) (s l : Bool) {a b loaded written : Bool} {y r n : ℕ} {p : List Bool} {d : List ℕ} → ModeOf g a b → Stage a b loaded n r p → Pending written y d
-    → (((not a && b) && eqb n 0) && not written) ≡ false
-    → Moved (vsyncRise (vsyncLevel (frame g true s y r n) l))
-    (observer true s l a b (pick (not a && b) (pick (eqb n 0) 8 (n - 1)) n) (watchdogOf g) (((not a && b) && eqb n 0) || loaded) (not ((not a && b) && eqb n 0) && written))
-    (pick ((not a && b) && (eqb n 0 || loaded)) (level (eqb n 0) (sdaPut (vsyncRise (vsyncLevel (frame g true s y r n) l))) ∷ []) []) [] p d
-unfolding vsyncRise busAtVsync loadsAtVsync loadsAtRise shifterAtRise sdaPulled
-rise-moved g s l k (turned-off md n r) w h = rw (off-mode k) (kept (tracks (risen g false l) true s k (turned-off md n r) w))
-rise-moved g s l k (awaiting zero r) (nothing y) h = absurd (true≢false h)
-rise-moved g s l k (awaiting zero r) (waiting b) h =
-    rw (ddc1-mode k) (loads _ b (level-put k b 8) (tracks (risen g true l) true s k (sending b (lowBits b ++ (true ∷ [])) (holds-loaded b)) (nothing b)))
-rise-moved g s l k (awaiting (suc n) r) w h = rw (ddc1-mode k, one-less n, suc-less n) (kept (tracks (risen g false l) true s k (awaiting n (shifted r)) w))
-rise-moved g s l k (sending r [] e) (nothing y) h = absurd (true≢false h)
-rise-moved g s l k (sending r [] e) (waiting b) h =
-    rw (ddc1-mode k) (loads _ b (level-put k b 8) (tracks (risen g true l) true s k (sending b (lowBits b ++ (true ∷ [])) (holds-loaded b)) (nothing b)))
-rise-moved g s l k (sending r (x ∷ p) e) w h =
-    rw (ddc1-mode k, one-less (length p), suc-less (length p))
-    (shifts _ x (level-put k (shifted r) (length p) ∙ top-shifted r x p e) (tracks (risen g false l) true s k (sending (shifted r) p (holds-shifted r x p e)) w))
+-- VSYNCI to the level l from v, with RESET high
+abbrev vsyncTo : Chip → Bool → ℕ → ℕ → ℕ → Bool → Bool → Chip
+vsyncTo g s y r n v l = pick (not v && l) (vsyncRise (vsyncLevel (frame g true s y r n) l)) (vsyncLevel (frame g true s y r n) l)
 
--- a rise of VSYNCI or none
-vsync-by : (g : Chip) (s l rise : Bool) {a b loaded written : Bool} {y r n : ℕ} {p : List Bool} {d : List ℕ} → ModeOf g a b → Stage a b loaded n r p → Pending written y d
-    → not (((rise && (not a && b)) && eqb n 0) && not written) ≡ true
-    → Moved (pick rise (vsyncRise (vsyncLevel (frame g true s y r n) l)) (vsyncLevel (frame g true s y r n) l))
-    (observer true s l a b (pick (rise && (not a && b)) (pick (eqb n 0) 8 (n - 1)) n) (watchdogOf g) (((rise && (not a && b)) && eqb n 0) || loaded) (not ((rise && (not a && b)) && eqb n 0) && written))
-    (pick ((rise && (not a && b)) && (eqb n 0 || loaded)) (level (eqb n 0) (sdaPut (pick rise (vsyncRise (vsyncLevel (frame g true s y r n) l)) (vsyncLevel (frame g true s y r n) l))) ∷ []) []) [] p d
-vsync-by g s l true k t w h = rise-moved g s l k t w (not-true _ h)
-vsync-by g s l false k t w h = kept (tracks (vsyncLevel g l) true s k t w)
+-- what the observer says of it
+abbrev Followed : Chip → Observer → Bool → List Bool → List ℕ → Type 0
+Followed c o l p d = Moved c (observe o (Pin 27 l)) (pick (shows o (Pin 27 l)) (level (eqb (o .left) 0) (sdaPut c) ∷ []) []) [] p d
+
+rise-moved : (g : Chip) (s : Bool) {a b loaded written : Bool} {y r n : ℕ} {p : List Bool} {d : List ℕ} → ModeOf g a b → Stage a b loaded n r p → Pending written y d
+    → permitted (observer true s false a b n (watchdogOf g) loaded written) (Pin 27 true) ≡ true
+    → Followed (vsyncTo g s y r n false true) (observer true s false a b n (watchdogOf g) loaded written) true p d
+unfolding vsyncRise busAtVsync loadsAtVsync loadsAtRise shifterAtRise sdaPulled observe permitted
+rise-moved g s k (turned-off md n r) w h = rw (off-mode k) (kept (tracks (risen g false true) true s k (turned-off md n r) w))
+rise-moved g s k (awaiting zero r) (nothing y) h = absurd (true≢false (sym h))
+rise-moved g s k (awaiting zero r) (waiting b) h =
+    rw (ddc1-mode k) (loads _ b (level-put k b 8) (tracks (risen g true true) true s k (sending b (lowBits b ++ (true ∷ [])) (holds-loaded b)) (nothing b)))
+rise-moved g s k (awaiting (suc n) r) w h = rw (ddc1-mode k, one-less n, suc-less n) (kept (tracks (risen g false true) true s k (awaiting n (shifted r)) w))
+rise-moved g s k (sending r [] e) (nothing y) h = absurd (true≢false (sym h))
+rise-moved g s k (sending r [] e) (waiting b) h =
+    rw (ddc1-mode k) (loads _ b (level-put k b 8) (tracks (risen g true true) true s k (sending b (lowBits b ++ (true ∷ [])) (holds-loaded b)) (nothing b)))
+rise-moved g s k (sending r (x ∷ p) e) w h =
+    rw (ddc1-mode k, one-less (length p), suc-less (length p))
+    (shifts _ x (level-put k (shifted r) (length p) ∙ top-shifted r x p e) (tracks (risen g false true) true s k (sending (shifted r) p (holds-shifted r x p e)) w))
+
+-- a rise, or none
+vsync-by : (g : Chip) (s v l : Bool) {a b loaded written : Bool} {y r n : ℕ} {p : List Bool} {d : List ℕ} → ModeOf g a b → Stage a b loaded n r p → Pending written y d
+    → permitted (observer true s v a b n (watchdogOf g) loaded written) (Pin 27 l) ≡ true
+    → Followed (vsyncTo g s y r n v l) (observer true s v a b n (watchdogOf g) loaded written) l p d
+unfolding observe
+vsync-by g s false true k t w h = rise-moved g s k t w h
+vsync-by g s false false k t w h = kept (tracks (vsyncLevel g false) true s k t w)
+vsync-by g s true l k t w h = kept (tracks (vsyncLevel g l) true s k t w)
 
 vsync-moved : (g : Chip) (z s l : Bool) {a b loaded written : Bool} {y r n : ℕ} {p : List Bool} {d : List ℕ} → ModeOf g a b → Stage a b loaded n r p → Pending written y d
     → permitted (seen g z s a b n loaded written) (Pin 27 l) ≡ true
-    → Moved (vsyncMoved (frame g z s y r n) l) (observe (seen g z s a b n loaded written) (Pin 27 l))
-    (pick (shows (seen g z s a b n loaded written) (Pin 27 l)) (level (eqb n 0) (sdaPut (vsyncMoved (frame g z s y r n) l)) ∷ []) []) [] p d
-unfolding vsyncMoved observe permitted
+    → Followed (vsyncMoved (frame g z s y r n) l) (seen g z s a b n loaded written) l p d
+unfolding vsyncMoved observe
 vsync-moved g false s l k t w h = kept (tracks (vsyncLevel g l) false s k t w)
-vsync-moved g true s l k t w h = vsync-by g s l (not (vsynciOf g) && l) k t w h
+vsync-moved g true s l k t w h = vsync-by g s (vsynciOf g) l k t w h
 
 -- ---- all pins
 
@@ -145,7 +157,7 @@ kind-moved g z s k t w {q = q} (port2-pin u low high) l h = unnamed l u (tracks 
 kind-moved g z s k t w (no-pin u absent) l h = unnamed l u (tracks g z s k t w)
 kind-moved g z s k t w p16-pin l h = kept (tracks (p16Moved (withReset g z) l) z s k t w)
 kind-moved g z s k t w sda-pin l h = sda-moved g k t w z s l
-kind-moved g z s k t w scl-pin l h = scl-moved g k t w z s l (not-true _ (both (not (s && not l)) _ h .0))
+kind-moved g z s k t w scl-pin l h = scl-moved g k t w z s l h
 kind-moved g z s k t w hsynci-pin l h = kept (tracks (hsyncMoved (withReset g z) l) z s k t w)
 kind-moved g z s k t w vsynci-pin l h = vsync-moved g z s l k t w h
-kind-moved g z s k t w reset-pin l h = reset-moved g k t w z s l (not-true _ (both (not (z && not l)) _ h .0))
+kind-moved g z s k t w reset-pin l h = reset-moved g k t w z s l h

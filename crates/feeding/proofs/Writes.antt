@@ -4,11 +4,10 @@ use Prim.Native.Nat.{ℕ, _<_}
 use mathlib.Core.Path.{_≡_, refl, _∙_}
 use mathlib.Core.List.{List, [], _∷_}
 use mathlib.Core.Bool.{Bool, true, false, not, _&&_, _||_, Bool·beq, true≢false}
-use lib.Dec.{eqb}
 use borrow.Author.Tests.{not-true}
 use Rattle.bits.specs.Byte.{pick, bit}
 use Rattle.bits.proofs.Finite.{neither}
-use Rattle.registers.specs.Names.{MDCON, HVCON, CLRWDT, IIDAT, IISTS, BT}
+use Rattle.registers.specs.Names.{MDCON, HVCON, IIDAT, IISTS, BT}
 use Rattle.registers.specs.Table.{updated}
 use Rattle.bus.specs.declared.Phase.the-variants.{Idle}
 use Rattle.bus.specs.Lines.{changesMode, pullsScl}
@@ -19,9 +18,10 @@ use Rattle.ddc_writes.specs.DdcWrites.{syncAtHsel, mdconWritten, iiadrWritten, 
 use Rattle.writes.specs.declared.Target.{Target}
 use Rattle.writes.proofs.Addresses.{Addressed, at-mdcon, at-hvcon, at-clrflg, at-clrwdt, at-iiadr, at-iidat, at-iists, at-bt, at-plain, addressed}
 use Rattle.writes.specs.Writes.{storedWritten, clrflgWritten, clrwdtWritten, writtenTo, written}
-use Rattle.feeding.specs.Observer.{vsynciOf, iistsOf, mdconOf, watchdogOf, turnsOff, changesMd, secondByte}
+use Rattle.feeding.specs.Observer.{iistsOf, mdconOf, observeAccepted, spoils}
+use Rattle.feeding.specs.Levels.{byteTaken}
 use Rattle.feeding.proofs.Bits.{md-written, enddc-written, data-written}
-use Rattle.feeding.proofs.Tracks.{iiadrOf, shifterOf, syncOf, polarityOf, btOf, frame, observer, seen, ModeBits, ModeOf, Stage, turned-off, awaiting, sending, Pending, nothing, waiting, tracks, in-ddc2b, Moved, kept, brings, off-mode, ddc1-mode}
+use Rattle.feeding.proofs.Tracks.{iiadrOf, shifterOf, syncOf, polarityOf, btOf, frame, seen, ModeBits, ModeOf, Stage, turned-off, awaiting, sending, Pending, nothing, waiting, tracks, in-ddc2b, Moved, kept, brings, off-mode, ddc1-mode}
 
 -- ---- writes
 
@@ -31,7 +31,7 @@ same-bit false h = absurd (true≢false h)
 
 -- MDCON: MD1/2 changes only while DDC is off
 mdcon-on : (g : Chip) (s : Bool) {loaded written : Bool} {y r n : ℕ} {p : List Bool} {d : List ℕ} → ModeOf g false true → Stage false true loaded n r p → Pending written y d
-    → (b : ℕ) → bit 0 b ≡ true → Moved (mdconWritten (frame g true s y r n) b) (observer true s (vsynciOf g) false (bit 0 b) n (watchdogOf g) loaded written) [] [] p d
+    → (b : ℕ) → bit 0 b ≡ true → Moved (mdconWritten (frame g true s y r n) b) (observeAccepted (seen g true s false true n loaded written) MDCON b) [] [] p d
 unfolding mdconWritten busAtMode changesMode
 mdcon-on g s k t w b e =
     let new : ℕ = updated MDCON (mdconOf g) b in
@@ -39,18 +39,19 @@ mdcon-on g s k t w b e =
     rw (ddc1-mode k, ddc1-mode next, e) (kept (tracks (withSync (withMdcon g new) (syncAtHsel (bit 2 (mdconOf g)) (bit 2 new) (syncOf g))) true s next t w))
 
 mdcon-moved : (g : Chip) (s : Bool) {a m loaded written : Bool} {y r n : ℕ} {p : List Bool} {d : List ℕ} → ModeOf g a m → Stage a m loaded n r p → Pending written y d
-    → (b : ℕ) → (not a && not (Bool·beq (bit 0 b) m)) ≡ false → Moved (mdconWritten (frame g true s y r n) b) (observer true s (vsynciOf g) a (bit 0 b) n (watchdogOf g) loaded written) [] [] p d
+    → (b : ℕ) → spoils (seen g true s a m n loaded written) MDCON b ≡ false
+    → Moved (mdconWritten (frame g true s y r n) b) (observeAccepted (seen g true s a m n loaded written) MDCON b) [] [] p d
 unfolding mdconWritten busAtMode changesMode
 mdcon-moved g s k (turned-off md n r) w b h =
     let new : ℕ = updated MDCON (mdconOf g) b in
     let next : ModeBits (iistsOf g) new true (bit 0 b) = record { enddc = k .enddc; md12 = md-written (mdconOf g) b } in
     rw (off-mode k, off-mode next) (kept (tracks (withSync (withMdcon g new) (syncAtHsel (bit 2 (mdconOf g)) (bit 2 new) (syncOf g))) true s next (turned-off (bit 0 b) n r) w))
-mdcon-moved g s k (awaiting n r) w b h = mdcon-on g s k (awaiting n r) w b (same-bit _ h)
-mdcon-moved g s k (sending r p e) w b h = mdcon-on g s k (sending r p e) w b (same-bit _ h)
+mdcon-moved g s k (awaiting n r) w b h = mdcon-on g s k (awaiting n r) w b (same-bit (bit 0 b) (neither (not (Bool·beq (bit 0 b) true)) false h .0))
+mdcon-moved g s k (sending r p e) w b h = mdcon-on g s k (sending r p e) w b (same-bit (bit 0 b) (neither (not (Bool·beq (bit 0 b) true)) false h .0))
 
 -- II STS: DDC is turned on, or stays as it is
 iists-on : (g : Chip) (s : Bool) {loaded written : Bool} {y r n : ℕ} {p : List Bool} {d : List ℕ} → ModeOf g false true → Stage false true loaded n r p → Pending written y d
-    → (b : ℕ) → bit 3 b ≡ false → Moved (iistsWritten (frame g true s y r n) b) (observer true s (vsynciOf g) (bit 3 b) true n (watchdogOf g) loaded written) [] [] p d
+    → (b : ℕ) → bit 3 b ≡ false → Moved (iistsWritten (frame g true s y r n) b) (observeAccepted (seen g true s false true n loaded written) IISTS b) [] [] p d
 unfolding iistsWritten busAtMode changesMode
 iists-on g s k t w b e =
     let new : ℕ = statusWritten (iistsOf g) b in
@@ -58,58 +59,54 @@ iists-on g s k t w b e =
     rw (ddc1-mode k, ddc1-mode next, e) (kept (tracks (withBus g (busOf new (iiadrOf g) 0 Idle (shifterOf g))) true s next t w))
 
 iists-off : (g : Chip) (s m : Bool) {written : Bool} {y : ℕ} (r n : ℕ) {d : List ℕ} → ModeOf g true m → Pending written y d
-    → (b : ℕ) (stays : Bool) → bit 3 b ≡ stays → Moved (iistsWritten (frame g true s y r n) b) (observer true s (vsynciOf g) stays m (pick (not stays) 9 n) (watchdogOf g) false written) [] [] [] d
+    → (b : ℕ) (stays : Bool) → bit 3 b ≡ stays
+    → Moved (iistsWritten (frame g true s y r n) b) (observeAccepted (seen g true s true m n false written) IISTS b) [] [] [] d
 unfolding iistsWritten busAtMode changesMode released
 iists-off g s m r n k w b true e =
     let new : ℕ = statusWritten (iistsOf g) b in
     let next : ModeBits new (mdconOf g) true m = record { enddc = enddc-written (iistsOf g) b ∙ e; md12 = k .md12 } in
-    rw (off-mode k, off-mode next) (kept (tracks (withBus g (busOf new (iiadrOf g) 0 Idle (shifterOf g))) true s next (turned-off m n r) w))
+    rw (off-mode k, off-mode next, e) (kept (tracks (withBus g (busOf new (iiadrOf g) 0 Idle (shifterOf g))) true s next (turned-off m n r) w))
 iists-off g s true r n k w b false e =
     let new : ℕ = statusWritten (iistsOf g) b in
     let next : ModeBits new (mdconOf g) false true = record { enddc = enddc-written (iistsOf g) b ∙ e; md12 = k .md12 } in
-    rw (off-mode k, ddc1-mode next) (kept (tracks (withBus g (busOf new (iiadrOf g) 0 Idle (shifterOf g))) true s next (awaiting 9 255) w))
-iists-off g s false r n k w b false e = kept (in-ddc2b _ _ _ _ _ _ _ _ _ _)
+    rw (off-mode k, ddc1-mode next, e) (kept (tracks (withBus g (busOf new (iiadrOf g) 0 Idle (shifterOf g))) true s next (awaiting 9 255) w))
+iists-off g s false r n k w b false e = rw e (kept (in-ddc2b _ _ _ _ _ _ _ _ _ _))
 
 iists-moved : (g : Chip) (s : Bool) {a m loaded written : Bool} {y r n : ℕ} {p : List Bool} {d : List ℕ} → ModeOf g a m → Stage a m loaded n r p → Pending written y d
-    → (b : ℕ) → (not a && bit 3 b) ≡ false → Moved (iistsWritten (frame g true s y r n) b) (observer true s (vsynciOf g) (bit 3 b) m (pick (a && not (bit 3 b)) 9 n) (watchdogOf g) loaded written) [] [] p d
+    → (b : ℕ) → spoils (seen g true s a m n loaded written) IISTS b ≡ false
+    → Moved (iistsWritten (frame g true s y r n) b) (observeAccepted (seen g true s a m n loaded written) IISTS b) [] [] p d
 iists-moved g s k (turned-off md n r) w b h = iists-off g s md r n k w b (bit 3 b) refl
-iists-moved g s k (awaiting n r) w b h = iists-on g s k (awaiting n r) w b h
-iists-moved g s k (sending r p e) w b h = iists-on g s k (sending r p e) w b h
+iists-moved g s k (awaiting n r) w b h = iists-on g s k (awaiting n r) w b (neither (bit 3 b) false h .0)
+iists-moved g s k (sending r p e) w b h = iists-on g s k (sending r p e) w b (neither (bit 3 b) false h .0)
 
+-- II DAT: a byte, with none before it that still awaits its load
 iidat-moved : (g : Chip) (s : Bool) {a m loaded written : Bool} {y r n : ℕ} {p : List Bool} {d : List ℕ} → ModeOf g a m → Stage a m loaded n r p → Pending written y d
-    → (b : ℕ) → b < 256 → written ≡ false → Moved (iidatWritten (frame g true s y r n) b) (seen g true s a m n loaded true) [] (b ∷ []) p d
+    → (b : ℕ) → b < 256 → spoils (seen g true s a m n loaded written) IIDAT b ≡ false
+    → Moved (iidatWritten (frame g true s y r n) b) (observeAccepted (seen g true s a m n loaded written) IIDAT b) [] (b ∷ []) p d
 unfolding iidatWritten busAtIidat pullsScl
 iidat-moved g s k t (nothing y) b u h = rw (data-written y b u) (brings b (tracks g true s k t (waiting b)))
 iidat-moved g s k t (waiting c) b u h = absurd (true≢false h)
 
 written-moved : (g : Chip) (s : Bool) {a m loaded written : Bool} {y r n : ℕ} {p : List Bool} {d : List ℕ} → ModeOf g a m → Stage a m loaded n r p → Pending written y d
-    → {to : Target} {x : ℕ} → Addressed to x → (b : ℕ) → b < 256
-    → (eqb x IISTS && (not a && bit 3 b)) ≡ false → (eqb x MDCON && (not a && not (Bool·beq (bit 0 b) m))) ≡ false → (eqb x IIDAT && written) ≡ false
-    → Moved (writtenTo to (frame g true s y r n) x b)
-    (observer true s (vsynciOf g) (pick (eqb x IISTS) (bit 3 b) a) (pick (eqb x MDCON) (bit 0 b) m) (pick (eqb x IISTS && (a && not (bit 3 b))) 9 n)
-    (pick (eqb x CLRWDT && eqb b 0x55) 0 (watchdogOf g)) loaded (eqb x IIDAT || written))
-    [] (pick (eqb x IIDAT) (b ∷ []) []) p d
+    → {to : Target} {x : ℕ} → Addressed to x → (b : ℕ) → b < 256 → spoils (seen g true s a m n loaded written) x b ≡ false
+    → Moved (writtenTo to (frame g true s y r n) x b) (observeAccepted (seen g true s a m n loaded written) x b) [] (byteTaken x b) p d
 unfolding writtenTo storedWritten clrflgWritten clrwdtWritten iiadrWritten
-written-moved g s k t w at-mdcon b u st md da = mdcon-moved g s k t w b md
-written-moved g s k t w at-hvcon b u st md da = kept (tracks (withPolarity g (updated HVCON (polarityOf g) b)) true s k t w)
-written-moved g s k t w at-clrflg b u st md da = kept (tracks (clrflgWritten g b) true s k t w)
-written-moved g s k t w at-clrwdt b u st md da = kept (tracks (clrwdtWritten g b) true s k t w)
-written-moved g s k t w at-iiadr b u st md da = kept (tracks (iiadrWritten g b) true s k t w)
-written-moved g s k t w at-iidat b u st md da = iidat-moved g s k t w b u da
-written-moved g s k t w at-iists b u st md da = iists-moved g s k t w b st
-written-moved g s k t w at-bt b u st md da = kept (tracks (withBt g (updated BT (btOf g) b)) true s k t w)
-written-moved g s k t w {x = x} (at-plain p) b u st md da = rw (p .iists, p .mdcon, p .clrwdt, p .iidat) (kept (tracks (storedWritten g x b) true s k t w))
+written-moved g s k t w at-mdcon b u h = mdcon-moved g s k t w b h
+written-moved g s k t w at-hvcon b u h = kept (tracks (withPolarity g (updated HVCON (polarityOf g) b)) true s k t w)
+written-moved g s k t w at-clrflg b u h = kept (tracks (clrflgWritten g b) true s k t w)
+written-moved g s k t w at-clrwdt b u h = kept (tracks (clrwdtWritten g b) true s k t w)
+written-moved g s k t w at-iiadr b u h = kept (tracks (iiadrWritten g b) true s k t w)
+written-moved g s k t w at-iidat b u h = iidat-moved g s k t w b u h
+written-moved g s k t w at-iists b u h = iists-moved g s k t w b h
+written-moved g s k t w at-bt b u h = kept (tracks (withBt g (updated BT (btOf g) b)) true s k t w)
+written-moved g s k t w {x = x} (at-plain p) b u h = rw (p .iists, p .mdcon, p .clrwdt, p .iidat) (kept (tracks (storedWritten g x b) true s k t w))
 
+-- RESET high, and whether the register takes a write
 pub write-by : (g : Chip) (z v s : Bool) {a m loaded fresh : Bool} {y r n : ℕ} {p : List Bool} {d : List ℕ} → ModeOf g a m → Stage a m loaded n r p → Pending fresh y d
-    → (x b : ℕ) → b < 256 → not ((z && v) && (turnsOff (seen g z s a m n loaded fresh) x b || (changesMd (seen g z s a m n loaded fresh) x b || secondByte (seen g z s a m n loaded fresh) x))) ≡ true
+    → (x b : ℕ) → b < 256 → not ((z && v) && spoils (seen g z s a m n loaded fresh) x b) ≡ true
     → Moved (pick z (pick v (written (frame g z s y r n) x b) (frame g z s y r n)) (frame g z s y r n))
-    (observer z s (vsynciOf g) (pick ((z && v) && eqb x IISTS) (bit 3 b) a) (pick ((z && v) && eqb x MDCON) (bit 0 b) m) (pick ((z && v) && (eqb x IISTS && (a && not (bit 3 b)))) 9 n)
-    (pick ((z && v) && (eqb x CLRWDT && eqb b 0x55)) 0 (watchdogOf g)) loaded (((z && v) && eqb x IIDAT) || fresh))
-    [] (pick ((z && v) && eqb x IIDAT) (b ∷ []) []) p d
+    (pick (z && v) (observeAccepted (seen g z s a m n loaded fresh) x b) (seen g z s a m n loaded fresh)) [] (pick (z && v) (byteTaken x b) []) p d
 unfolding written
 write-by g false v s k t w x b u h = kept (tracks g false s k t w)
 write-by g true false s k t w x b u h = kept (tracks g true s k t w)
-write-by g true true s {a} {m} k t w x b u h =
-    let one = neither (eqb x IISTS && (not a && bit 3 b)) _ (not-true _ h) in
-    let two = neither (eqb x MDCON && (not a && not (Bool·beq (bit 0 b) m))) _ (one .1) in
-    written-moved g s k t w (addressed x) b u (one .0) (two .0) (two .1)
+write-by g true true s k t w x b u h = written-moved g s k t w (addressed x) b u (not-true _ h)

@@ -19,10 +19,14 @@ use Rattle.feeding.specs.Observer.{Observer, observerOf, accepted, shift
 
 -- ---- the bytes written
 
+-- the byte that a write carried out brings to II DAT
+abbrev pub byteTaken : ℕ → ℕ → List ℕ
+byteTaken a b = pick (eqb a IIDAT) (b ∷ []) []
+
 -- the byte that an event writes to II DAT
 abbrev pub byteWritten : Observer → Decoded → List ℕ
 byteWritten o (Read a) = []
-byteWritten o (Write a b) = pick (accepted o a && eqb a IIDAT) (b ∷ []) []
+byteWritten o (Write a b) = pick (accepted o a) (byteTaken a b) []
 byteWritten o (Pin p level) = []
 byteWritten o (Clock k) = []
 byteWritten o (Polarity vertical level) = []

@@ -74,23 +74,27 @@ accepted o a = o .reset && isWritable a
 
 -- DDC is turned on: a 0 to ENDDC while it is off; nine rises come before the first load
 abbrev pub turnsOn : Observer → ℕ → ℕ → Bool
-turnsOn o a b = accepted o a && (eqb a IISTS && (o .off && not (bit ENDDC b)))
+turnsOn o a b = eqb a IISTS && (o .off && not (bit ENDDC b))
 
 -- of the writes carried out: II STS and MDCON bring the mode, 55H to CLRWDT begins the count of watchdog clocks anew, II DAT takes
 -- a byte
-abbrev pub observeWrite : Observer → ℕ → ℕ → Observer
-observeWrite o a b =
+abbrev pub observeAccepted : Observer → ℕ → ℕ → Observer
+observeAccepted o a b =
     record {
       scl = o .scl;
       vsynci = o .vsynci;
       reset = o .reset;
-      off = pick (accepted o a && eqb a IISTS) (bit ENDDC b) (o .off);
-      md = pick (accepted o a && eqb a MDCON) (bit MD12 b) (o .md);
+      off = pick (eqb a IISTS) (bit ENDDC b) (o .off);
+      md = pick (eqb a MDCON) (bit MD12 b) (o .md);
       left = pick (turnsOn o a b) 9 (o .left);
-      watchdog = pick (accepted o a && (eqb a CLRWDT && eqb b 0x55)) 0 (o .watchdog);
+      watchdog = pick (eqb a CLRWDT && eqb b 0x55) 0 (o .watchdog);
       loaded = o .loaded;
-      written = (accepted o a && eqb a IIDAT) || o .written;
+      written = eqb a IIDAT || o .written;
     }
+
+-- a write that is refused brings nothing
+abbrev pub observeWrite : Observer → ℕ → ℕ → Observer
+observeWrite o a b = pick (accepted o a) (observeAccepted o a b) o
 
 -- a rise of VSYNCI at which the chip shifts or loads: in DDC1, with RESET high
 abbrev pub shifts : Observer → Bool → Bool
@@ -157,6 +161,10 @@ changesMd o a b = eqb a MDCON && (not (o .off) && not (Bool·beq (bit MD12 b) (o
 abbrev pub secondByte : Observer → ℕ → Bool
 secondByte o a = eqb a IIDAT && o .written
 
+-- a write that must not be carried out
+abbrev pub spoils : Observer → ℕ → ℕ → Bool
+spoils o a b = turnsOff o a b || (changesMd o a b || secondByte o a)
+
 -- a fall of outside SCL, with RESET low too
 abbrev pub sclFalls : Observer → ℕ → Bool → Bool
 sclFalls o p level = eqb p pin.SCL && (o .scl && not level)
@@ -176,7 +184,7 @@ watchdogExpires o k = o .reset && (eqb k clock.watchdog && not (ltb (o .watchdog
 -- what each event of a list must keep to
 unfoldable pub permitted : Observer → Decoded → Bool
 permitted o (Read a) = true
-permitted o (Write a b) = not (accepted o a && (turnsOff o a b || (changesMd o a b || secondByte o a)))
+permitted o (Write a b) = not (accepted o a && spoils o a b)
 permitted o (Pin p level) = not (sclFalls o p level) && (not (resetFalls o p level) && not (loadsNothing o p level))
 permitted o (Clock k) = not (watchdogExpires o k)
 permitted o (Polarity vertical level) = true
