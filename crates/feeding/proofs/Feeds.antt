@@ -1,15 +1,17 @@
 -- The list that `feed_words::feed` makes keeps to the conditions, from every well formed state with DDC off and RESET high: so the
 -- theorem is not empty, whatever the block.
 -- Assumes nothing.
-use Prim.Native.Nat.{ℕ, suc, _+_, _*_, _-_, _<_}
+use Prim.Native.Nat.{ℕ, zero, suc, _+_, _*_, _-_, _<_}
 use mathlib.Core.Path.{_≡_, refl, ap, sym, _∙_}
 use mathlib.Core.List.{List, [], _∷_, _++_, append-assoc, append-nil}
 use mathlib.Core.Bool.{Bool, true, false, not, _&&_, _||_, and-assoc}
 use native.Mathlib.Omega.{arith}
 use lib.ListN.{length, getD, take, length-append}
-use lib.Dec.{eqb}
+use borrow.Author.Tests.{ltb-true}
+use lib.Dec.{eqb, ltb}
 use lib.Seq.{take-length}
 use Rattle.bits.specs.Byte.{pick, bit}
+use Rattle.bits.proofs.Finite.{both}
 use Rattle.registers.specs.Names.{IIDAT, ENDDC}
 use Rattle.registers.specs.Table.{isWritable, rowOf, table, resetValue}
 use Rattle.events.specs.declared.Decoded.{Decoded}
@@ -23,7 +25,9 @@ use Rattle.step.specs.Step.{step}
 use Rattle.run.specs.Run.{after}
 use Rattle.invariant.proofs.WellFormed.{fresh-well-formed}
 use Rattle.edid_check.specs.Edid.{verdict, numberOf}
+use Rattle.edid_check.specs.Example.{exampleBlock}
 use Rattle.edid_check.proofs.Exactly.{accepted-length}
+use Rattle.edid_check.proofs.Example.{example-accepted}
 use Rattle.feed_words.specs.Words.{pulses, clearWatchdog, lead, sending, sendingAll, feedWords}
 use Rattle.feeding.specs.Observer.{Observer, observerOf, sclOf, vsynciOf, resetOf, iistsOf, mdconOf, edgesOf, watchdogOf, observe, observed, permitted, throughout}
 use Rattle.feeding.specs.Levels.{byteWritten, bytesWritten, shows, sdaPut, Level, level, levelsPut, levelAt, serial, Feeds, Bytes}
@@ -168,3 +172,23 @@ fresh-off = refl
 pub fresh-fed : (block : List ℕ) → Bytes block → numberOf (verdict block) ≡ 0 → (k j : ℕ) → k < 128 → j < 8
     → levelAt (levelsPut (observerOf fresh) fresh (feedWords block)) (9 * k + j) .put ≡ bit (7 - j) (getD block k 0)
 fresh-fed block h a k j n i = accepted-fed fresh fresh-high fresh-off block h fresh-well-formed a k j n i
+
+-- ---- and there are accepted blocks: one of them
+
+abbrev allBytes : List ℕ → Bool
+allBytes [] = true
+allBytes (b ∷ bs) = ltb b 256 && allBytes bs
+
+bytes-of : (bs : List ℕ) → allBytes bs ≡ true → Bytes bs
+bytes-of [] h i = omega arith
+bytes-of (b ∷ bs) h zero = ltb-true b 256 (both (ltb b 256) _ h .0)
+bytes-of (b ∷ bs) h (suc i) = bytes-of bs (both (ltb b 256) _ h .1) i
+
+example-bytes : allBytes exampleBlock ≡ true
+unfolding exampleBlock
+example-bytes = refl
+
+-- so its first byte that is not FF or 00, 62H at place 8, comes out of a fresh chip: 0 1 1 0 0 0 1 0
+pub example-fed : (j : ℕ) → j < 8 → levelAt (levelsPut (observerOf fresh) fresh (feedWords exampleBlock)) (9 * 8 + j) .put ≡ bit (7 - j) 0x62
+unfolding exampleBlock
+example-fed j h = fresh-fed exampleBlock (bytes-of exampleBlock example-bytes) example-accepted 8 j (omega arith) h

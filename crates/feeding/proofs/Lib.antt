@@ -5,3 +5,4 @@ pub mod Writes
 pub mod Events
 pub mod Theorems
 pub mod Feeds
+pub mod Stored
