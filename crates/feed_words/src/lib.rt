@@ -76,7 +76,7 @@ fn put_words(block: &[u8], words: &mut [u32])
 }
 
 // The words that send a block, to the start of `words`, and their number; or 0, and nothing is written, where they do not fit.
-// Wrong answers: eight pulses for a byte; the words of part of the block where they do not all fit.
+// Wrong answers: the words of the last byte left out; words written where they do not all fit.
 pub fn feed(block: &[u8], words: &mut [u32]) -> usize
     ensures { λ r. ⌜ (r ≡ placedCount (feedWords (now (block .entry))) (now (words .entry))) × (now (words .exit) ≡ placed (feedWords (now (block .entry))) (now (words .entry))) ⌝ }
 {
@@ -118,7 +118,7 @@ fn put_bytes(words: &[u32], bytes: &mut [u8])
 
 // The bytes of words, each lowest byte first, to the start of `bytes`, and their number; or 0, and nothing is written, where
 // they do not fit.
-// Wrong answers: the highest byte first; the bytes of part of the words where they do not all fit.
+// Wrong answers: the two middle bytes of a word exchanged; bytes written where they do not all fit.
 pub fn store(words: &[u32], bytes: &mut [u8]) -> usize
     ensures { λ r. ⌜ (r ≡ placedCount (bytesOfAll (now (words .entry))) (now (bytes .entry))) × (now (bytes .exit) ≡ placed (bytesOfAll (now (words .entry))) (now (bytes .entry))) ⌝ }
 {
