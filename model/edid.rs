@@ -18,17 +18,21 @@ pub fn check(block: &[u8]) -> Result<u8, u8> {
     if block[..8] != [0x00, 0xFF, 0xFF, 0xFF, 0xFF, 0xFF, 0xFF, 0x00] {
         return Err(31);
     }
-    if block[VERSION..=REVISION] != [1, 3] {
+    if block[VERSION] != 1 || !(3..=4).contains(&block[REVISION]) {
         return Err(32);
     }
     if sum(block) != 0 {
         return Err(33);
     }
-    let digital = block[INPUT] & 0x80 != 0;
-    if digital && block[INPUT] & 0x7E != 0 {
-        return Err(34);
+    let input = block[INPUT];
+    let digital = input & 0x80 != 0;
+    match block[REVISION] {
+        _ if !digital => Ok(block[REVISION]),
+        3 if input & 0x7E != 0 => Err(34),
+        4 if input & 0x70 == 0x70 => Err(35),
+        4 if input & 0x0F > 5 => Err(36),
+        revision => Ok(revision),
     }
-    Ok(block[REVISION])
 }
 
 pub fn sum(bytes: &[u8]) -> u8 {
@@ -47,12 +51,15 @@ pub fn number(block: &[u8]) -> u8 {
 /// What the program `edid` prints.
 pub fn line(block: &[u8]) -> &'static str {
     match check(block) {
-        Ok(_) => "0 accepted\n",
+        Ok(3) => "0 accepted 1.3\n",
+        Ok(_) => "0 accepted 1.4\n",
         Err(30) => "30 length\n",
         Err(31) => "31 header\n",
         Err(32) => "32 version\n",
         Err(33) => "33 sum\n",
-        Err(_) => "34 digital\n",
+        Err(34) => "34 digital\n",
+        Err(35) => "35 depth\n",
+        Err(_) => "36 interface\n",
     }
 }
 
@@ -113,13 +120,17 @@ pub fn written_blocks() -> Vec<Written> {
     let dfp = Panel { input: 0x81, timing: WIDE_TIMING, name: b"Bench DVI 22\n" };
     let display_port = Panel { input: 0xA5, timing: WIDE_TIMING, name: b"Bench DP 23 \n" };
     let hdmi = Panel { input: 0xB2, timing: WIDE_TIMING, name: b"Bench HDMI 2\n" };
+    let reserved_depth = Panel { input: 0xF6, timing: WIDE_TIMING, name: b"Bench none  \n" };
+    let no_interface = Panel { input: 0xA6, timing: WIDE_TIMING, name: b"Bench none  \n" };
     vec![
         Written { name: "1.3, analogue", number: 0, bytes: written(3, &crt) },
         Written { name: "1.3, digital", number: 0, bytes: written(3, &dfp) },
         Written { name: "1.3, digital with bits of 1.4", number: 34, bytes: written(3, &display_port) },
-        Written { name: "1.4, analogue", number: 32, bytes: written(4, &crt) },
-        Written { name: "1.4, DisplayPort, 8 bits a colour", number: 32, bytes: written(4, &display_port) },
-        Written { name: "1.4, HDMI, 10 bits a colour", number: 32, bytes: written(4, &hdmi) },
+        Written { name: "1.4, analogue", number: 0, bytes: written(4, &crt) },
+        Written { name: "1.4, DisplayPort, 8 bits a colour", number: 0, bytes: written(4, &display_port) },
+        Written { name: "1.4, HDMI, 10 bits a colour", number: 0, bytes: written(4, &hdmi) },
+        Written { name: "1.4, the reserved depth", number: 35, bytes: written(4, &reserved_depth) },
+        Written { name: "1.4, an undefined interface", number: 36, bytes: written(4, &no_interface) },
         Written { name: "1.2, analogue", number: 32, bytes: written(2, &crt) },
     ]
 }
@@ -185,6 +196,35 @@ mod tests {
             block[INPUT] = input;
             repair(&mut block);
             assert_eq!(number(&block), 0, "{input:02X}");
+        }
+    }
+
+    #[test]
+    fn the_revision_selects_the_rule() {
+        // Revision 3, revision 4: digital, with depth in bits 6..4 and interface in bits 3..0.
+        let cases = [
+            (0x00, 0, 0),
+            (0x7F, 0, 0),
+            (0x80, 0, 0),
+            (0x81, 0, 0),
+            (0x82, 34, 0),
+            (0x85, 34, 0),
+            (0x86, 34, 36),
+            (0xE5, 34, 0),
+            (0xE6, 34, 36),
+            (0xF0, 34, 35),
+            (0xFF, 34, 35),
+        ];
+        for (input, by_3, by_4) in cases {
+            for (revision, expected) in [(2, 32), (3, by_3), (4, by_4), (5, 32)] {
+                let mut block = written_blocks()[0].bytes;
+                block[REVISION] = revision;
+                block[INPUT] = input;
+                repair(&mut block);
+                assert_eq!(number(&block), expected, "revision {revision}, byte 20 {input:02X}");
+                block[SUM] ^= 1;
+                assert_eq!(number(&block), if expected == 32 { 32 } else { 33 });
+            }
         }
     }
 

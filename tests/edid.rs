@@ -14,7 +14,7 @@ extern "C" {
 }
 
 /// The numbers that must all be seen.
-const NUMBERS: &[u8] = &[0, 30, 31, 32, 33, 34];
+const NUMBERS: &[u8] = &[0, 30, 31, 32, 33, 34, 35, 36];
 
 fn fail(message: &str) -> ! {
     println!("edid: {message}");
@@ -241,6 +241,7 @@ fn feed_program(numbers: &mut Numbers) {
     let mut blocks: Vec<[u8; SIZE]> = written_blocks().iter().map(|block| block.bytes).collect();
     for _ in 0..40 {
         let mut block = written_blocks()[0].bytes;
+        block[REVISION] = 3 + numbers.below(2) as u8;
         for byte in &mut block[INPUT + 1..SUM] {
             *byte = numbers.byte();
         }

@@ -1,17 +1,27 @@
-// Checks an EDID base block on standard input and writes a line with the verdict's number and name to standard output. Where
-// reading or writing fails, standard error says why.
+// Checks an EDID base block on standard input and writes a line with the verdict's number and name to standard output, for an
+// accepted block with its edition. Where reading or writing fails, standard error says why.
+use edid_check::Edition;
 use edid_check::Verdict;
 use libc::STDIN_FILENO;
 use libc::STDOUT_FILENO;
 
+fn print_accepted(e: Edition) -> bool {
+    match e {
+        Edition::Revision3 => io::write_all(STDOUT_FILENO, b"0 accepted 1.3\n"),
+        Edition::Revision4 => io::write_all(STDOUT_FILENO, b"0 accepted 1.4\n"),
+    }
+}
+
 fn print(v: Verdict) -> bool {
     match v {
-        Verdict::Accepted => io::write_all(STDOUT_FILENO, b"0 accepted\n"),
+        Verdict::Accepted(e) => print_accepted(e),
         Verdict::Length => io::write_all(STDOUT_FILENO, b"30 length\n"),
         Verdict::Header => io::write_all(STDOUT_FILENO, b"31 header\n"),
         Verdict::Version => io::write_all(STDOUT_FILENO, b"32 version\n"),
         Verdict::Sum => io::write_all(STDOUT_FILENO, b"33 sum\n"),
         Verdict::Digital => io::write_all(STDOUT_FILENO, b"34 digital\n"),
+        Verdict::Depth => io::write_all(STDOUT_FILENO, b"35 depth\n"),
+        Verdict::Interface => io::write_all(STDOUT_FILENO, b"36 interface\n"),
     }
 }
 

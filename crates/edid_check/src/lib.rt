@@ -1,18 +1,26 @@
-// The check of an EDID base block before it goes into RAM (document 02, Wish 7).
+// The check of an EDID base block before it goes into RAM (document 02, Wishes 7 and 8).
 ghost use mathlib.Core.Path.{_≡_};
 ghost use Prim.Native.Nat.{_<_};
 ghost use lib.ListN.{length};
 ghost use Rattle.edid_check.specs.Block.{headerFits, sumOf, sumFits};
-ghost use Rattle.edid_check.specs.Edid.{versionFits, digitalFits, contents as contentsOf, Judged, numberOf};
+ghost use Rattle.edid_check.specs.Edid.{versionFits, digitalFits, depthFits, interfaceFits, inputBy3, inputBy4, inputVerdict, contents as contentsOf, Judged, numberOf};
+
+// The edition of an accepted block, by its revision: 1.3 or 1.4.
+pub enum Edition {
+    Revision3,
+    Revision4,
+}
 
 // Accepted, or the first rule that the block breaks.
 pub enum Verdict {
-    Accepted,
+    Accepted(Edition),
     Length,
     Header,
     Version,
     Sum,
     Digital,
+    Depth,
+    Interface,
 }
 
 fn header_fits(block: &[u8]) -> bool
@@ -31,7 +39,7 @@ fn version_fits(block: &[u8]) -> bool
     requires { ⌜ length (now block) ≡ 128 ⌝ }
     ensures { λ r. ⌜ r ≡ versionFits (now (block .entry)) ⌝ }
 {
-    (block[18] == 1) & (block[19] == 3)
+    (block[18] == 1) & ((block[19] == 3) | (block[19] == 4))
 }
 
 fn widened(x: u8) -> u32
@@ -71,18 +79,69 @@ fn digital_fits(input: u8) -> bool
     }
 }
 
-// A block of 128 bytes with its header: version, then sum, then digital bits.
+fn depth_fits(input: u8) -> bool
+    ensures { λ r. ⌜ r ≡ depthFits input ⌝ }
+{
+    if bits::bit(7, input) {
+        input / 16 % 8 < 7
+    } else {
+        true
+    }
+}
+
+fn interface_fits(input: u8) -> bool
+    ensures { λ r. ⌜ r ≡ interfaceFits input ⌝ }
+{
+    if bits::bit(7, input) {
+        input % 16 < 6
+    } else {
+        true
+    }
+}
+
+fn input_by_3(input: u8) -> Verdict
+    ensures { λ r. ⌜ r ≡ inputBy3 input ⌝ }
+{
+    if digital_fits(input) {
+        Verdict::Accepted(Edition::Revision3)
+    } else {
+        Verdict::Digital
+    }
+}
+
+fn input_by_4(input: u8) -> Verdict
+    ensures { λ r. ⌜ r ≡ inputBy4 input ⌝ }
+{
+    if depth_fits(input) {
+        if interface_fits(input) {
+            Verdict::Accepted(Edition::Revision4)
+        } else {
+            Verdict::Interface
+        }
+    } else {
+        Verdict::Depth
+    }
+}
+
+// Byte 20 by the rule that the revision selects.
+fn input_verdict(revision: u8, input: u8) -> Verdict
+    ensures { λ r. ⌜ r ≡ inputVerdict revision input ⌝ }
+{
+    if revision == 3 {
+        input_by_3(input)
+    } else {
+        input_by_4(input)
+    }
+}
+
+// A block of 128 bytes with its header: version, then sum, then byte 20.
 fn contents(block: &[u8]) -> Verdict
     requires { ⌜ length (now block) ≡ 128 ⌝ }
     ensures { λ r. ⌜ r ≡ contentsOf (now (block .entry)) ⌝ }
 {
     if version_fits(block) {
         if sum_fits(block) {
-            if digital_fits(block[20]) {
-                Verdict::Accepted
-            } else {
-                Verdict::Digital
-            }
+            input_verdict(block[19], block[20])
         } else {
             Verdict::Sum
         }
@@ -113,11 +172,13 @@ pub fn number(v: Verdict) -> u8
     ensures { λ r. ⌜ r ≡ numberOf v ⌝ }
 {
     match v {
-        Verdict::Accepted => 0,
+        Verdict::Accepted(_) => 0,
         Verdict::Length => 30,
         Verdict::Header => 31,
         Verdict::Version => 32,
         Verdict::Sum => 33,
         Verdict::Digital => 34,
+        Verdict::Depth => 35,
+        Verdict::Interface => 36,
     }
 }

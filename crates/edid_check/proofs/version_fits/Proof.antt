@@ -13,4 +13,5 @@ version-fits-spec =
     (tie.spec
     (λ c. omega arith)
     (λ c. omega arith)
+    (λ c. omega arith)
     (λ c. refl))
