@@ -1,6 +1,6 @@
 // The bus: modes, edges of lines, the phases of a transfer, what the chip pulls, and the shift register of DDC1.
 ghost use mathlib.Core.Path.{_≡_};
-ghost use Rattle.bus.specs.Lines.{edge, mode, modeNumber, changesMode, line, pullsAtBit, pullsSda, pullsScl, sdaPulled, sclPulled};
+ghost use Rattle.bus.specs.Bus.{edge, mode, modeNumber, changesMode, line, pullsAtBit, pullsSda, pullsScl, sdaPulled, sclPulled};
 ghost use Rattle.bus.specs.Ddc1.{loadsAtRise, shifterAtRise};
 use registers::ENDDC;
 use registers::MD12;

@@ -15,8 +15,9 @@ use Rattle.events.specs.declared.Decoded.{Decoded}
 use Rattle.events.specs.declared.Decoded.the-variants.{Read, Write, Pin, Clock, Polarity, Refused}
 use Rattle.events.specs.Word.{decode, InRange}
 use Rattle.events.proofs.Refusal.{decode-in-range}
+use Rattle.chip.specs.declared.Core.{Core}
 use Rattle.chip.specs.declared.Chip.{Chip}
-use Rattle.chip.specs.State.{registerAt, withReset, withWatchdog}
+use Rattle.chip.specs.State.{chipOf, registerAt, keep, withReset, withWatchdog}
 use Rattle.counters.specs.Count.{cycleNext, watchdogNext, watchdogFires}
 use Rattle.writes.specs.declared.Target.{Target}
 use Rattle.writes.proofs.Addresses.{Addressed, at-mdcon, at-hvcon, at-clrflg, at-clrwdt, at-iiadr, at-iidat, at-iists, at-bt, at-plain, addressed}
@@ -24,7 +25,7 @@ use Rattle.writes.specs.Writes.{writeRegister}
 use Rattle.pins.specs.Pins.{pinMoved}
 use Rattle.pins.proofs.Numbers.{numbered}
 use Rattle.clocks.specs.Clocks.{periodClock, timerRuns, timerStep, timerClock, watchdogClock, clockedAs, clocked, polarityFound}
-use Rattle.outcome.specs.Outcome.{next}
+use Rattle.outcome.specs.Outcome.{coreAfter, keptAfter, next}
 use Rattle.feeding.specs.Observer.{Observer, vsynciOf, watchdogOf, observeAccepted, spoils, observe, permitted, throughout}
 use Rattle.feeding.specs.Levels.{bytesWritten, shows, sdaPut, Level, level, byShifts, serial}
 use Rattle.feeding.proofs.Tracks.{frame, observer, seen, ModeOf, Stage, Pending, Tracks, tracks, in-ddc2b, kept, followed}
@@ -33,9 +34,9 @@ use Rattle.feeding.proofs.Writes.{write-by}
 
 -- ---- clocks and polarity
 
-module _ (g : Chip) {a b loaded written : Bool} {y r n : ℕ} {p : List Bool} {d : List ℕ} (k : ModeOf g a b) (t : Stage a b loaded n r p) (w : Pending written y d) where
+module _ (btcon : ℕ) (g : Core) {a b loaded written : Bool} {y r n : ℕ} {p : List Bool} {d : List ℕ} (k : ModeOf g a b) (t : Stage a b loaded n r p) (w : Pending written y d) where
   watchdog-tracks : (z s : Bool) → permitted (seen g z s a b n loaded written) (Clock 3) ≡ true
-      → Tracks (clocked (frame g z s y r n) 3) (observe (seen g z s a b n loaded written) (Clock 3)) p d
+      → Tracks (clocked btcon (frame g z s y r n) 3) (observe (seen g z s a b n loaded written) (Clock 3)) p d
   unfolding clocked clockedAs watchdogClock watchdogFires watchdogNext cycleNext observe permitted
   watchdog-tracks false s h = tracks g false s k t w
   watchdog-tracks true s h =
@@ -49,11 +50,11 @@ module _ (g : Chip) {a b loaded written : Bool} {y r n : ℕ} {p : List Bool} {d
   other-tracks z s false false = tracks g z s k t w
 
   clock-tracks : (z s : Bool) (clock : ℕ) (watchdog : Bool) → eqb clock 3 ≡ watchdog → permitted (seen g z s a b n loaded written) (Clock clock) ≡ true
-      → Tracks (clocked (frame g z s y r n) clock) (observe (seen g z s a b n loaded written) (Clock clock)) p d
+      → Tracks (clocked btcon (frame g z s y r n) clock) (observe (seen g z s a b n loaded written) (Clock clock)) p d
   unfolding clocked clockedAs timerClock observe
   clock-tracks z s clock true e h = rw (eqb-true clock 3 e) (watchdog-tracks z s (rw (eqb-true clock 3 e) at h))
   clock-tracks false s clock false e h = tracks g false s k t w
-  clock-tracks true s clock false e h = rw e (other-tracks true s (eqb clock 0) (timerRuns (registerAt g BTCON) clock))
+  clock-tracks true s clock false e h = rw e (other-tracks true s (eqb clock 0) (timerRuns btcon clock))
 
   polarity-tracks : (z s vertical l : Bool) → Tracks (polarityFound (frame g z s y r n) vertical l) (seen g z s a b n loaded written) p d
   unfolding polarityFound
@@ -62,16 +63,16 @@ module _ (g : Chip) {a b loaded written : Bool} {y r n : ℕ} {p : List Bool} {d
 
 -- ---- every event
 
-pub event-moved : (g : Chip) (z s : Bool) {a m loaded fresh : Bool} {y r n : ℕ} {p : List Bool} {d : List ℕ} → ModeOf g a m → Stage a m loaded n r p → Pending fresh y d
+pub event-moved : (rs : List ℕ) (g : Core) (z s : Bool) {a m loaded fresh : Bool} {y r n : ℕ} {p : List Bool} {d : List ℕ} → ModeOf g a m → Stage a m loaded n r p → Pending fresh y d
     → (e : Decoded) → InRange e → permitted (seen g z s a m n loaded fresh) e ≡ true
-    → After (next (frame g z s y r n) e) (seen g z s a m n loaded fresh) e p d
-unfolding next writeRegister pinMoved observe permitted
-event-moved g z s k t w (Read x) u h = kept (tracks g z s k t w)
-event-moved g z s k t w (Write x b) u h = write-by g z (isWritable x) s k t w x b (u .1) h
-event-moved g z s k t w (Pin q l) u h = kind-moved g z s k t w (numbered q) l h
-event-moved g z s k t w (Clock c) u h = kept (clock-tracks g k t w z s c (eqb c 3) refl h)
-event-moved g z s k t w (Polarity v l) u h = kept (polarity-tracks g k t w z s v l)
-event-moved g z s k t w (Refused c) u h = kept (tracks g z s k t w)
+    → After (coreAfter (chipOf rs (frame g z s y r n)) e) (seen g z s a m n loaded fresh) e p d
+unfolding coreAfter writeRegister pinMoved observe permitted
+event-moved rs g z s k t w (Read x) u h = kept (tracks g z s k t w)
+event-moved rs g z s k t w (Write x b) u h = write-by g z (isWritable x) s k t w x b (u .1) h
+event-moved rs g z s k t w (Pin q l) u h = kind-moved g z s k t w (numbered q) l h
+event-moved rs g z s k t w (Clock c) u h = kept (clock-tracks (registerAt rs BTCON) g k t w z s c (eqb c 3) refl h)
+event-moved rs g z s k t w (Polarity v l) u h = kept (polarity-tracks (registerAt rs BTCON) g k t w z s v l)
+event-moved rs g z s k t w (Refused c) u h = kept (tracks g z s k t w)
 
 -- ---- DDC2B stays, and no rise of VSYNCI shifts
 
@@ -122,7 +123,7 @@ ddc2b-stays (ddc2b-by z s v n w loaded fresh) (Refused c) h = (ddc2b-by z s v n 
 abbrev pub levelsNext : Observer → Chip → List ℕ → List Level
 levelsNext o c [] = []
 levelsNext o c (w ∷ ws) =
-    pick (shows o (decode w)) (level (eqb (o .left) 0) (sdaPut (next c (decode w))) ∷ []) [] ++ levelsNext (observe o (decode w)) (next c (decode w)) ws
+    pick (shows o (decode w)) (level (eqb (o .left) 0) (sdaPut (next c (decode w) .core)) ∷ []) [] ++ levelsNext (observe o (decode w)) (next c (decode w)) ws
 
 none-listed : {o : Observer} → Ddc2bBy o → (c : Chip) (ws : List ℕ) → throughout o ws ≡ true → levelsNext o c ws ≡ []
 none-listed i c [] h = refl
@@ -131,11 +132,12 @@ none-listed {o} i c (w ∷ ws) h =
     let stays = ddc2b-stays i (decode w) (one .0) in
     rw (stays .1) (none-listed (stays .0) (next c (decode w)) ws (one .1))
 
-pub tracked-levels : {c : Chip} {o : Observer} {p : List Bool} {d : List ℕ} → Tracks c o p d → (ws : List ℕ) → throughout o ws ≡ true
-    → take (length (levelsNext o c ws)) (byShifts p ++ serial (d ++ bytesWritten o ws)) ≡ levelsNext o c ws
-tracked-levels f [] h = refl
-tracked-levels (in-ddc2b c z s v n w loaded fresh p d) (x ∷ xs) h = rw (none-listed (ddc2b-by z s v n w loaded fresh) c (x ∷ xs) h)
-tracked-levels {c} {o} (tracks g z s k t a) (w ∷ ws) h =
+pub tracked-levels : (rs : List ℕ) {c : Core} {o : Observer} {p : List Bool} {d : List ℕ} → Tracks c o p d → (ws : List ℕ) → throughout o ws ≡ true
+    → take (length (levelsNext o (chipOf rs c) ws)) (byShifts p ++ serial (d ++ bytesWritten o ws)) ≡ levelsNext o (chipOf rs c) ws
+unfolding next
+tracked-levels rs f [] h = refl
+tracked-levels rs (in-ddc2b c z s v n w loaded fresh p d) (x ∷ xs) h = rw (none-listed (ddc2b-by z s v n w loaded fresh) (chipOf rs c) (x ∷ xs) h)
+tracked-levels rs {c} {o} (tracks g z s k t a) (w ∷ ws) h =
     let one = both (permitted o (decode w)) _ h in
-    followed (event-moved g z s k t a (decode w) (decode-in-range w) (one .0)) (levelsNext (observe o (decode w)) (next c (decode w)) ws) (bytesWritten (observe o (decode w)) ws)
-    (λ q e f. tracked-levels f ws (one .1))
+    followed (event-moved rs g z s k t a (decode w) (decode-in-range w) (one .0)) (levelsNext (observe o (decode w)) (next (chipOf rs c) (decode w)) ws)
+    (bytesWritten (observe o (decode w)) ws) (λ q e f. tracked-levels (keep (keptAfter (chipOf rs c) (decode w)) rs) f ws (one .1))

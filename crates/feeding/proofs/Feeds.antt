@@ -20,7 +20,7 @@ use Rattle.events.specs.Word.{decode, event, noEvent, noPlace, badByte, eventWo
 use Rattle.events.proofs.EventWord.{decode-encode}
 use Rattle.chip.specs.declared.Chip.{Chip}
 use Rattle.chip.specs.State.{fresh, resetAt}
-use Rattle.form.specs.Form.{wellFormed}
+use Rattle.well_formed.specs.WellFormed.{wellFormed}
 use Rattle.step.specs.Step.{step}
 use Rattle.run.specs.Run.{after}
 use Rattle.invariant.proofs.WellFormed.{fresh-well-formed}
@@ -128,15 +128,15 @@ all-send s loaded (b ∷ bs) h =
 
 -- ---- from every well formed state with DDC off and RESET high
 
-module _ (c : Chip) (high : resetOf c ≡ true) (off : bit ENDDC (iistsOf c) ≡ true) (block : List ℕ) (h : Bytes block) where
-  at-first : observerOf c ≡ turnedOff (sclOf c) (vsynciOf c) (bit 0 (mdconOf c)) (edgesOf c) (watchdogOf c)
+module _ (c : Chip) (high : resetOf (c .core) ≡ true) (off : bit ENDDC (iistsOf (c .core)) ≡ true) (block : List ℕ) (h : Bytes block) where
+  at-first : observerOf c ≡ turnedOff (sclOf (c .core)) (vsynciOf (c .core)) (bit 0 (mdconOf (c .core))) (edgesOf (c .core)) (watchdogOf (c .core))
   at-first = rw (high, off)
 
-  feed-sends : Sends (observerOf c) (feedWords block) block (9 * length block) (ready (sclOf c) true 0 (afterAll false block))
+  feed-sends : Sends (observerOf c) (feedWords block) block (9 * length block) (ready (sclOf (c .core)) true 0 (afterAll false block))
   unfolding feedWords
   feed-sends =
       let n : 9 * length block ≡ 0 + 9 * length block = omega arith in
-      rw (at-first, n) (sends-append (lead-sends (sclOf c) (vsynciOf c) (bit 0 (mdconOf c)) (edgesOf c) (watchdogOf c)) (all-send (sclOf c) false block h))
+      rw (at-first, n) (sends-append (lead-sends (sclOf (c .core)) (vsynciOf (c .core)) (bit 0 (mdconOf (c .core))) (edgesOf (c .core)) (watchdogOf (c .core))) (all-send (sclOf (c .core)) false block h))
 
   -- the words that send a block keep to the conditions and write its bytes
   pub feed-feeds : Feeds c block (feedWords block)
@@ -161,11 +161,11 @@ module _ (c : Chip) (high : resetOf c ≡ true) (off : bit ENDDC (iistsOf c) ≡
 
 -- ---- a fresh chip is such a state
 
-fresh-high : resetOf fresh ≡ true
+fresh-high : resetOf (fresh .core) ≡ true
 unfolding fresh resetAt
 fresh-high = refl
 
-fresh-off : bit ENDDC (iistsOf fresh) ≡ true
+fresh-off : bit ENDDC (iistsOf (fresh .core)) ≡ true
 unfolding fresh resetAt bit resetValue rowOf table
 fresh-off = refl
 

@@ -16,12 +16,12 @@ use Rattle.events.specs.declared.Decoded.the-variants.{Pin}
 use Rattle.bus.specs.declared.Mode.{Mode}
 use Rattle.bus.specs.declared.Phase.{Phase}
 use Rattle.bus.specs.declared.Phase.the-variants.{Idle}
-use Rattle.bus.specs.Lines.{edge, mode, sdaPulled, sclPulled}
+use Rattle.bus.specs.Bus.{edge, mode, sdaPulled, sclPulled}
 use Rattle.bus.specs.Ddc1.{shifter, shifterAtRise, loadsAtRise}
-use Rattle.chip.specs.declared.Chip.{Chip}
+use Rattle.chip.specs.declared.Core.{Core}
 use Rattle.chip.specs.State.{hselOf, raised, withSync, withReset, withSda}
 use Rattle.sync.specs.Sync.{onVsync}
-use Rattle.lines.specs.Bus.{onScl, onSclDdc1, sclMoved, onSda, sdaMoved, busAtVsync, loadsAtVsync}
+use Rattle.edges.specs.Edges.{onScl, onSclDdc1, sclMoved, onSda, sdaMoved, busAtVsync, loadsAtVsync}
 use Rattle.pins.specs.declared.PinKind.{PinKind}
 use Rattle.pins.specs.Pins.{port0Moved, port1Moved, port2Moved, p16Moved, vsyncLevel, hsyncMoved, vsyncRise, vsyncMoved, onReset, resetMoved, pinMovedAs}
 use Rattle.pins.proofs.Numbers.{Unnamed, Numbered, p16-pin, sda-pin, scl-pin, hsynci-pin, vsynci-pin, reset-pin, port0-pin, port1-pin, port2-pin, no-pin}
@@ -33,7 +33,7 @@ use Rattle.feeding.proofs.Tracks.{syncOf, frame, observer, seen, ModeBi
 -- ---- SCL and SDA
 
 -- SCL does not fall, so nothing moves but its level
-scl-quiet : {m : Mode} → Quiet m → (s l : Bool) → (s && not l) ≡ false → (c : Chip) → onScl m (edge s l) c ≡ c
+scl-quiet : {m : Mode} → Quiet m → (s l : Bool) → (s && not l) ≡ false → (c : Core) → onScl m (edge s l) c ≡ c
 unfolding onScl onSclDdc1
 scl-quiet is-off s l h c = refl
 scl-quiet is-ddc1 true true h c = refl
@@ -46,12 +46,12 @@ unfolding sclPulled
 scl-free is-off q = refl
 scl-free is-ddc1 q = refl
 
-sda-quiet : {m : Mode} → Quiet m → (high : Bool) → (c : Chip) (e : Bool) (x : Bool) → onSda m high (edge e x) c ≡ c
+sda-quiet : {m : Mode} → Quiet m → (high : Bool) → (c : Core) (e : Bool) (x : Bool) → onSda m high (edge e x) c ≡ c
 unfolding onSda
 sda-quiet is-off high c e x = refl
 sda-quiet is-ddc1 high c e x = refl
 
-module _ (g : Chip) {a b loaded written : Bool} {y r n : ℕ} {p : List Bool} {d : List ℕ} (k : ModeOf g a b) (t : Stage a b loaded n r p) (w : Pending written y d) where
+module _ (g : Core) {a b loaded written : Bool} {y r n : ℕ} {p : List Bool} {d : List ℕ} (k : ModeOf g a b) (t : Stage a b loaded n r p) (w : Pending written y d) where
   scl-to : (s l : Bool) → (s && not l) ≡ false → Moved (sclMoved (frame g true s y r n) l) (seen g true l a b n loaded written) [] [] p d
   unfolding sclMoved sclPulled onScl
   scl-to s l h = rw (scl-free (quiet k t) Idle, scl-quiet (quiet k t) s l h) (kept (tracks g true l k t w))
@@ -80,7 +80,7 @@ module _ (g : Chip) {a b loaded written : Bool} {y r n : ℕ} {p : List Bool} {d
 -- ---- VSYNCI
 
 -- all but the bus at a rise, flag D set where it loads
-abbrev risen : Chip → Bool → Bool → Chip
+abbrev risen : Core → Bool → Bool → Core
 risen g load l = withSync (raised (vsyncLevel g l) (bitOr (weight INTV) (weightIf load INTD))) (onVsync (hselOf g) (syncOf g))
 
 one-less : (n : ℕ) → eqb (suc n) 0 ≡ false
@@ -98,14 +98,14 @@ unfolding sdaPulled
 level-put k r n = rw (ddc1-mode k) (not-not (bit 7 r))
 
 -- VSYNCI to the level l from v, with RESET high
-abbrev vsyncTo : Chip → Bool → ℕ → ℕ → ℕ → Bool → Bool → Chip
+abbrev vsyncTo : Core → Bool → ℕ → ℕ → ℕ → Bool → Bool → Core
 vsyncTo g s y r n v l = pick (not v && l) (vsyncRise (vsyncLevel (frame g true s y r n) l)) (vsyncLevel (frame g true s y r n) l)
 
 -- what the observer says of it
-abbrev Followed : Chip → Observer → Bool → List Bool → List ℕ → Type 0
+abbrev Followed : Core → Observer → Bool → List Bool → List ℕ → Type 0
 Followed c o l p d = Moved c (observe o (Pin 27 l)) (pick (shows o (Pin 27 l)) (level (eqb (o .left) 0) (sdaPut c) ∷ []) []) [] p d
 
-rise-moved : (g : Chip) (s : Bool) {a b loaded written : Bool} {y r n : ℕ} {p : List Bool} {d : List ℕ} → ModeOf g a b → Stage a b loaded n r p → Pending written y d
+rise-moved : (g : Core) (s : Bool) {a b loaded written : Bool} {y r n : ℕ} {p : List Bool} {d : List ℕ} → ModeOf g a b → Stage a b loaded n r p → Pending written y d
     → permitted (observer true s false a b n (watchdogOf g) loaded written) (Pin 27 true) ≡ true
     → Followed (vsyncTo g s y r n false true) (observer true s false a b n (watchdogOf g) loaded written) true p d
 unfolding vsyncRise busAtVsync loadsAtVsync loadsAtRise shifterAtRise sdaPulled observe permitted
@@ -122,7 +122,7 @@ rise-moved g s k (sending r (x ∷ p) e) w h =
     (shifts _ x (level-put k (shifted r) (length p) ∙ top-shifted r x p e) (tracks (risen g false true) true s k (sending (shifted r) p (holds-shifted r x p e)) w))
 
 -- a rise, or none
-vsync-by : (g : Chip) (s v l : Bool) {a b loaded written : Bool} {y r n : ℕ} {p : List Bool} {d : List ℕ} → ModeOf g a b → Stage a b loaded n r p → Pending written y d
+vsync-by : (g : Core) (s v l : Bool) {a b loaded written : Bool} {y r n : ℕ} {p : List Bool} {d : List ℕ} → ModeOf g a b → Stage a b loaded n r p → Pending written y d
     → permitted (observer true s v a b n (watchdogOf g) loaded written) (Pin 27 l) ≡ true
     → Followed (vsyncTo g s y r n v l) (observer true s v a b n (watchdogOf g) loaded written) l p d
 unfolding observe
@@ -130,7 +130,7 @@ vsync-by g s false true k t w h = rise-moved g s k t w h
 vsync-by g s false false k t w h = kept (tracks (vsyncLevel g false) true s k t w)
 vsync-by g s true l k t w h = kept (tracks (vsyncLevel g l) true s k t w)
 
-vsync-moved : (g : Chip) (z s l : Bool) {a b loaded written : Bool} {y r n : ℕ} {p : List Bool} {d : List ℕ} → ModeOf g a b → Stage a b loaded n r p → Pending written y d
+vsync-moved : (g : Core) (z s l : Bool) {a b loaded written : Bool} {y r n : ℕ} {p : List Bool} {d : List ℕ} → ModeOf g a b → Stage a b loaded n r p → Pending written y d
     → permitted (seen g z s a b n loaded written) (Pin 27 l) ≡ true
     → Followed (vsyncMoved (frame g z s y r n) l) (seen g z s a b n loaded written) l p d
 unfolding vsyncMoved observe
@@ -139,14 +139,14 @@ vsync-moved g true s l k t w h = vsync-by g s (vsynciOf g) l k t w h
 
 -- ---- all pins
 
-abbrev pub After : Chip → Observer → Decoded → List Bool → List ℕ → Type 0
+abbrev pub After : Core → Observer → Decoded → List Bool → List ℕ → Type 0
 After c o e p d = Moved c (observe o e) (pick (shows o e) (level (eqb (o .left) 0) (sdaPut c) ∷ []) []) (byteWritten o e) p d
 
-unnamed : {c : Chip} {o : Observer} {q : ℕ} (l : Bool) {p : List Bool} {d : List ℕ} → Unnamed q → Tracks c o p d → After c o (Pin q l) p d
+unnamed : {c : Core} {o : Observer} {q : ℕ} (l : Bool) {p : List Bool} {d : List ℕ} → Unnamed q → Tracks c o p d → After c o (Pin q l) p d
 unfolding observe
 unnamed l u f = rw (u .scl, u .vsynci, u .reset) (kept f)
 
-pub kind-moved : (g : Chip) (z s : Bool) {a b loaded written : Bool} {y r n : ℕ} {p : List Bool} {d : List ℕ} → ModeOf g a b → Stage a b loaded n r p → Pending written y d
+pub kind-moved : (g : Core) (z s : Bool) {a b loaded written : Bool} {y r n : ℕ} {p : List Bool} {d : List ℕ} → ModeOf g a b → Stage a b loaded n r p → Pending written y d
     → {kind : PinKind} {q : ℕ} → Numbered kind q → (l : Bool)
     → permitted (seen g z s a b n loaded written) (Pin q l) ≡ true
     → After (pinMovedAs kind (frame g z s y r n) q l) (seen g z s a b n loaded written) (Pin q l) p d

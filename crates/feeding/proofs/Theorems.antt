@@ -6,23 +6,23 @@ use mathlib.Core.List.{List, [], _∷_, _++_, append-assoc}
 use mathlib.Core.Bool.{Bool, true, false, not, _&&_, true≢false}
 use native.Mathlib.Omega.{arith}
 use lib.ListN.{length, getD, take, length-append, length-take, List·getD-append}
-use lib.Dec.{eqb, ltb}
+use lib.Dec.{eqb}
 use borrow.Author.Tests.{lt-ltb}
 use lib.Seq.{getD-append-add, getD-take}
 use Rattle.bits.specs.Byte.{pick, bit}
-use Rattle.bits.specs.Finite.{allBelow}
 use Rattle.bits.proofs.Finite.{both}
-use Rattle.sync.specs.Sync.{wellSync}
 use Rattle.events.specs.Word.{decode}
 use Rattle.bus.specs.declared.Phase.{Phase}
 use Rattle.bus.specs.declared.Phase.the-variants.{Idle, Address, Ignoring, Receive, Transmit, Held}
-use Rattle.bus.specs.Lines.{mode, modeBy, line}
+use Rattle.bus.specs.Bus.{mode, modeBy, line}
+use Rattle.chip.specs.declared.Core.{Core}
 use Rattle.chip.specs.declared.Chip.{Chip}
 use Rattle.chip.specs.State.{busOf, withBus}
-use Rattle.form.specs.Form.{isIdle, busFits, reservedApart, reservedAt, wellFormed}
+use Rattle.well_formed.specs.WellFormed.{isIdle, busFits, wellFormed}
 use Rattle.outcome.specs.Outcome.{next}
 use Rattle.step.specs.Step.{step, advance}
 use Rattle.run.specs.Run.{after}
+use Rattle.invariant.proofs.Formed.{formed}
 use Rattle.invariant.proofs.WellFormed.{next-well-formed}
 use Rattle.edid_check.specs.Edid.{verdict, numberOf}
 use Rattle.edid_check.proofs.Exactly.{accepted-length}
@@ -42,10 +42,10 @@ idle-of (Receive count bits acknowledged) h = absurd (true≢false (sym h))
 idle-of (Transmit count byte) h = absurd (true≢false (sym h))
 idle-of Held h = absurd (true≢false (sym h))
 
-abbrev atPhase : Chip → Phase → Chip
+abbrev atPhase : Core → Phase → Core
 atPhase c q = withBus c (busOf (iistsOf c) (iiadrOf c) (iidatOf c) q (shifterOf c))
 
-first-by : (c : Chip) (q : Phase) (e m : Bool) → bit 3 (iistsOf c) ≡ e → bit 0 (mdconOf c) ≡ m → busFits (modeBy e m) q (shifterOf c) ≡ true
+first-by : (c : Core) (q : Phase) (e m : Bool) → bit 3 (iistsOf c) ≡ e → bit 0 (mdconOf c) ≡ m → busFits (modeBy e m) q (shifterOf c) ≡ true
     → Tracks (atPhase c q) (observer (resetOf c) (sclOf c) (vsynciOf c) e m (edgesOf c) (watchdogOf c) false false) [] []
 unfolding busFits
 first-by c q true m h i b = rw (idle-of q (both (isIdle q) _ b .0)) (tracks c (resetOf c) (sclOf c) (record { enddc = h; md12 = i }) (turned-off m _ _) (nothing _))
@@ -53,14 +53,9 @@ first-by c q false true h i b = rw (idle-of q (both (isIdle q) _ b .0)) (tracks 
 first-by c q false false h i b = in-ddc2b _ _ _ _ _ _ _ _ _ _
 
 -- the bus fits its mode, as in every well formed state
-bus-fits : (c : Chip) → wellFormed c ≡ true → busFits (modeBy (bit 3 (iistsOf c)) (bit 0 (mdconOf c))) (phaseOf c) (shifterOf c) ≡ true
-unfolding wellFormed mode
-bus-fits c h =
-    both ((wellSync (c .sync) && ltb (c .watchdog) 64) && (reservedApart c && allBelow (reservedAt (c .registers)) 38))
-    (busFits (modeBy (bit 3 (iistsOf c)) (bit 0 (mdconOf c))) (phaseOf c) (shifterOf c)) h .1
-
-first : (c : Chip) → wellFormed c ≡ true → Tracks c (observerOf c) [] []
-first c h = first-by c (phaseOf c) _ _ refl refl (bus-fits c h)
+first : (c : Chip) → wellFormed c ≡ true → Tracks (c .core) (observerOf c) [] []
+unfolding mode
+first c h = first-by (c .core) (phaseOf (c .core)) _ _ refl refl (formed c h .core .bus .fits)
 
 -- ---- over every list: the bytes written, bit by bit
 
@@ -72,14 +67,14 @@ levels-next : (o : Observer) (c : Chip) (ws : List ℕ) → wellFormed c ≡ tru
 levels-next o c [] h = refl
 levels-next o c (w ∷ ws) h =
     rw (steps c w h)
-    (ap (λ (l : List Level). pick (shows o (decode w)) (level (eqb (o .left) 0) (sdaPut (next c (decode w))) ∷ []) [] ++ l)
+    (ap (λ (l : List Level). pick (shows o (decode w)) (level (eqb (o .left) 0) (sdaPut (next c (decode w) .core)) ∷ []) [] ++ l)
     (levels-next (observe o (decode w)) (next c (decode w)) ws (next-well-formed c (decode w) h)))
 
 -- from every well formed state, over every list that keeps to the conditions: the levels put from the first load on, one for each
 -- rise, are the bytes written to II DAT, in order, top bit first and with a null bit 1 each, as far as the list goes
 pub bytes-put : (c : Chip) → wellFormed c ≡ true → (ws : List ℕ) → throughout (observerOf c) ws ≡ true
     → take (length (levelsPut (observerOf c) c ws)) (serial (bytesWritten (observerOf c) ws)) ≡ levelsPut (observerOf c) c ws
-bytes-put c h ws t = rw (levels-next (observerOf c) c ws h) (tracked-levels (first c h) ws t)
+bytes-put c h ws t = rw (levels-next (observerOf c) c ws h) (tracked-levels (c .registers) (first c h) ws t)
 
 -- ---- by places: nine levels for each byte
 
@@ -120,7 +115,7 @@ pub levels-append : (o : Observer) (c : Chip) (us vs : List ℕ) → levelsPut o
 levels-append o c [] vs = refl
 levels-append o c (u ∷ us) vs =
     rw (levels-append (observe o (decode u)) (step c u .chip) us vs)
-    (sym (append-assoc (pick (shows o (decode u)) (level (eqb (o .left) 0) (sdaPut (step c u .chip)) ∷ []) []) _ _))
+    (sym (append-assoc (pick (shows o (decode u)) (level (eqb (o .left) 0) (sdaPut (step c u .chip .core)) ∷ []) []) _ _))
 
 -- level j after the load of byte k, both counted from 0, as far as the conditions hold; what the list does after its part us does
 -- not count
@@ -155,7 +150,7 @@ module _ (c : Chip) (h : wellFormed c ≡ true) (block us vs : List ℕ) (f : Fe
 -- ---- the line
 
 -- SDA's line is what is outside and what the chip puts
-pub sda-line : (c : Chip) → sdaLevel c ≡ (sdaOutside c && sdaPut c)
+pub sda-line : (c : Core) → sdaLevel c ≡ (sdaOutside c && sdaPut c)
 sda-line c = line-by (pullsSdaNow c) (sdaOutside c)
   where
     line-by : (pulled outside : Bool) → line pulled outside ≡ (outside && not pulled)

@@ -12,9 +12,9 @@ use Rattle.bus.specs.declared.Mode.the-variants.{Off, Ddc1}
 use Rattle.bus.specs.declared.Phase.{Phase}
 use Rattle.bus.specs.declared.Phase.the-variants.{Idle}
 use Rattle.bus.specs.declared.Shifter.{Shifter}
-use Rattle.bus.specs.Lines.{mode, modeBy}
+use Rattle.bus.specs.Bus.{mode, modeBy}
 use Rattle.bus.specs.Ddc1.{shifter}
-use Rattle.chip.specs.declared.Chip.{Chip}
+use Rattle.chip.specs.declared.Core.{Core}
 use Rattle.chip.specs.State.{busOf, withBus, withScl, withReset}
 use Rattle.feeding.specs.Observer.{Observer, vsynciOf, iistsOf, mdconOf, watchdogOf}
 use Rattle.feeding.specs.Levels.{Level, level, lowBits, byShifts, serial}
@@ -22,29 +22,29 @@ use Rattle.feeding.proofs.Bits.{Holds}
 
 -- ---- parts of the state that the conditions do not read
 
-abbrev pub iiadrOf : Chip → ℕ
+abbrev pub iiadrOf : Core → ℕ
 iiadrOf c = c .bus .iiadr
 
-abbrev pub iidatOf : Chip → ℕ
+abbrev pub iidatOf : Core → ℕ
 iidatOf c = c .bus .iidat
 
-abbrev pub phaseOf : Chip → Phase
+abbrev pub phaseOf : Core → Phase
 phaseOf c = c .bus .phase
 
-abbrev pub shifterOf : Chip → Shifter
+abbrev pub shifterOf : Core → Shifter
 shifterOf c = c .bus .shifter
 
-abbrev pub syncOf : Chip → Sync
+abbrev pub syncOf : Core → Sync
 syncOf c = c .sync
 
-abbrev pub polarityOf : Chip → ℕ
+abbrev pub polarityOf : Core → ℕ
 polarityOf c = c .polarity
 
-abbrev pub btOf : Chip → ℕ
+abbrev pub btOf : Core → ℕ
 btOf c = c .bt
 
 -- the chip g but for RESET, SCL, II DAT and the shift register, with no transfer
-abbrev pub frame : Chip → Bool → Bool → ℕ → ℕ → ℕ → Chip
+abbrev pub frame : Core → Bool → Bool → ℕ → ℕ → ℕ → Core
 frame g reset scl iidat register edges =
     withReset (withScl (withBus g (busOf (iistsOf g) (iiadrOf g) iidat Idle (shifter register edges))) scl) reset
 
@@ -53,7 +53,7 @@ observer reset scl vsynci off md left watchdog loaded written =
     record { scl = scl; vsynci = vsynci; reset = reset; off = off; md = md; left = left; watchdog = watchdog; loaded = loaded; written = written }
 
 -- the observer of a chip as g, with RESET, SCL, the mode and what it counted
-abbrev pub seen : Chip → Bool → Bool → Bool → Bool → ℕ → Bool → Bool → Observer
+abbrev pub seen : Core → Bool → Bool → Bool → Bool → ℕ → Bool → Bool → Observer
 seen g reset scl off md left loaded written = observer reset scl (vsynciOf g) off md left (watchdogOf g) loaded written
 
 -- the two bits of the mode
@@ -61,7 +61,7 @@ pub record ModeBits (iists mdcon : ℕ) (off md : Bool) : Type 0 where
   pub enddc : bit 3 iists ≡ off
   pub md12 : bit 0 mdcon ≡ md
 
-abbrev pub ModeOf : Chip → Bool → Bool → Type 0
+abbrev pub ModeOf : Core → Bool → Bool → Type 0
 ModeOf g off md = ModeBits (iistsOf g) (mdconOf g) off md
 
 -- DDC off; DDC1 before the first load; a byte loaded, with the levels p to come
@@ -76,20 +76,20 @@ pub data Pending : Bool → ℕ → List ℕ → Type 0 where
   waiting : (b : ℕ) → Pending true b (b ∷ [])
 
 -- in DDC2B nothing is claimed, and it stays
-pub data Tracks : Chip → Observer → List Bool → List ℕ → Type 0 where
-  tracks : (g : Chip) (z s : Bool) {off md loaded written : Bool} {y r n : ℕ} {p : List Bool} {d : List ℕ} → ModeOf g off md → Stage off md loaded n r p → Pending written y d
+pub data Tracks : Core → Observer → List Bool → List ℕ → Type 0 where
+  tracks : (g : Core) (z s : Bool) {off md loaded written : Bool} {y r n : ℕ} {p : List Bool} {d : List ℕ} → ModeOf g off md → Stage off md loaded n r p → Pending written y d
       → Tracks (frame g z s y r n) (seen g z s off md n loaded written) p d
-  in-ddc2b : (c : Chip) (z s v : Bool) (n w : ℕ) (loaded written : Bool) (p : List Bool) (d : List ℕ) → Tracks c (observer z s v false false n w loaded written) p d
+  in-ddc2b : (c : Core) (z s v : Bool) (n w : ℕ) (loaded written : Bool) (p : List Bool) (d : List ℕ) → Tracks c (observer z s v false false n w loaded written) p d
 
 -- what an event does: nothing to what is to come; it brings a byte; it loads one; it shifts
-pub data Moved (c : Chip) (o : Observer) : List Level → List ℕ → List Bool → List ℕ → Type 0 where
+pub data Moved (c : Core) (o : Observer) : List Level → List ℕ → List Bool → List ℕ → Type 0 where
   kept : {p : List Bool} {d : List ℕ} → Tracks c o p d → Moved c o [] [] p d
   brings : {p : List Bool} (b : ℕ) → Tracks c o p (b ∷ []) → Moved c o [] (b ∷ []) p []
   loads : (put : Bool) (b : ℕ) → put ≡ bit 7 b → Tracks c o (lowBits b ++ (true ∷ [])) [] → Moved c o (level true put ∷ []) [] [] (b ∷ [])
   shifts : (put x : Bool) {p : List Bool} {d : List ℕ} → put ≡ x → Tracks c o p d → Moved c o (level false put ∷ []) [] (x ∷ p) d
 
 -- the levels that follow
-pub followed : {c : Chip} {o : Observer} {sh : List Level} {wr : List ℕ} {p : List Bool} {d : List ℕ} → Moved c o sh wr p d → (ls : List Level) (bs : List ℕ)
+pub followed : {c : Core} {o : Observer} {sh : List Level} {wr : List ℕ} {p : List Bool} {d : List ℕ} → Moved c o sh wr p d → (ls : List Level) (bs : List ℕ)
     → ((q : List Bool) (e : List ℕ) → Tracks c o q e → take (length ls) (byShifts q ++ serial (e ++ bs)) ≡ ls)
     → take (length (sh ++ ls)) (byShifts p ++ serial (d ++ (wr ++ bs))) ≡ sh ++ ls
 followed (kept f) ls bs k = k _ _ f

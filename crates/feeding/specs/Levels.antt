@@ -11,9 +11,10 @@ use Rattle.events.specs.Pins as pin
 use Rattle.events.specs.declared.Decoded.{Decoded}
 use Rattle.events.specs.declared.Decoded.the-variants.{Read, Write, Pin, Clock, Polarity, Refused}
 use Rattle.events.specs.Word.{decode}
-use Rattle.bus.specs.Lines.{line, sdaPulled}
+use Rattle.bus.specs.Bus.{line, sdaPulled}
+use Rattle.chip.specs.declared.Core.{Core}
 use Rattle.chip.specs.declared.Chip.{Chip}
-use Rattle.lines.specs.Bus.{activeMode}
+use Rattle.edges.specs.Edges.{activeMode}
 use Rattle.step.specs.Step.{step}
 use Rattle.feeding.specs.Observer.{Observer, observerOf, accepted, shifts, observe, throughout}
 
@@ -40,18 +41,18 @@ bytesWritten o (w ∷ ws) = byteWritten o (decode w) ++ bytesWritten (observe o 
 -- ---- the levels put on SDA
 
 -- SDA is pulled by the chip
-abbrev pub pullsSdaNow : Chip → Bool
+abbrev pub pullsSdaNow : Core → Bool
 pullsSdaNow c = sdaPulled (activeMode c) (c .bus .phase) (c .bus .shifter)
 
 -- the level that the chip puts on SDA: 0 where it pulls
-abbrev pub sdaPut : Chip → Bool
+abbrev pub sdaPut : Core → Bool
 sdaPut c = not (pullsSdaNow c)
 
 -- SDA's outside level, and the line: what is outside and what the chip puts
-abbrev pub sdaOutside : Chip → Bool
+abbrev pub sdaOutside : Core → Bool
 sdaOutside c = c .sda
 
-abbrev pub sdaLevel : Chip → Bool
+abbrev pub sdaLevel : Core → Bool
 sdaLevel c = line (pullsSdaNow c) (sdaOutside c)
 
 -- a level put on SDA, and whether a load put it
@@ -75,7 +76,7 @@ shows o (Refused n) = false
 abbrev pub levelsPut : Observer → Chip → List ℕ → List Level
 levelsPut o c [] = []
 levelsPut o c (w ∷ ws) =
-    pick (shows o (decode w)) (level (eqb (o .left) 0) (sdaPut (step c w .chip)) ∷ []) []
+    pick (shows o (decode w)) (level (eqb (o .left) 0) (sdaPut (step c w .chip .core)) ∷ []) []
     ++ levelsPut (observe o (decode w)) (step c w .chip) ws
 
 -- level i of a list

@@ -12,30 +12,31 @@ use Rattle.events.specs.Clocks as clock
 use Rattle.events.specs.declared.Decoded.{Decoded}
 use Rattle.events.specs.declared.Decoded.the-variants.{Read, Write, Pin, Clock, Polarity, Refused}
 use Rattle.events.specs.Word.{decode}
+use Rattle.chip.specs.declared.Core.{Core}
 use Rattle.chip.specs.declared.Chip.{Chip}
 
--- ---- what is read of the first state
+-- ---- what is read of the first state, all of it in the core
 
-abbrev pub sclOf : Chip → Bool
+abbrev pub sclOf : Core → Bool
 sclOf c = c .scl
 
-abbrev pub vsynciOf : Chip → Bool
+abbrev pub vsynciOf : Core → Bool
 vsynciOf c = c .pins .vsynci
 
-abbrev pub resetOf : Chip → Bool
+abbrev pub resetOf : Core → Bool
 resetOf c = c .reset
 
 -- II STS and MDCON, for the two bits that make the mode
-abbrev pub iistsOf : Chip → ℕ
+abbrev pub iistsOf : Core → ℕ
 iistsOf c = c .bus .iists
 
-abbrev pub mdconOf : Chip → ℕ
+abbrev pub mdconOf : Core → ℕ
 mdconOf c = c .mdcon
 
-abbrev pub edgesOf : Chip → ℕ
+abbrev pub edgesOf : Core → ℕ
 edgesOf c = c .bus .shifter .edges
 
-abbrev pub watchdogOf : Chip → ℕ
+abbrev pub watchdogOf : Core → ℕ
 watchdogOf c = c .watchdog
 
 -- ---- the observer
@@ -57,13 +58,13 @@ pub record Observer : Type 0 where
 abbrev pub observerOf : Chip → Observer
 observerOf c =
     record {
-      scl = sclOf c;
-      vsynci = vsynciOf c;
-      reset = resetOf c;
-      off = bit ENDDC (iistsOf c);
-      md = bit MD12 (mdconOf c);
-      left = edgesOf c;
-      watchdog = watchdogOf c;
+      scl = sclOf (c .core);
+      vsynci = vsynciOf (c .core);
+      reset = resetOf (c .core);
+      off = bit ENDDC (iistsOf (c .core));
+      md = bit MD12 (mdconOf (c .core));
+      left = edgesOf (c .core);
+      watchdog = watchdogOf (c .core);
       loaded = false;
       written = false;
     }
@@ -104,7 +105,7 @@ shifts o level = o .reset && ((not (o .vsynci) && level) && (not (o .off) && o .
 abbrev pub loads : Observer → Bool → Bool
 loads o level = shifts o level && eqb (o .left) 0
 
--- SCL, VSYNCI and RESET put their levels; a load leaves eight rises, a shift one less; a load uses the byte written up
+-- SCL, VSYNCI and RESET put their levels; a load leaves eight rises, a shift one less; after a load the next byte may be written
 abbrev pub observePin : Observer → ℕ → Bool → Observer
 observePin o p level =
     record {

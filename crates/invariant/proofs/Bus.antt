@@ -19,13 +19,13 @@ use Rattle.bus.specs.declared.Mode.the-variants.{Off, Ddc1, Ddc2b}
 use Rattle.bus.specs.declared.Phase.{Phase}
 use Rattle.bus.specs.declared.Phase.the-variants.{Idle, Address, Ignoring, Receive, Transmit, Held}
 use Rattle.bus.specs.declared.Shifter.{Shifter}
-use Rattle.bus.specs.Lines.{mode, modeBy, changesMode, pullsScl}
+use Rattle.bus.specs.Bus.{mode, modeBy, changesMode, pullsScl}
 use Rattle.bus.specs.Ddc1.{shifter, unusedShifter, shifterAtRise}
 use Rattle.ddc2b.specs.Ddc2b.{matches, gathered, startStatus, startPhase, stopStatus, addressed, phaseAtRise, statusAtRise, acknowledges, phaseAtFall, phaseLetGo}
 use Rattle.chip.specs.declared.Bus.{Bus}
 use Rattle.chip.specs.State.{busOf, released}
-use Rattle.form.specs.Form.{gatheredFits, phaseFits, isIdle, isUnused, busFits}
-use Rattle.lines.specs.Bus.{busAtMode, busAtRise, busAtVsync, withPhase}
+use Rattle.well_formed.specs.WellFormed.{gatheredFits, phaseFits, isIdle, isUnused, busFits}
+use Rattle.edges.specs.Edges.{busAtMode, busAtRise, busAtVsync, withPhase}
 use Rattle.invariant.proofs.Formed.{and-both, impossible, BusFormed}
 use Rattle.invariant.proofs.Ranges.{with-bit-below, pick-below}
 

@@ -1,6 +1,6 @@
 -- `bus::pulls_scl` meets its contract.
 -- Assumes nothing.
-use Rattle.bus.specs.Lines.{pullsScl}
+use Rattle.bus.specs.Bus.{pullsScl}
 use borrow.Author.Needs.{needs}
 use Rattle.bus.proofs.pulls_scl.Statement.{statement}
 use Rattle.bus.proofs.pulls_scl.Tie as tie

@@ -1,6 +1,6 @@
 -- `bus::pulls_sda` meets its contract.
 -- Assumes nothing.
-use Rattle.bus.specs.Lines.{pullsSda}
+use Rattle.bus.specs.Bus.{pullsSda}
 use borrow.Author.Needs.{needs}
 use Rattle.bus.proofs.pulls_sda.Statement.{statement}
 use Rattle.bus.proofs.pulls_sda.Tie as tie

@@ -12,4 +12,5 @@ period-clock-spec =
     (tie.spec
     (λ c κs. search needs)
     (λ c κs. search needs)
-    (λ c. simp (c .on-period .ensures, c .before .hsel .ensures)))
+    (λ c κs. search needs)
+    (λ c. simp (c .with-sync .ensures, c .before .on-period .ensures, c .before .before .hsel .ensures)))
