@@ -10,7 +10,7 @@ use Rattle.bus.specs.declared.Edge.{Edge}
 use Rattle.bus.specs.declared.Edge.the-variants.{Flat, Rise, Fall}
 use Rattle.bus.specs.declared.Shifter.{Shifter}
 use Rattle.bus.specs.declared.Phase.{Phase}
-use Rattle.bus.specs.declared.Phase.the-variants.{Idle, Address, Ignoring, Receive, Transmit, Held}
+use Rattle.bus.specs.declared.Phase.the-variants.{Idle, Address, Addressed, Ignoring, Receive, Transmit, Held}
 
 -- from one level to the next: no change, a rise or a fall
 abbrev pub edge : Bool → Bool → Edge
@@ -47,21 +47,23 @@ line false level = level
 unfoldable pub pullsAtBit : ℕ → ℕ → Bool
 pullsAtBit count byte = pick (ltb count 9) (not (bit ((8 - count) % 8) byte)) false
 
--- the SDA line pulled by the phase: an acknowledge, or a 0 bit that is out
+-- the SDA line pulled by the phase: an acknowledge (ACK), or a 0 bit that is out
 unfoldable pub pullsSda : Phase → Bool
 pullsSda Idle = false
-pullsSda (Address count bits acknowledged) = acknowledged
+pullsSda (Address count bits) = false
+pullsSda (Addressed bits ninth) = ninth
 pullsSda Ignoring = false
-pullsSda (Receive count bits acknowledged) = acknowledged
+pullsSda (Receive count bits) = eqb count 9
 pullsSda (Transmit count byte) = pullsAtBit count byte
 pullsSda Held = false
 
 -- the SCL line pulled by the phase: the chip holds the clock
 unfoldable pub pullsScl : Phase → Bool
 pullsScl Idle = false
-pullsScl (Address count bits acknowledged) = false
+pullsScl (Address count bits) = false
+pullsScl (Addressed bits ninth) = false
 pullsScl Ignoring = false
-pullsScl (Receive count bits acknowledged) = false
+pullsScl (Receive count bits) = false
 pullsScl (Transmit count byte) = false
 pullsScl Held = true
 

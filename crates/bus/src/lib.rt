@@ -19,25 +19,17 @@ pub enum Edge {
     Fall,
 }
 
-// The phase of the bus (document 01, "The forms we expect"). `acknowledged`: the eighth fall has pulled SDA. A transmit
-// counts the bits put out, 1 to 8; at 9 the acknowledge is awaited and at 10 it has been taken.
+// The phase of the bus (document 01, "The forms we expect"). An address gathers up to seven bits; with its eighth it is the chip's
+// own, `Addressed`, or the bus is ignored. `ninth`: the eighth fall has pulled SDA, and the ninth clock runs. A receive counts the
+// bits gathered, 0 to 8; in the ninth clock it stands at 9 where SDA is pulled (ACK) and at 10 where it is released (NACK). A
+// transmit counts the bits put out, 1 to 8; at 9 the acknowledge is awaited and at 10 it has been taken.
 pub enum Phase {
     Idle,
-    Address {
-        count: u8,
-        bits: u8,
-        acknowledged: bool,
-    },
+    Address { count: u8, bits: u8 },
+    Addressed { bits: u8, ninth: bool },
     Ignoring,
-    Receive {
-        count: u8,
-        bits: u8,
-        acknowledged: bool,
-    },
-    Transmit {
-        count: u8,
-        byte: u8,
-    },
+    Receive { count: u8, bits: u8 },
+    Transmit { count: u8, byte: u8 },
     Held,
 }
 
@@ -119,17 +111,10 @@ pub fn pulls_sda(phase: Phase) -> bool
 {
     match phase {
         Phase::Idle => false,
-        Phase::Address {
-            count: _,
-            bits: _,
-            acknowledged,
-        } => acknowledged,
+        Phase::Address { count: _, bits: _ } => false,
+        Phase::Addressed { bits: _, ninth } => ninth,
         Phase::Ignoring => false,
-        Phase::Receive {
-            count: _,
-            bits: _,
-            acknowledged,
-        } => acknowledged,
+        Phase::Receive { count, bits: _ } => count == 9,
         Phase::Transmit { count, byte } => pulls_at_bit(count, byte),
         Phase::Held => false,
     }
@@ -142,17 +127,10 @@ pub fn pulls_scl(phase: Phase) -> bool
 {
     match phase {
         Phase::Idle => false,
-        Phase::Address {
-            count: _,
-            bits: _,
-            acknowledged: _,
-        } => false,
+        Phase::Address { count: _, bits: _ } => false,
+        Phase::Addressed { bits: _, ninth: _ } => false,
         Phase::Ignoring => false,
-        Phase::Receive {
-            count: _,
-            bits: _,
-            acknowledged: _,
-        } => false,
+        Phase::Receive { count: _, bits: _ } => false,
         Phase::Transmit { count: _, byte: _ } => false,
         Phase::Held => true,
     }

@@ -3,7 +3,7 @@
 use mathlib.Core.Path.{_≡_, refl, sym}
 use mathlib.Core.Bool.{Bool, true, false, not, _&&_, _||_, Bool·beq}
 use Prim.Native.Nat.{ℕ}
-use lib.Dec.{T, eqb}
+use lib.Dec.{T, eqb, ltb}
 use lib.Bits.{bitOr, or-zero-r}
 use Rattle.bits.specs.Byte.{pick, bit}
 use Rattle.bits.proofs.Finite.{beq-eq}
@@ -14,7 +14,7 @@ use Rattle.bus.specs.declared.Mode.the-variants.{Off, Ddc1, Ddc2b}
 use Rattle.bus.specs.declared.Edge.{Edge}
 use Rattle.bus.specs.declared.Edge.the-variants.{Flat, Rise, Fall}
 use Rattle.bus.specs.declared.Phase.{Phase}
-use Rattle.bus.specs.declared.Phase.the-variants.{Idle, Address, Ignoring, Receive, Transmit, Held}
+use Rattle.bus.specs.declared.Phase.the-variants.{Idle, Address, Addressed, Ignoring, Receive, Transmit, Held}
 use Rattle.bus.specs.declared.Shifter.{Shifter}
 use Rattle.bus.specs.Bus.{edge, line, mode, modeBy, pullsSda, pullsScl, sclPulled}
 use Rattle.bus.specs.Ddc1.{loadsAtRise}
@@ -67,22 +67,24 @@ sclFlags Ddc2b Fall hit ninth = bitOr 0x20 (pick ninth 0x10 0)
 hit-is : (own : ℕ) (sda : Bool) (p : Phase) → matchesAtRise own sda p ≡ completesMatch own sda p
 unfolding matchesAtRise
 hit-is own sda Idle = refl
-hit-is own sda (Address count bits acknowledged) = pick-and (eqb count 7) (matches own (gathered bits sda))
+hit-is own sda (Address count bits) = pick-and (ltb count 7) (matches own (gathered bits sda))
   where
-    pick-and : (a b : Bool) → pick a b false ≡ (a && b)
+    pick-and : (a b : Bool) → pick a false b ≡ (not a && b)
     pick-and true b = refl
     pick-and false b = refl
+hit-is own sda (Addressed bits ninth) = refl
 hit-is own sda Ignoring = refl
-hit-is own sda (Receive count bits acknowledged) = refl
+hit-is own sda (Receive count bits) = refl
 hit-is own sda (Transmit count byte) = refl
 hit-is own sda Held = refl
 
 ninth-is : (p : Phase) → holdsAtFall p ≡ inNinthClock p
 unfolding holdsAtFall
 ninth-is Idle = refl
-ninth-is (Address count bits acknowledged) = refl
+ninth-is (Address count bits) = refl
+ninth-is (Addressed bits ninth) = refl
 ninth-is Ignoring = refl
-ninth-is (Receive count bits acknowledged) = refl
+ninth-is (Receive count bits) = refl
 ninth-is (Transmit count byte) = refl
 ninth-is Held = refl
 

@@ -10,7 +10,7 @@ use Rattle.events.specs.Clocks as clock
 use Rattle.events.specs.declared.Decoded.{Decoded}
 use Rattle.events.specs.declared.Decoded.the-variants.{Read, Write, Pin, Clock, Polarity, Refused}
 use Rattle.bus.specs.declared.Phase.{Phase}
-use Rattle.bus.specs.declared.Phase.the-variants.{Idle, Address, Ignoring, Receive, Transmit, Held}
+use Rattle.bus.specs.declared.Phase.the-variants.{Idle, Address, Addressed, Ignoring, Receive, Transmit, Held}
 use Rattle.bus.specs.Bus.{line, pullsSda, pullsScl}
 use Rattle.ddc2b.specs.Ddc2b.{matches, gathered}
 use Rattle.chip.specs.declared.Chip.{Chip}
@@ -103,18 +103,20 @@ fallsScl c e = putLow pin.SCL e && (c .core .reset && (c .core .scl && sclFree c
 -- seven bits of an address are gathered, and with the SDA line as the eighth it matches A0H or II ADR
 abbrev pub completesMatch : ℕ → Bool → Phase → Bool
 completesMatch own sda Idle = false
-completesMatch own sda (Address count bits acknowledged) = eqb count 7 && matches own (gathered bits sda)
+completesMatch own sda (Address count bits) = not (ltb count 7) && matches own (gathered bits sda)
+completesMatch own sda (Addressed bits ninth) = false
 completesMatch own sda Ignoring = false
-completesMatch own sda (Receive count bits acknowledged) = false
+completesMatch own sda (Receive count bits) = false
 completesMatch own sda (Transmit count byte) = false
 completesMatch own sda Held = false
 
--- the acknowledge of a byte was given, or taken at the end of a transmit: the next fall ends the ninth clock
+-- the ninth clock of a byte runs, acknowledged or not, or the acknowledge of a transmit was taken: the next fall ends it
 abbrev pub inNinthClock : Phase → Bool
 inNinthClock Idle = false
-inNinthClock (Address count bits acknowledged) = acknowledged
+inNinthClock (Address count bits) = false
+inNinthClock (Addressed bits ninth) = ninth
 inNinthClock Ignoring = false
-inNinthClock (Receive count bits acknowledged) = acknowledged
+inNinthClock (Receive count bits) = ltb 8 count
 inNinthClock (Transmit count byte) = eqb count 10
 inNinthClock Held = false
 

@@ -50,7 +50,7 @@ sclRise c =
 unfoldable pub sclFall : Core → Core
 sclFall c =
     withBus (raised c (bitOr (weight INTS) (weightIf (holdsAtFall (c .bus .phase)) INTD)))
-    (withPhase (c .bus) (phaseAtFall (c .bus .phase)))
+    (withPhase (c .bus) (phaseAtFall (c .bus .iists) (c .bus .phase)))
 
 -- a fall of the SCL line in DDC1 sets flag S and clears MD1/2, which is a change of mode
 unfoldable pub leaveDdc1 : Core → Core

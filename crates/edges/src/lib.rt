@@ -90,7 +90,7 @@ fn scl_fall(c: Core) -> Core
     let flags = bits::weight_if(ddc2b::holds_at_fall(phase), INTD);
     chip::with_bus(
         chip::raised(c, (1 << INTS) | flags),
-        with_phase(b, ddc2b::phase_at_fall(phase)),
+        with_phase(b, ddc2b::phase_at_fall(b.iists, phase)),
     )
 }
 
@@ -160,11 +160,7 @@ fn started(c: Core) -> Core
         iists: b.iists | (1 << START),
         iiadr: b.iiadr,
         iidat: b.iidat,
-        phase: Phase::Address {
-            count: 0,
-            bits: 0,
-            acknowledged: false,
-        },
+        phase: Phase::Address { count: 0, bits: 0 },
         shifter: shifter,
     };
     chip::with_bus(c, after)

@@ -13,7 +13,7 @@ use Rattle.bits.specs.Byte.{pick, bit}
 use Rattle.bits.proofs.Finite.{both}
 use Rattle.events.specs.Word.{decode}
 use Rattle.bus.specs.declared.Phase.{Phase}
-use Rattle.bus.specs.declared.Phase.the-variants.{Idle, Address, Ignoring, Receive, Transmit, Held}
+use Rattle.bus.specs.declared.Phase.the-variants.{Idle, Address, Addressed, Ignoring, Receive, Transmit, Held}
 use Rattle.bus.specs.Bus.{mode, modeBy, line}
 use Rattle.chip.specs.declared.Core.{Core}
 use Rattle.chip.specs.declared.Chip.{Chip}
@@ -36,9 +36,10 @@ use Rattle.feeding.proofs.Events.{levelsNext, tracked-levels}
 idle-of : (q : Phase) → isIdle q ≡ true → q ≡ Idle
 unfolding isIdle
 idle-of Idle h = refl
-idle-of (Address count bits acknowledged) h = absurd (true≢false (sym h))
+idle-of (Address count bits) h = absurd (true≢false (sym h))
+idle-of (Addressed bits ninth) h = absurd (true≢false (sym h))
 idle-of Ignoring h = absurd (true≢false (sym h))
-idle-of (Receive count bits acknowledged) h = absurd (true≢false (sym h))
+idle-of (Receive count bits) h = absurd (true≢false (sym h))
 idle-of (Transmit count byte) h = absurd (true≢false (sym h))
 idle-of Held h = absurd (true≢false (sym h))
 

@@ -7,7 +7,7 @@ use native.Mathlib.Omega.{arith}
 use native.Mathlib.Numerals.{add-one}
 use lib.ListN.{length}
 use lib.Dec.{eqb, ltb}
-use borrow.Author.Tests.{ltb-true, lt-ltb, eqb-true, eqb-false, ne-eqb, not-true}
+use borrow.Author.Tests.{ltb-true, lt-ltb, eqb-true, eqb-false, not-true}
 use Rattle.bits.specs.Byte.{pick, bit}
 use Rattle.bits.proofs.Bitwise.{bit-or}
 use Rattle.registers.specs.Names.{INTE}
@@ -17,7 +17,7 @@ use Rattle.bus.specs.declared.Edge.the-variants.{Flat, Rise, Fall}
 use Rattle.bus.specs.declared.Phase.{Phase}
 use Rattle.bus.specs.declared.Phase.the-variants.{Idle, Address}
 use Rattle.bus.specs.Bus.{edge, pullsSda, sdaPulled, sclPulled}
-use Rattle.ddc2b.specs.Ddc2b.{addressBits, matches, phaseAtRise, dataAtRise, matchesAtRise, statusAtRise, holdsAtFall, acknowledges, phaseAtFall, startStatus, stopStatus}
+use Rattle.ddc2b.specs.Ddc2b.{addressBits, matches, phaseAtRise, dataAtRise, matchesAtRise, statusAtRise, holdsAtFall, phaseAtFall, startStatus, stopStatus}
 use Rattle.chip.specs.declared.Core.{Core}
 use Rattle.chip.specs.State.{busOf, hselOf, raised, withSync, withBus, withReset}
 use Rattle.sync.specs.Sync.{onVsync}
@@ -31,9 +31,6 @@ use Rattle.isolation.proofs.Related.{frame, observer, Apart, idle, igno
 
 -- ---- SCL
 
-not-eight : (n : ℕ) → ltb n 8 ≡ true → eqb n 8 ≡ false
-not-eight n h = ne-eqb n 8 (omega (arith, ltb-true n 8 h))
-
 before-last : (n : ℕ) → ltb n 8 ≡ true → eqb n 7 ≡ false → ltb n 7 ≡ true
 before-last n h e = lt-ltb n 7 (omega (arith, ltb-true n 8 h, eqb-false n 7 e))
 
@@ -45,12 +42,12 @@ matches-by-bits own own′ byte h = rw h
 -- another level of an address: the eighth completes one that is not the chip's
 module _ (g : Core) (x x′ : Bool) (y y′ : ℕ) {n : ℕ} (ls ls′ : List Bool) (e : length ls′ ≡ length ls) (h : ltb (length ls) 8 ≡ true) (o : KeptBy g n) where
   gather-related : (last : Bool) → eqb (length ls) 7 ≡ last → (last && matches n (byteOf (x ∷ ls))) ≡ false → (last && matches n (byteOf (x′ ∷ ls′))) ≡ false
-      → Related (sclRise (frame g true true x (Address (length ls) (byteOf ls) false) y)) (sclRise (frame g true true x′ (Address (length ls) (byteOf ls′) false) y′))
+      → Related (sclRise (frame g true true x (Address (length ls) (byteOf ls)) y)) (sclRise (frame g true true x′ (Address (length ls) (byteOf ls′)) y′))
       (observer true true x n (g .watchdog) (since (x ∷ ls))) (observer true true x′ n (g .watchdog) (since (x′ ∷ ls′)))
   unfolding sclRise busAtRise phaseAtRise dataAtRise matchesAtRise statusAtRise pullsSda
   gather-related false l a a′ =
       let few : ltb (length ls) 7 ≡ true = before-last (length ls) h l in
-      rw (l, few, gathered-level ls x h, gathered-level ls′ x′ (rw e h), add-one (length ls))
+      rw (few, gathered-level ls x h, gathered-level ls′ x′ (rw e h), add-one (length ls))
       (related (raised g 0) true true x x′ y y′ (address (x ∷ ls) (x′ ∷ ls′) (ap suc e) (lt-ltb (suc (length ls)) 8 (omega (arith, ltb-true (length ls) 7 few)))) (kept-raised 0 (omega arith) o))
   gather-related true l a a′ =
       rw (eqb-true (length ls) 7 l, gathered-level ls x h, gathered-level ls′ x′ (rw e h), matches-by-bits (g .bus .iiadr) n (byteOf (x ∷ ls)) (o .address-bits), matches-by-bits (g .bus .iiadr) n (byteOf (x′ ∷ ls′)) (o .address-bits), a, a′)
@@ -67,10 +64,10 @@ module _ (g : Core) (x x′ : Bool) (y y′ : ℕ) {n : ℕ} (o : KeptBy g n) wh
 
   fall-related : {q q′ : Phase} {t t′ : Trace} → Apart q q′ t t′
       → Related (sclFall (frame g true false x q y)) (sclFall (frame g true false x′ q′ y′)) (observer true false x n (g .watchdog) t) (observer true false x′ n (g .watchdog) t′)
-  unfolding sclFall holdsAtFall phaseAtFall acknowledges
+  unfolding sclFall holdsAtFall phaseAtFall
   fall-related idle = related (raised g 0x20) true false x x′ y y′ idle (kept-raised 0x20 (omega arith) o)
   fall-related (ignoring ls ls′) = related (raised g 0x20) true false x x′ y y′ (ignoring ls ls′) (kept-raised 0x20 (omega arith) o)
-  fall-related (address ls ls′ e h) = rw (not-eight (length ls) h) (related (raised g 0x20) true false x x′ y y′ (address ls ls′ e h) (kept-raised 0x20 (omega arith) o))
+  fall-related (address ls ls′ e h) = related (raised g 0x20) true false x x′ y y′ (address ls ls′ e h) (kept-raised 0x20 (omega arith) o)
 
 pub scl-related : {c d : Core} {o o′ : Observer} → Related c d o o′ → (l : Bool) → permitted o (Pin 25 l) ≡ true → permitted o′ (Pin 25 l) ≡ true
     → Related (sclMoved c l) (sclMoved d l) (observe o (Pin 25 l)) (observe o′ (Pin 25 l))

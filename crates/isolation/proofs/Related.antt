@@ -44,7 +44,7 @@ pub data Apart : Phase → Phase → Trace → Trace → Type 0 where
   idle : Apart Idle Idle none none
   ignoring : (ls ls′ : List Bool) → Apart Ignoring Ignoring (since ls) (since ls′)
   address : (ls ls′ : List Bool) → length ls′ ≡ length ls → ltb (length ls) 8 ≡ true
-      → Apart (Address (length ls) (byteOf ls) false) (Address (length ls) (byteOf ls′) false) (since ls) (since ls′)
+      → Apart (Address (length ls) (byteOf ls)) (Address (length ls) (byteOf ls′)) (since ls) (since ls′)
 
 -- DDC2B by II STS and MDCON, II ADR with the address bits of the byte last written, and IRQX a byte
 pub record Kept (iists mdcon iiadr irqx own : ℕ) : Type 0 where

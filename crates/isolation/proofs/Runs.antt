@@ -71,13 +71,13 @@ fits-left : {q q′ : Phase} {t t′ : Trace} → Apart q q′ t t′ → phaseF
 unfolding phaseFits gatheredFits
 fits-left idle = refl
 fits-left (ignoring ls ls′) = refl
-fits-left (address ls ls′ e h) = rw (lt-ltb (length ls) 9 (omega (arith, ltb-true (length ls) 8 h)), lt-ltb (byteOf ls) (2 ^ length ls) (byte-lt ls))
+fits-left (address ls ls′ e h) = rw (h, lt-ltb (length ls) 9 (omega (arith, ltb-true (length ls) 8 h)), lt-ltb (byteOf ls) (2 ^ length ls) (byte-lt ls))
 
 fits-right : {q q′ : Phase} {t t′ : Trace} → Apart q q′ t t′ → phaseFits q′ ≡ true
 unfolding phaseFits gatheredFits
 fits-right idle = refl
 fits-right (ignoring ls ls′) = refl
-fits-right (address ls ls′ e h) = rw (lt-ltb (length ls) 9 (omega (arith, ltb-true (length ls) 8 h)), lt-ltb (byteOf ls′) (2 ^ length ls) (rw e at (byte-lt ls′)))
+fits-right (address ls ls′ e h) = rw (h, lt-ltb (length ls) 9 (omega (arith, ltb-true (length ls) 8 h)), lt-ltb (byteOf ls′) (2 ^ length ls) (rw e at (byte-lt ls′)))
 
 pub well-formed-equal : {c d : Chip} {o o′ : Observer} → RelatedChips c d o o′ → wellFormed c ≡ wellFormed d
 unfolding wellFormed reservedApart busFits

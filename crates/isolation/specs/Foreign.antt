@@ -15,7 +15,7 @@ use Rattle.events.specs.declared.Decoded.{Decoded}
 use Rattle.events.specs.declared.Decoded.the-variants.{Read, Write, Pin, Clock, Polarity, Refused}
 use Rattle.events.specs.Word.{decode}
 use Rattle.bus.specs.declared.Phase.{Phase}
-use Rattle.bus.specs.declared.Phase.the-variants.{Idle, Address, Ignoring, Receive, Transmit, Held}
+use Rattle.bus.specs.declared.Phase.the-variants.{Idle, Address, Addressed, Ignoring, Receive, Transmit, Held}
 use Rattle.ddc2b.specs.Ddc2b.{startPhase, matches}
 use Rattle.chip.specs.declared.Core.{Core}
 use Rattle.chip.specs.declared.Chip.{Chip}
@@ -232,9 +232,10 @@ comparedAnswers (w ∷ ws) (x ∷ xs) = comparedAnswer (decode w) x ∷ compared
 -- the part of the phase that is compared: all but the address bits gathered
 abbrev pub comparedPhase : Phase → Phase
 comparedPhase Idle = Idle
-comparedPhase (Address count bits acknowledged) = Address count 0 acknowledged
+comparedPhase (Address count bits) = Address count 0
+comparedPhase (Addressed bits ninth) = Addressed bits ninth
 comparedPhase Ignoring = Ignoring
-comparedPhase (Receive count bits acknowledged) = Receive count bits acknowledged
+comparedPhase (Receive count bits) = Receive count bits
 comparedPhase (Transmit count byte) = Transmit count byte
 comparedPhase Held = Held
 

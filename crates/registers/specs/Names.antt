@@ -154,6 +154,9 @@ TRX = 2
 abbrev pub RXAK : ℕ
 RXAK = 1
 
+abbrev pub TXAK : ℕ
+TXAK = 0
+
 -- ---- bits of BTCON
 
 abbrev pub TBS : ℕ

@@ -102,6 +102,8 @@ pub const TRX: u8 = 2;
 
 pub const RXAK: u8 = 1;
 
+pub const TXAK: u8 = 0;
+
 // Those of BTCON:
 pub const TBS: u8 = 1;
 

@@ -14,7 +14,7 @@ use Rattle.sync.specs.Sync.{wellSync}
 use Rattle.bus.specs.declared.Mode.{Mode}
 use Rattle.bus.specs.declared.Mode.the-variants.{Off, Ddc1, Ddc2b}
 use Rattle.bus.specs.declared.Phase.{Phase}
-use Rattle.bus.specs.declared.Phase.the-variants.{Idle, Address, Ignoring, Receive, Transmit, Held}
+use Rattle.bus.specs.declared.Phase.the-variants.{Idle, Address, Addressed, Ignoring, Receive, Transmit, Held}
 use Rattle.bus.specs.declared.Shifter.{Shifter}
 use Rattle.chip.specs.declared.Core.{Core}
 use Rattle.chip.specs.declared.Chip.{Chip}
@@ -46,24 +46,28 @@ reservedApart c =
 
 -- ---- the phase of the bus and the shift register fit the mode
 
--- at most eight bits; they are a number of as many bits; SDA is pulled for the acknowledge after eight bits alone
-unfoldable pub gatheredFits : ℕ → ℕ → Bool → Bool
-gatheredFits count bits acknowledged = pick (ltb count 9) (pick (ltb bits (2 ^ count)) (pick acknowledged (eqb count 8) true) false) false
+-- the bits gathered are a number of as many bits, at most eight
+unfoldable pub gatheredFits : ℕ → ℕ → Bool
+gatheredFits count bits = ltb bits (2 ^ pick (ltb count 9) count 8)
 
--- the phases of DDC2B; a transmit has put out one to eight bits, or awaits (9) or has taken (10) the acknowledge
+-- the phases of DDC2B: an address has at most seven bits, with the eighth it is matched or ignored; a receive has at most eight, or is in
+-- its ninth clock with SDA pulled (9) or released (10); a transmit has put out one to eight bits, or awaits (9) or has taken (10)
+-- the acknowledge
 unfoldable pub phaseFits : Phase → Bool
 phaseFits Idle = true
-phaseFits (Address count bits acknowledged) = gatheredFits count bits acknowledged
+phaseFits (Address count bits) = ltb count 8 && gatheredFits count bits
+phaseFits (Addressed bits ninth) = gatheredFits 8 bits
 phaseFits Ignoring = true
-phaseFits (Receive count bits acknowledged) = gatheredFits count bits acknowledged
+phaseFits (Receive count bits) = ltb count 11 && gatheredFits count bits
 phaseFits (Transmit count byte) = ltb 0 count && ltb count 11
 phaseFits Held = true
 
 unfoldable pub isIdle : Phase → Bool
 isIdle Idle = true
-isIdle (Address count bits acknowledged) = false
+isIdle (Address count bits) = false
+isIdle (Addressed bits ninth) = false
 isIdle Ignoring = false
-isIdle (Receive count bits acknowledged) = false
+isIdle (Receive count bits) = false
 isIdle (Transmit count byte) = false
 isIdle Held = false
 

@@ -120,18 +120,14 @@ fn reserved_apart(c: Core) -> bool
         & (c.pins.port1 < 128)
 }
 
-fn gathered_fits(count: u8, bits: u8, acknowledged: bool) -> bool
-    ensures { λ r. ⌜ r ≡ gatheredFits count bits acknowledged ⌝ }
+fn gathered_fits(count: u8, bits: u8) -> bool
+    ensures { λ r. ⌜ r ≡ gatheredFits count bits ⌝ }
 {
     if count < 9 {
         let limit: u16 = 1 << count;
-        if (bits as u16) < limit {
-            if acknowledged { count == 8 } else { true }
-        } else {
-            false
-        }
+        (bits as u16) < limit
     } else {
-        false
+        (bits as u16) < 256
     }
 }
 
@@ -140,17 +136,10 @@ fn phase_fits(phase: Phase) -> bool
 {
     match phase {
         Phase::Idle => true,
-        Phase::Address {
-            count,
-            bits,
-            acknowledged,
-        } => gathered_fits(count, bits, acknowledged),
+        Phase::Address { count, bits } => (count < 8) & gathered_fits(count, bits),
+        Phase::Addressed { bits, ninth: _ } => gathered_fits(8, bits),
         Phase::Ignoring => true,
-        Phase::Receive {
-            count,
-            bits,
-            acknowledged,
-        } => gathered_fits(count, bits, acknowledged),
+        Phase::Receive { count, bits } => (count < 11) & gathered_fits(count, bits),
         Phase::Transmit { count, byte: _ } => (0 < count) & (count < 11),
         Phase::Held => true,
     }
@@ -161,17 +150,10 @@ fn is_idle(phase: Phase) -> bool
 {
     match phase {
         Phase::Idle => true,
-        Phase::Address {
-            count: _,
-            bits: _,
-            acknowledged: _,
-        } => false,
+        Phase::Address { count: _, bits: _ } => false,
+        Phase::Addressed { bits: _, ninth: _ } => false,
         Phase::Ignoring => false,
-        Phase::Receive {
-            count: _,
-            bits: _,
-            acknowledged: _,
-        } => false,
+        Phase::Receive { count: _, bits: _ } => false,
         Phase::Transmit { count: _, byte: _ } => false,
         Phase::Held => false,
     }

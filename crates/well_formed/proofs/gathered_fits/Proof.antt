@@ -21,10 +21,5 @@ gathered-fits-spec =
     tie.close
     (tie.spec
     (λ c. search needs)
-    (λ c. let e = limit _ (c .before .before .if1 .taken) in
-    simp (c .if3 .taken, lt-ltb _ _ (rw e at (c .before .if2 .taken)), lt-ltb _ _ (c .before .before .if1 .taken)))
-    (λ c. let e = limit _ (c .before .before .if1 .taken) in
-    simp (c .if3 .left, lt-ltb _ _ (rw e at (c .before .if2 .taken)), lt-ltb _ _ (c .before .before .if1 .taken)))
-    (λ c. let e = limit _ (c .before .if1 .taken) in
-    simp (le-ltb _ _ (rw e at (c .if2 .left)), lt-ltb _ _ (c .before .if1 .taken)))
+    (λ c. simp (limit _ (c .if1 .taken), lt-ltb _ _ (c .if1 .taken)))
     (λ c. simp (le-ltb _ _ (c .if1 .left))))
