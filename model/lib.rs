@@ -5,6 +5,7 @@
 
 pub mod chip;
 pub mod coverage;
+pub mod edid;
 pub mod replay;
 #[cfg(test)]
 mod tests;

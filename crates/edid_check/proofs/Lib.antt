@@ -1,0 +1,4 @@
+pub mod Sums
+pub mod Framed
+pub mod Exactly
+pub mod Example

@@ -1,0 +1,3 @@
+pub mod Block
+pub mod Edid
+pub mod Example
