@@ -1,8 +1,8 @@
 -- The variables that a header declares and what a code stands for (IEEE 1364, 18.2.3.8; Wish 10).
-use Prim.Native.Nat.{ℕ, zero, suc, _+_, _-_, _*_, _%_}
+use Prim.Native.Nat.{ℕ, zero, suc, _+_, _-_, _*_, _/_, _%_}
 use mathlib.Core.Bool.{Bool, true, false}
 use mathlib.Core.List.{List, [], _∷_}
-use lib.ListN.{take, drop, getD}
+use lib.ListN.{length, take, drop, getD}
 use lib.Dec.{eqb, ltb}
 use Rattle.bits.specs.Byte.{pick}
 use Rattle.vcd_text.specs.Token.{sameBytes}
@@ -54,3 +54,9 @@ joinedTo list pin = pick (ltb list 4294967296) (pick (eqb pin 0) list (list % 16
 -- what a code stands for, one entry more looked at
 unfoldable pub foundAfter : List ℕ → List ℕ → List ℕ → ℕ → List ℕ → Found → Found
 foundAfter text places pins k code rest = pick (sameBytes (codeAt text places k) code) (joins (getD pins k 0) rest) rest
+
+-- a number below 256 for a code, by which the reader guesses its entry: of its first, middle and last byte
+unfoldable pub guessOf : List ℕ → ℕ
+guessOf code =
+    pick (eqb (length code) 0) 0
+    ((getD code 0 0 * 5 + getD code ((length code - 1) / 2) 0 * 3 + getD code (length code - 1) 0) % 256)

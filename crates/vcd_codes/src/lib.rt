@@ -5,7 +5,7 @@ ghost use lib.ListN.{getD};
 ghost use lib.Dec.{ltb};
 ghost use Rattle.bits.specs.Byte.{pick};
 ghost use Rattle.vcd_text.specs.Token.{sameBytes};
-ghost use Rattle.vcd_codes.specs.Codes.{codeAt, variables, find, meant, joinedTo, foundAfter};
+ghost use Rattle.vcd_codes.specs.Codes.{codeAt, variables, find, meant, joinedTo, foundAfter, guessOf};
 
 // No variable has the code.
 pub const UNDECLARED: u64 = 4294967296;
@@ -89,4 +89,37 @@ pub fn list_of(text: &[u8], places: &[usize], pins: &[u8], entries: usize, code:
         list = with_entry(text, places, pins, k, code, list);
     }
     list
+}
+
+// What the code of an entry stands for.
+// Wrong answers: what the code of the next entry stands for; no variable for the last entry.
+pub fn list_at(text: &[u8], places: &[usize], pins: &[u8], entries: usize, k: usize) -> u64
+    ensures { λ r. ⌜ meant r ≡ find (variables (now (text .entry)) (now (places .entry)) (now (pins .entry)) 0 entries) (codeAt (now (text .entry)) (now (places .entry)) k) ⌝ }
+{
+    let to = least(code_to(places, k), text.len());
+    let from = least(code_from(places, k), to);
+    list_of(text, places, pins, entries, &text[from..to])
+}
+
+// A guess of a code's entry is looked up under this number. Few of the declared codes share one.
+// Wrong answers: another factor for the first byte; 256 among the numbers.
+pub fn guess_of(code: &[u8]) -> usize
+    ensures { λ r. ⌜ (r ≡ guessOf (now (code .entry))) × (r < 256) ⌝ }
+{
+    if code.len() == 0 {
+        return 0;
+    }
+    let last = code.len() - 1;
+    let sum = wide(code[0]) * 5 + wide(code[last / 2]) * 3 + wide(code[last]);
+    (sum % 256) as usize
+}
+
+// The number of the code of an entry.
+// Wrong answers: that of the next entry; 0.
+pub fn guess_at(text: &[u8], places: &[usize], k: usize) -> usize
+    ensures { λ r. ⌜ (r ≡ guessOf (codeAt (now (text .entry)) (now (places .entry)) k)) × (r < 256) ⌝ }
+{
+    let to = least(code_to(places, k), text.len());
+    let from = least(code_from(places, k), to);
+    guess_of(&text[from..to])
 }
