@@ -9,7 +9,7 @@ ghost use Rattle.bits.specs.Byte.{pick};
 ghost use Rattle.vcd_text.specs.Token.{tokens};
 ghost use Rattle.vcd_codes.specs.Codes.{variables};
 ghost use Rattle.vcd_header.specs.Header.{stopsAt};
-ghost use Rattle.vcd_body.specs.Pieces.{answer, start as startOf};
+ghost use Rattle.vcd_body.specs.Pieces.{answer, closed, cursor, start as startOf};
 ghost use Rattle.vcd.specs.Header.{heading, taken, oneMore, declares, settled, headerOf};
 ghost use Rattle.vcd.specs.Call.{callOf};
 use vcd_body::Cursor;
@@ -152,4 +152,52 @@ fn most(a: usize, b: usize) -> usize
     ensures { λ r. ⌜ r ≡ pick (ltb a b) b a ⌝ }
 {
     if a < b { b } else { a }
+}
+
+fn refused(close: Close) -> Piece
+    ensures { λ r. ⌜ r ≡ closed 0 (close .number) (close .place) ⌝ }
+{
+    let next = vcd_body::start();
+    Piece {
+        count: 0,
+        place: close.place,
+        number: close.number,
+        next: next,
+    }
+}
+
+fn body_from(from: Cursor, place: usize) -> Cursor
+    ensures { λ r. ⌜ r ≡ cursor (pick (ltb (from .at) place) place (from .at)) (from .done) (from .state) ⌝ }
+{
+    let state = from.state;
+    Cursor {
+        at: most(from.at, place),
+        done: from.done,
+        state: state,
+    }
+}
+
+// The words of a file from a cursor on, as far as there are places for them. A call that is told 43 tells the cursor of the
+// next one too.
+// Wrong answers: the words from the start whatever the cursor; a header that is refused taken for an empty one.
+pub fn read_more(text: &[u8], out: &mut [u32], from: Cursor) -> Piece
+    ensures { λ r. ⌜ answer (now (out .exit)) r ≡ callOf (now (text .entry)) from (now (out .entry)) ⌝ }
+{
+    let mut places = [0usize; 64];
+    let mut pins = [0u8; 32];
+    let h = read_header(text, &mut places, &mut pins);
+    let close = h.close;
+    if 0 < close.number {
+        return refused(close);
+    }
+    let unit = h.unit;
+    vcd_body::read(text, &places, &pins, h.entries, unit.unit, out, body_from(from, close.place))
+}
+
+// The words of a file, as far as there are places for them.
+// Wrong answers: one clock word left out at the start; one word done at the start.
+pub fn read(text: &[u8], out: &mut [u32]) -> Piece
+    ensures { λ r. ⌜ answer (now (out .exit)) r ≡ callOf (now (text .entry)) startOf (now (out .entry)) ⌝ }
+{
+    read_more(text, out, vcd_body::start())
 }
