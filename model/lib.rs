@@ -8,3 +8,4 @@ pub mod replay;
 #[cfg(test)]
 mod tests;
 pub mod traffic;
+pub mod vcd;
