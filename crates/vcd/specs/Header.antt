@@ -39,12 +39,12 @@ unfoldable pub declares : List ℕ → Heading → Heading
 declares text g =
     pick (ltb (g .head .entries) 32)
     (heading (oneMore (g .head))
-      (g .variables
-        ++ (record {
-          code = take (g .head .variable .to - g .head .variable .from) (drop (g .head .variable .from) text);
-          pin = pick (taken (g .variables) (g .head .variable .pin)) 0 (g .head .variable .pin);
-        }
-        ∷ [])))
+    (g .variables
+    ++ (record {
+      code = take (g .head .variable .to - g .head .variable .from) (drop (g .head .variable .from) text);
+      pin = pick (taken (g .variables) (g .head .variable .pin)) 0 (g .head .variable .pin);
+    }
+    ∷ [])))
     (heading (stopsAt (g .head) 42 (g .head .mark)) (g .variables))
 
 unfoldable pub settled : List ℕ → Heading → Heading

@@ -133,7 +133,12 @@ fn read_header(text: &[u8], places: &mut [usize], pins: &mut [u8]) -> Head
         if p < text.len() {
             let e = vcd_text::word_end(text, p);
             let section = h.section;
-            h = settle(text, places, pins, vcd_header::step(section, &text[p..e], h, p, e));
+            h = settle(
+                text,
+                places,
+                pins,
+                vcd_header::step(section, &text[p..e], h, p, e),
+            );
             let close = h.close;
             if close.stop {
                 return h;
@@ -191,7 +196,15 @@ pub fn read_more(text: &[u8], out: &mut [u32], from: Cursor) -> Piece
         return refused(close);
     }
     let unit = h.unit;
-    vcd_body::read(text, &places, &pins, h.entries, unit.unit, out, body_from(from, close.place))
+    vcd_body::read(
+        text,
+        &places,
+        &pins,
+        h.entries,
+        unit.unit,
+        out,
+        body_from(from, close.place),
+    )
 }
 
 // The words of a file, as far as there are places for them.

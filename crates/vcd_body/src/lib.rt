@@ -74,7 +74,11 @@ fn later(due: u64, given: u64) -> u64
 fn written(s: State, put: Put) -> Turn
     ensures { λ r. ⌜ r ≡ turnBy s put ⌝ }
 {
-    if put.full { Turn::Full(put.count, put.done) } else { Turn::On(s, put.count) }
+    if put.full {
+        Turn::Full(put.count, put.done)
+    } else {
+        Turn::On(s, put.count)
+    }
 }
 
 // The words of a step, written from a place on.
@@ -84,7 +88,10 @@ fn perform(step: Step, scale: u64, p: usize, done: u64, out: &mut [u32], count: 
     match step {
         Step::Refused(number, place) => Turn::Stop(number, place),
         Step::Silent(s) => Turn::On(s, count),
-        Step::Timed(s, from) => written(s, vcd_room::clocks(out, count, later(s.clocks, from), done)),
+        Step::Timed(s, from) => written(
+            s,
+            vcd_room::clocks(out, count, later(s.clocks, from), done),
+        ),
         Step::Changed(s, list, high) => written(s, vcd_room::pins(out, count, list, high, done)),
     }
 }
@@ -199,7 +206,16 @@ fn scalar_code(
     ensures { λ r. ⌜ ((scale : ℕ) (s : State) (p : ℕ) → itemStep item (meant r) scale s p ≡ itemStep item (find (variables (now (text .entry)) (now (places .entry)) (now (pins .entry)) 0 entries) (drop 1 (now (t .entry)))) scale s p) ⌝ }
 {
     match item {
-        Item::Scalar(high) => found(text, places, pins, entries, singles, lists, guesses, &t[1..]),
+        Item::Scalar(high) => found(
+            text,
+            places,
+            pins,
+            entries,
+            singles,
+            lists,
+            guesses,
+            &t[1..],
+        ),
         Item::Value => 0,
         Item::Time(number) => 0,
         Item::Dump => 0,
@@ -227,7 +243,17 @@ fn plain(
     ensures { λ r. ⌜ meaning scale p r ≡ tokenAs (find (variables (now (text .entry)) (now (places .entry)) (now (pins .entry)) 0 entries)) scale Mode.Plain s (now (t .entry)) p ⌝ }
 {
     let item = vcd_items::item_of(t);
-    let code = scalar_code(item, text, places, pins, entries, singles, lists, guesses, t);
+    let code = scalar_code(
+        item,
+        text,
+        places,
+        pins,
+        entries,
+        singles,
+        lists,
+        guesses,
+        t,
+    );
     vcd_steps::step_item(item, code, scale, s, p)
 }
 
@@ -251,8 +277,25 @@ fn token(
     ensures { λ r. ⌜ meaning scale p r ≡ tokenAs (find (variables (now (text .entry)) (now (places .entry)) (now (pins .entry)) 0 entries)) scale mode s (now (t .entry)) p ⌝ }
 {
     match mode {
-        Mode::Plain => plain(text, places, pins, entries, singles, lists, guesses, scale, s, t, p),
-        Mode::Code => vcd_steps::step_code(found(text, places, pins, entries, singles, lists, guesses, t), scale, s, p),
+        Mode::Plain => plain(
+            text,
+            places,
+            pins,
+            entries,
+            singles,
+            lists,
+            guesses,
+            scale,
+            s,
+            t,
+            p,
+        ),
+        Mode::Code => vcd_steps::step_code(
+            found(text, places, pins, entries, singles, lists, guesses, t),
+            scale,
+            s,
+            p,
+        ),
         Mode::Comment => vcd_steps::step_comment(vcd_text::is_end(t), scale, s, p),
     }
 }
@@ -318,7 +361,20 @@ fn read_tokens(
         if p < text.len() {
             let e = vcd_text::word_end(text, p);
             let mode = s.mode;
-            let step = token(mode, text, places, pins, entries, singles, lists, guesses, scale, s, &text[p..e], p);
+            let step = token(
+                mode,
+                text,
+                places,
+                pins,
+                entries,
+                singles,
+                lists,
+                guesses,
+                scale,
+                s,
+                &text[p..e],
+                p,
+            );
             let turn = perform(step, scale, p, done, out, count);
             match turn {
                 Turn::Stop(number, place) => {
@@ -360,5 +416,16 @@ pub fn read(
     fill_lists(text, places, pins, entries, &mut lists);
     let mut guesses = [32usize; 256];
     fill_guesses(text, places, &mut guesses);
-    read_tokens(text, places, pins, entries, &singles, &lists, &guesses, scale, out, from)
+    read_tokens(
+        text,
+        places,
+        pins,
+        entries,
+        &singles,
+        &lists,
+        &guesses,
+        scale,
+        out,
+        from,
+    )
 }

@@ -120,7 +120,12 @@ fn tell_more(cursor: &mut [u64], told: &mut [u64], piece: Piece) -> u8
 // is as at the beginning. 15 where the cursor has not eight places or told not two; then nothing is touched.
 // Wrong answers: 15 for told of two places; the count of words told as the place.
 #[no_mangle]
-pub extern "C" fn nt6861_vcd_more(file: &[u8], words: &mut [u32], cursor: &mut [u64], told: &mut [u64]) -> u8
+pub extern "C" fn nt6861_vcd_more(
+    file: &[u8],
+    words: &mut [u32],
+    cursor: &mut [u64],
+    told: &mut [u64],
+) -> u8
     ensures { λ r. ⌜ continued r (now (words .exit)) (now (cursor .exit)) (now (told .exit)) ≡ moreOf (now (file .entry)) (now (words .entry)) (now (cursor .entry)) (now (told .entry)) ⌝ }
 {
     if cursor.len() == 8 {

@@ -46,8 +46,8 @@ least-fits a b = least-below a b (ltb a b) refl
 
 pub clipped : (text : List ℕ) (from to : ℕ)
     → take (pick (ltb to (length text)) to (length text) - pick (ltb from (pick (ltb to (length text)) to (length text))) from (pick (ltb to (length text)) to (length text)))
-        (drop (pick (ltb from (pick (ltb to (length text)) to (length text))) from (pick (ltb to (length text)) to (length text))) text)
-      ≡ take (to - from) (drop from text)
+    (drop (pick (ltb from (pick (ltb to (length text)) to (length text))) from (pick (ltb to (length text)) to (length text))) text)
+    ≡ take (to - from) (drop from text)
 clipped text from to =
     clip-from text from (pick (ltb to (length text)) to (length text)) (ltb from (pick (ltb to (length text)) to (length text))) refl (least-fits to (length text))
     ∙ clip-to text from to (ltb to (length text)) refl

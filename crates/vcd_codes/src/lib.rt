@@ -14,14 +14,22 @@ pub const UNDECLARED: u64 = 4294967296;
 fn code_from(places: &[usize], k: usize) -> usize
     ensures { λ r. ⌜ r ≡ getD (now (places .entry)) (k * 2) 0 ⌝ }
 {
-    if k < places.len() - places.len() / 2 { places[k * 2] } else { 0 }
+    if k < places.len() - places.len() / 2 {
+        places[k * 2]
+    } else {
+        0
+    }
 }
 
 // Where it ends.
 fn code_to(places: &[usize], k: usize) -> usize
     ensures { λ r. ⌜ r ≡ getD (now (places .entry)) (k * 2 + 1) 0 ⌝ }
 {
-    if k < places.len() / 2 { places[k * 2 + 1] } else { 0 }
+    if k < places.len() / 2 {
+        places[k * 2 + 1]
+    } else {
+        0
+    }
 }
 
 fn pin_at(pins: &[u8], k: usize) -> u8

@@ -504,7 +504,13 @@ fn letters_step(t: &[u8], h: Head) -> Head
     let unit = h.unit;
     let letters = letters_of(t);
     if 0 < letters {
-        return with_unit(h, Section::UnitEnd, unit.first, times_unit(unit.scale, letters), unit.unit);
+        return with_unit(
+            h,
+            Section::UnitEnd,
+            unit.first,
+            times_unit(unit.scale, letters),
+            unit.unit,
+        );
     }
     stop_at(h, 40, unit.first)
 }
@@ -560,7 +566,11 @@ fn size_as(size: Number, h: Head) -> Head
     match size {
         Number::Bad => faulty(h),
         Number::Big => with_variable(h, Section::VarCode, variable_read(0, 0, 0, 0, false, false)),
-        Number::Of(n) => with_variable(h, Section::VarCode, variable_read(0, 0, 0, 0, size_one(n, variable.scalar), false)),
+        Number::Of(n) => with_variable(
+            h,
+            Section::VarCode,
+            variable_read(0, 0, 0, 0, size_one(n, variable.scalar), false),
+        ),
     }
 }
 
@@ -569,7 +579,11 @@ fn code_step(t: &[u8], h: Head, p: usize, e: usize) -> Head
 {
     let variable = h.variable;
     if is_name(t) {
-        return with_variable(h, Section::VarName, variable_read(p, e, 0, 0, variable.scalar, false));
+        return with_variable(
+            h,
+            Section::VarName,
+            variable_read(p, e, 0, 0, variable.scalar, false),
+        );
     }
     faulty(h)
 }
@@ -588,7 +602,11 @@ fn name_step(t: &[u8], h: Head) -> Head
 {
     let v = h.variable;
     if is_name(t) {
-        return with_variable(h, Section::VarIndex, variable_read(v.from, v.to, pin_if(v.scalar, t), 0, v.scalar, false));
+        return with_variable(
+            h,
+            Section::VarIndex,
+            variable_read(v.from, v.to, pin_if(v.scalar, t), 0, v.scalar, false),
+        );
     }
     faulty(h)
 }
@@ -598,10 +616,18 @@ fn whole_step(h: Head) -> Head
 {
     let v = h.variable;
     if v.index == 0 {
-        return with_variable(h, Section::Outside, variable_read(v.from, v.to, v.pin, 0, v.scalar, true));
+        return with_variable(
+            h,
+            Section::Outside,
+            variable_read(v.from, v.to, v.pin, 0, v.scalar, true),
+        );
     }
     if v.index == 7 {
-        return with_variable(h, Section::Outside, variable_read(v.from, v.to, 0, 0, v.scalar, true));
+        return with_variable(
+            h,
+            Section::Outside,
+            variable_read(v.from, v.to, 0, 0, v.scalar, true),
+        );
     }
     faulty(h)
 }
@@ -617,7 +643,11 @@ fn index_step(t: &[u8], h: Head) -> Head
     if index == 9 {
         return faulty(h);
     }
-    with_variable(h, Section::VarIndex, variable_read(v.from, v.to, v.pin, index, v.scalar, false))
+    with_variable(
+        h,
+        Section::VarIndex,
+        variable_read(v.from, v.to, v.pin, index, v.scalar, false),
+    )
 }
 
 fn ending_step(t: &[u8], h: Head, e: usize) -> Head

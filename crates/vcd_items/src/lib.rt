@@ -220,14 +220,22 @@ fn vector(t: &[u8]) -> Item
     requires { ⌜ 0 < length (now t) ⌝ }
     ensures { λ r. ⌜ r ≡ itemAs Kind.Vector (now (t .entry)) ⌝ }
 {
-    if is_vector(&t[1..]) { Item::Value } else { Item::Bad }
+    if is_vector(&t[1..]) {
+        Item::Value
+    } else {
+        Item::Bad
+    }
 }
 
 fn real(t: &[u8]) -> Item
     requires { ⌜ 0 < length (now t) ⌝ }
     ensures { λ r. ⌜ r ≡ itemAs Kind.Real (now (t .entry)) ⌝ }
 {
-    if is_real(&t[1..]) { Item::Value } else { Item::Bad }
+    if is_real(&t[1..]) {
+        Item::Value
+    } else {
+        Item::Bad
+    }
 }
 
 fn time(t: &[u8]) -> Item

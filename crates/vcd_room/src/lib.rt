@@ -46,7 +46,11 @@ fn pin_word(high: bool, pin: u32) -> u32
     requires { ⌜ pin ≤ 255 ⌝ }
     ensures { λ r. ⌜ r ≡ pinWord high pin ⌝ }
 {
-    if high { 50331649 + pin * 256 } else { 50331648 + pin * 256 }
+    if high {
+        50331649 + pin * 256
+    } else {
+        50331648 + pin * 256
+    }
 }
 
 // A list of pins without the first ones.

@@ -118,12 +118,12 @@ words-drop (suc n) (x ∷ xs) = words-drop n xs
 module _ (p : ℕ) (ys : List Event) (n q : ℕ) where
   full-step : (e : Event) (xs : List Event) (room : List ℕ) (count d : ℕ) (b : Bool) → e .place ≡ p
       → (put (words xs) (set room count (e .word)) (count + 1) (d + 1) .told .full ≡ true
-        → give (xs ++ ys) n q (set room count (e .word)) (count + 1)
-        ≡ told (put (words xs) (set room count (e .word)) (count + 1) (d + 1) .room) (put (words xs) (set room count (e .word)) (count + 1) (d + 1) .told .count) 43 p)
+      → give (xs ++ ys) n q (set room count (e .word)) (count + 1)
+      ≡ told (put (words xs) (set room count (e .word)) (count + 1) (d + 1) .room) (put (words xs) (set room count (e .word)) (count + 1) (d + 1) .told .count) 43 p)
       → pick b (put (words xs) (set room count (e .word)) (count + 1) (d + 1)) (wrote room (record { count = count; done = d; full = true })) .told .full ≡ true
       → pick b (give (xs ++ ys) n q (set room count (e .word)) (count + 1)) (told room count 43 (e .place))
       ≡ told (pick b (put (words xs) (set room count (e .word)) (count + 1) (d + 1)) (wrote room (record { count = count; done = d; full = true })) .room)
-        (pick b (put (words xs) (set room count (e .word)) (count + 1) (d + 1)) (wrote room (record { count = count; done = d; full = true })) .told .count) 43 p
+      (pick b (put (words xs) (set room count (e .word)) (count + 1) (d + 1)) (wrote room (record { count = count; done = d; full = true })) .told .count) 43 p
   full-step e xs room count d true z ih h = ih h
   full-step e xs room count d false z ih h = rw z refl
 
@@ -138,12 +138,12 @@ module _ (p : ℕ) (ys : List Event) (n q : ℕ) where
 module _ (ys : List Event) (n q : ℕ) where
   on-step : (e : Event) (xs : List Event) (room : List ℕ) (count d : ℕ) (b : Bool)
       → (put (words xs) (set room count (e .word)) (count + 1) (d + 1) .told .full ≡ false
-        → give (xs ++ ys) n q (set room count (e .word)) (count + 1)
-        ≡ give ys n q (put (words xs) (set room count (e .word)) (count + 1) (d + 1) .room) (put (words xs) (set room count (e .word)) (count + 1) (d + 1) .told .count))
+      → give (xs ++ ys) n q (set room count (e .word)) (count + 1)
+      ≡ give ys n q (put (words xs) (set room count (e .word)) (count + 1) (d + 1) .room) (put (words xs) (set room count (e .word)) (count + 1) (d + 1) .told .count))
       → pick b (put (words xs) (set room count (e .word)) (count + 1) (d + 1)) (wrote room (record { count = count; done = d; full = true })) .told .full ≡ false
       → pick b (give (xs ++ ys) n q (set room count (e .word)) (count + 1)) (told room count 43 (e .place))
       ≡ give ys n q (pick b (put (words xs) (set room count (e .word)) (count + 1) (d + 1)) (wrote room (record { count = count; done = d; full = true })) .room)
-        (pick b (put (words xs) (set room count (e .word)) (count + 1) (d + 1)) (wrote room (record { count = count; done = d; full = true })) .told .count)
+      (pick b (put (words xs) (set room count (e .word)) (count + 1) (d + 1)) (wrote room (record { count = count; done = d; full = true })) .told .count)
   on-step e xs room count d true ih h = ih h
   on-step e xs room count d false ih h = absurd (let z : _≡_ {A = ℕ} 0 1 = cc in omega arith)
 
@@ -201,7 +201,7 @@ module _ (look : List ℕ → Found) (scale : ℕ) where
 
 call-by : (text : List ℕ) (g : Heading) (c : Cursor) (room : List ℕ) (b : Bool)
     → toldBy (pick b (answer room (closed 0 (g .head .close .number) (g .head .close .place)))
-        (pieces (find (g .variables)) (g .head .unit .unit) (c .state) (c .done) 0 room (bodyTokens text (goesOnAt g c))))
+    (pieces (find (g .variables)) (g .head .unit .unit) (c .state) (c .done) 0 room (bodyTokens text (goesOnAt g c))))
     ≡ given (pick b (stopped (g .head .close .number) (g .head .close .place)) (leftOf (find (g .variables)) (g .head .unit .unit) (c .done) (c .state) (bodyTokens text (goesOnAt g c)))) room
 unfolding give
 call-by text g c room true = refl

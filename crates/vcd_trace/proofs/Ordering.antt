@@ -94,11 +94,11 @@ module _ (scale : ℕ) where
         let grows : s .time * scale ≤ time * scale = mul-le-mul-right scale h in
         leads-on refl
         (λ rest r q a b f.
-          clocks-lead p (s .clocks) (clocksBy time scale - s .clocks) (time * scale) rest r q (omega (arith, grows, counted)) (omega (arith, counted)) (omega (arith, grows)) b f)
+        clocks-lead p (s .clocks) (clocksBy time scale - s .clocks) (time * scale) rest r q (omega (arith, grows, counted)) (omega (arith, counted)) (omega (arith, grows)) b f)
 
     advance-leads : (time : ℕ) (b : Bool) → ltb time (s .time) ≡ b
         → Leads s p (pick b (refuse 41 p)
-          (pick (ltb (time * scale) 18446744073709551616) (proceed (atTime s time (clocksBy time scale)) (clockEvents p (s .clocks) (clocksBy time scale - s .clocks))) (refuse 44 p)))
+        (pick (ltb (time * scale) 18446744073709551616) (proceed (atTime s time (clocksBy time scale)) (clockEvents p (s .clocks) (clocksBy time scale - s .clocks))) (refuse 44 p)))
     advance-leads time true e = leads-refuse
     advance-leads time false e =
         let h : s .time ≤ time = ltb-false time (s .time) e in
