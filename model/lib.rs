@@ -10,3 +10,4 @@ pub mod replay;
 #[cfg(test)]
 mod tests;
 pub mod traffic;
+pub mod vcd;

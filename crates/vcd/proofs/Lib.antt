@@ -1,0 +1,3 @@
+pub mod Declaring
+pub mod Entries
+pub mod Heading

@@ -1,0 +1,37 @@
+-- `vcd_header::keyword_of` meets its contract.
+-- Assumes nothing.
+use Rattle.vcd_header.specs.Words.{keywordOf}
+use borrow.Author.Needs.{needs}
+use Rattle.vcd_header.proofs.keyword_of.Statement.{statement}
+use Rattle.vcd_header.proofs.keyword_of.Tie as tie
+
+pub keyword-of-spec : {M : Type 1} → statement M
+unfolding keywordOf
+keyword-of-spec =
+    tie.close
+    (tie.spec
+    (λ c. search needs)
+    (λ c κs. search needs)
+    (λ c. simp (← (c .before .same .ensures), c .if1 .taken))
+    (λ c. search needs)
+    (λ c κs. search needs)
+    (λ c. simp (← (c .before .same2 .ensures), c .if2 .taken, ← (c .before .before .before .before .same .ensures), c .before .before .before .if1 .left))
+    (λ c. search needs)
+    (λ c κs. search needs)
+    (λ c. simp (← (c .before .same3 .ensures), c .if3 .taken, ← (c .before .before .before .before .same2 .ensures), c .before .before .before .if2 .left, ← (c .before .before .before .before .before .before .before .same .ensures), c .before .before .before .before .before .before .if1 .left))
+    (λ c. search needs)
+    (λ c κs. search needs)
+    (λ c. simp (← (c .before .same4 .ensures), c .if4 .taken, ← (c .before .before .before .before .same3 .ensures), c .before .before .before .if3 .left, ← (c .before .before .before .before .before .before .before .same2 .ensures), c .before .before .before .before .before .before .if2 .left, ← (c .before .before .before .before .before .before .before .before .before .before .same .ensures), c .before .before .before .before .before .before .before .before .before .if1 .left))
+    (λ c. search needs)
+    (λ c κs. search needs)
+    (λ c. simp (← (c .before .same5 .ensures), c .if5 .taken, ← (c .before .before .before .before .same4 .ensures), c .before .before .before .if4 .left, ← (c .before .before .before .before .before .before .before .same3 .ensures), c .before .before .before .before .before .before .if3 .left, ← (c .before .before .before .before .before .before .before .before .before .before .same2 .ensures), c .before .before .before .before .before .before .before .before .before .if2 .left, ← (c .before .before .before .before .before .before .before .before .before .before .before .before .before .same .ensures), c .before .before .before .before .before .before .before .before .before .before .before .before .if1 .left))
+    (λ c. search needs)
+    (λ c κs. search needs)
+    (λ c. simp (← (c .before .same6 .ensures), c .if6 .taken, ← (c .before .before .before .before .same5 .ensures), c .before .before .before .if5 .left, ← (c .before .before .before .before .before .before .before .same4 .ensures), c .before .before .before .before .before .before .if4 .left, ← (c .before .before .before .before .before .before .before .before .before .before .same3 .ensures), c .before .before .before .before .before .before .before .before .before .if3 .left, ← (c .before .before .before .before .before .before .before .before .before .before .before .before .before .same2 .ensures), c .before .before .before .before .before .before .before .before .before .before .before .before .if2 .left, ← (c .before .before .before .before .before .before .before .before .before .before .before .before .before .before .before .before .same .ensures), c .before .before .before .before .before .before .before .before .before .before .before .before .before .before .before .if1 .left))
+    (λ c. search needs)
+    (λ c κs. search needs)
+    (λ c. simp (← (c .before .same7 .ensures), c .if7 .taken, ← (c .before .before .before .before .same6 .ensures), c .before .before .before .if6 .left, ← (c .before .before .before .before .before .before .before .same5 .ensures), c .before .before .before .before .before .before .if5 .left, ← (c .before .before .before .before .before .before .before .before .before .before .same4 .ensures), c .before .before .before .before .before .before .before .before .before .if4 .left, ← (c .before .before .before .before .before .before .before .before .before .before .before .before .before .same3 .ensures), c .before .before .before .before .before .before .before .before .before .before .before .before .if3 .left, ← (c .before .before .before .before .before .before .before .before .before .before .before .before .before .before .before .before .same2 .ensures), c .before .before .before .before .before .before .before .before .before .before .before .before .before .before .before .if2 .left, ← (c .before .before .before .before .before .before .before .before .before .before .before .before .before .before .before .before .before .before .before .same .ensures), c .before .before .before .before .before .before .before .before .before .before .before .before .before .before .before .before .before .before .if1 .left))
+    (λ c. search needs)
+    (λ c κs. search needs)
+    (λ c. simp (← (c .before .same8 .ensures), c .if8 .taken, ← (c .before .before .before .before .same7 .ensures), c .before .before .before .if7 .left, ← (c .before .before .before .before .before .before .before .same6 .ensures), c .before .before .before .before .before .before .if6 .left, ← (c .before .before .before .before .before .before .before .before .before .before .same5 .ensures), c .before .before .before .before .before .before .before .before .before .if5 .left, ← (c .before .before .before .before .before .before .before .before .before .before .before .before .before .same4 .ensures), c .before .before .before .before .before .before .before .before .before .before .before .before .if4 .left, ← (c .before .before .before .before .before .before .before .before .before .before .before .before .before .before .before .before .same3 .ensures), c .before .before .before .before .before .before .before .before .before .before .before .before .before .before .before .if3 .left, ← (c .before .before .before .before .before .before .before .before .before .before .before .before .before .before .before .before .before .before .before .same2 .ensures), c .before .before .before .before .before .before .before .before .before .before .before .before .before .before .before .before .before .before .if2 .left, ← (c .before .before .before .before .before .before .before .before .before .before .before .before .before .before .before .before .before .before .before .before .before .before .same .ensures), c .before .before .before .before .before .before .before .before .before .before .before .before .before .before .before .before .before .before .before .before .before .if1 .left))
+    (λ c. simp (← (c .before .same8 .ensures), c .if8 .left, ← (c .before .before .before .before .same7 .ensures), c .before .before .before .if7 .left, ← (c .before .before .before .before .before .before .before .same6 .ensures), c .before .before .before .before .before .before .if6 .left, ← (c .before .before .before .before .before .before .before .before .before .before .same5 .ensures), c .before .before .before .before .before .before .before .before .before .if5 .left, ← (c .before .before .before .before .before .before .before .before .before .before .before .before .before .same4 .ensures), c .before .before .before .before .before .before .before .before .before .before .before .before .if4 .left, ← (c .before .before .before .before .before .before .before .before .before .before .before .before .before .before .before .before .same3 .ensures), c .before .before .before .before .before .before .before .before .before .before .before .before .before .before .before .if3 .left, ← (c .before .before .before .before .before .before .before .before .before .before .before .before .before .before .before .before .before .before .before .same2 .ensures), c .before .before .before .before .before .before .before .before .before .before .before .before .before .before .before .before .before .before .if2 .left, ← (c .before .before .before .before .before .before .before .before .before .before .before .before .before .before .before .before .before .before .before .before .before .before .same .ensures), c .before .before .before .before .before .before .before .before .before .before .before .before .before .before .before .before .before .before .before .before .before .if1 .left)))

@@ -1,0 +1,67 @@
+-- `vcd_header::sort_of` meets its contract.
+-- Assumes nothing.
+use Rattle.vcd_header.specs.Words.{sortOf}
+use borrow.Author.Needs.{needs}
+use Rattle.vcd_header.proofs.sort_of.Statement.{statement}
+use Rattle.vcd_header.proofs.sort_of.Tie as tie
+
+pub sort-of-spec : {M : Type 1} → statement M
+unfolding sortOf
+sort-of-spec =
+    tie.close
+    (tie.spec
+    (λ c. search needs)
+    (λ c κs. search needs)
+    (λ c. simp (← (c .before .same .ensures), c .if1 .taken))
+    (λ c. search needs)
+    (λ c κs. search needs)
+    (λ c. simp (← (c .before .same2 .ensures), c .if2 .taken, ← (c .before .before .before .before .same .ensures), c .before .before .before .if1 .left))
+    (λ c. search needs)
+    (λ c κs. search needs)
+    (λ c. simp (← (c .before .same3 .ensures), c .if3 .taken, ← (c .before .before .before .before .same2 .ensures), c .before .before .before .if2 .left, ← (c .before .before .before .before .before .before .before .same .ensures), c .before .before .before .before .before .before .if1 .left))
+    (λ c. search needs)
+    (λ c κs. search needs)
+    (λ c. simp (← (c .before .same4 .ensures), c .if4 .taken, ← (c .before .before .before .before .same3 .ensures), c .before .before .before .if3 .left, ← (c .before .before .before .before .before .before .before .same2 .ensures), c .before .before .before .before .before .before .if2 .left, ← (c .before .before .before .before .before .before .before .before .before .before .same .ensures), c .before .before .before .before .before .before .before .before .before .if1 .left))
+    (λ c. search needs)
+    (λ c κs. search needs)
+    (λ c. simp (← (c .before .same5 .ensures), c .if5 .taken, ← (c .before .before .before .before .same4 .ensures), c .before .before .before .if4 .left, ← (c .before .before .before .before .before .before .before .same3 .ensures), c .before .before .before .before .before .before .if3 .left, ← (c .before .before .before .before .before .before .before .before .before .before .same2 .ensures), c .before .before .before .before .before .before .before .before .before .if2 .left, ← (c .before .before .before .before .before .before .before .before .before .before .before .before .before .same .ensures), c .before .before .before .before .before .before .before .before .before .before .before .before .if1 .left))
+    (λ c. search needs)
+    (λ c κs. search needs)
+    (λ c. simp (← (c .before .same6 .ensures), c .if6 .taken, ← (c .before .before .before .before .same5 .ensures), c .before .before .before .if5 .left, ← (c .before .before .before .before .before .before .before .same4 .ensures), c .before .before .before .before .before .before .if4 .left, ← (c .before .before .before .before .before .before .before .before .before .before .same3 .ensures), c .before .before .before .before .before .before .before .before .before .if3 .left, ← (c .before .before .before .before .before .before .before .before .before .before .before .before .before .same2 .ensures), c .before .before .before .before .before .before .before .before .before .before .before .before .if2 .left, ← (c .before .before .before .before .before .before .before .before .before .before .before .before .before .before .before .before .same .ensures), c .before .before .before .before .before .before .before .before .before .before .before .before .before .before .before .if1 .left))
+    (λ c. search needs)
+    (λ c κs. search needs)
+    (λ c. simp (← (c .before .same7 .ensures), c .if7 .taken, ← (c .before .before .before .before .same6 .ensures), c .before .before .before .if6 .left, ← (c .before .before .before .before .before .before .before .same5 .ensures), c .before .before .before .before .before .before .if5 .left, ← (c .before .before .before .before .before .before .before .before .before .before .same4 .ensures), c .before .before .before .before .before .before .before .before .before .if4 .left, ← (c .before .before .before .before .before .before .before .before .before .before .before .before .before .same3 .ensures), c .before .before .before .before .before .before .before .before .before .before .before .before .if3 .left, ← (c .before .before .before .before .before .before .before .before .before .before .before .before .before .before .before .before .same2 .ensures), c .before .before .before .before .before .before .before .before .before .before .before .before .before .before .before .if2 .left, ← (c .before .before .before .before .before .before .before .before .before .before .before .before .before .before .before .before .before .before .before .same .ensures), c .before .before .before .before .before .before .before .before .before .before .before .before .before .before .before .before .before .before .if1 .left))
+    (λ c. search needs)
+    (λ c κs. search needs)
+    (λ c. simp (← (c .before .same8 .ensures), c .if8 .taken, ← (c .before .before .before .before .same7 .ensures), c .before .before .before .if7 .left, ← (c .before .before .before .before .before .before .before .same6 .ensures), c .before .before .before .before .before .before .if6 .left, ← (c .before .before .before .before .before .before .before .before .before .before .same5 .ensures), c .before .before .before .before .before .before .before .before .before .if5 .left, ← (c .before .before .before .before .before .before .before .before .before .before .before .before .before .same4 .ensures), c .before .before .before .before .before .before .before .before .before .before .before .before .if4 .left, ← (c .before .before .before .before .before .before .before .before .before .before .before .before .before .before .before .before .same3 .ensures), c .before .before .before .before .before .before .before .before .before .before .before .before .before .before .before .if3 .left, ← (c .before .before .before .before .before .before .before .before .before .before .before .before .before .before .before .before .before .before .before .same2 .ensures), c .before .before .before .before .before .before .before .before .before .before .before .before .before .before .before .before .before .before .if2 .left, ← (c .before .before .before .before .before .before .before .before .before .before .before .before .before .before .before .before .before .before .before .before .before .before .same .ensures), c .before .before .before .before .before .before .before .before .before .before .before .before .before .before .before .before .before .before .before .before .before .if1 .left))
+    (λ c. search needs)
+    (λ c κs. search needs)
+    (λ c. simp (← (c .before .same9 .ensures), c .if9 .taken, ← (c .before .before .before .before .same8 .ensures), c .before .before .before .if8 .left, ← (c .before .before .before .before .before .before .before .same7 .ensures), c .before .before .before .before .before .before .if7 .left, ← (c .before .before .before .before .before .before .before .before .before .before .same6 .ensures), c .before .before .before .before .before .before .before .before .before .if6 .left, ← (c .before .before .before .before .before .before .before .before .before .before .before .before .before .same5 .ensures), c .before .before .before .before .before .before .before .before .before .before .before .before .if5 .left, ← (c .before .before .before .before .before .before .before .before .before .before .before .before .before .before .before .before .same4 .ensures), c .before .before .before .before .before .before .before .before .before .before .before .before .before .before .before .if4 .left, ← (c .before .before .before .before .before .before .before .before .before .before .before .before .before .before .before .before .before .before .before .same3 .ensures), c .before .before .before .before .before .before .before .before .before .before .before .before .before .before .before .before .before .before .if3 .left, ← (c .before .before .before .before .before .before .before .before .before .before .before .before .before .before .before .before .before .before .before .before .before .before .same2 .ensures), c .before .before .before .before .before .before .before .before .before .before .before .before .before .before .before .before .before .before .before .before .before .if2 .left, ← (c .before .before .before .before .before .before .before .before .before .before .before .before .before .before .before .before .before .before .before .before .before .before .before .before .before .same .ensures), c .before .before .before .before .before .before .before .before .before .before .before .before .before .before .before .before .before .before .before .before .before .before .before .before .if1 .left))
+    (λ c. search needs)
+    (λ c κs. search needs)
+    (λ c. simp (← (c .before .same10 .ensures), c .if10 .taken, ← (c .before .before .before .before .same9 .ensures), c .before .before .before .if9 .left, ← (c .before .before .before .before .before .before .before .same8 .ensures), c .before .before .before .before .before .before .if8 .left, ← (c .before .before .before .before .before .before .before .before .before .before .same7 .ensures), c .before .before .before .before .before .before .before .before .before .if7 .left, ← (c .before .before .before .before .before .before .before .before .before .before .before .before .before .same6 .ensures), c .before .before .before .before .before .before .before .before .before .before .before .before .if6 .left, ← (c .before .before .before .before .before .before .before .before .before .before .before .before .before .before .before .before .same5 .ensures), c .before .before .before .before .before .before .before .before .before .before .before .before .before .before .before .if5 .left, ← (c .before .before .before .before .before .before .before .before .before .before .before .before .before .before .before .before .before .before .before .same4 .ensures), c .before .before .before .before .before .before .before .before .before .before .before .before .before .before .before .before .before .before .if4 .left, ← (c .before .before .before .before .before .before .before .before .before .before .before .before .before .before .before .before .before .before .before .before .before .before .same3 .ensures), c .before .before .before .before .before .before .before .before .before .before .before .before .before .before .before .before .before .before .before .before .before .if3 .left, ← (c .before .before .before .before .before .before .before .before .before .before .before .before .before .before .before .before .before .before .before .before .before .before .before .before .before .same2 .ensures), c .before .before .before .before .before .before .before .before .before .before .before .before .before .before .before .before .before .before .before .before .before .before .before .before .if2 .left, ← (c .before .before .before .before .before .before .before .before .before .before .before .before .before .before .before .before .before .before .before .before .before .before .before .before .before .before .before .before .same .ensures), c .before .before .before .before .before .before .before .before .before .before .before .before .before .before .before .before .before .before .before .before .before .before .before .before .before .before .before .if1 .left))
+    (λ c. search needs)
+    (λ c κs. search needs)
+    (λ c. simp (← (c .before .same11 .ensures), c .if11 .taken, ← (c .before .before .before .before .same10 .ensures), c .before .before .before .if10 .left, ← (c .before .before .before .before .before .before .before .same9 .ensures), c .before .before .before .before .before .before .if9 .left, ← (c .before .before .before .before .before .before .before .before .before .before .same8 .ensures), c .before .before .before .before .before .before .before .before .before .if8 .left, ← (c .before .before .before .before .before .before .before .before .before .before .before .before .before .same7 .ensures), c .before .before .before .before .before .before .before .before .before .before .before .before .if7 .left, ← (c .before .before .before .before .before .before .before .before .before .before .before .before .before .before .before .before .same6 .ensures), c .before .before .before .before .before .before .before .before .before .before .before .before .before .before .before .if6 .left, ← (c .before .before .before .before .before .before .before .before .before .before .before .before .before .before .before .before .before .before .before .same5 .ensures), c .before .before .before .before .before .before .before .before .before .before .before .before .before .before .before .before .before .before .if5 .left, ← (c .before .before .before .before .before .before .before .before .before .before .before .before .before .before .before .before .before .before .before .before .before .before .same4 .ensures), c .before .before .before .before .before .before .before .before .before .before .before .before .before .before .before .before .before .before .before .before .before .if4 .left, ← (c .before .before .before .before .before .before .before .before .before .before .before .before .before .before .before .before .before .before .before .before .before .before .before .before .before .same3 .ensures), c .before .before .before .before .before .before .before .before .before .before .before .before .before .before .before .before .before .before .before .before .before .before .before .before .if3 .left, ← (c .before .before .before .before .before .before .before .before .before .before .before .before .before .before .before .before .before .before .before .before .before .before .before .before .before .before .before .before .same2 .ensures), c .before .before .before .before .before .before .before .before .before .before .before .before .before .before .before .before .before .before .before .before .before .before .before .before .before .before .before .if2 .left, ← (c .before .before .before .before .before .before .before .before .before .before .before .before .before .before .before .before .before .before .before .before .before .before .before .before .before .before .before .before .before .before .before .same .ensures), c .before .before .before .before .before .before .before .before .before .before .before .before .before .before .before .before .before .before .before .before .before .before .before .before .before .before .before .before .before .before .if1 .left))
+    (λ c. search needs)
+    (λ c κs. search needs)
+    (λ c. simp (← (c .before .same12 .ensures), c .if12 .taken, ← (c .before .before .before .before .same11 .ensures), c .before .before .before .if11 .left, ← (c .before .before .before .before .before .before .before .same10 .ensures), c .before .before .before .before .before .before .if10 .left, ← (c .before .before .before .before .before .before .before .before .before .before .same9 .ensures), c .before .before .before .before .before .before .before .before .before .if9 .left, ← (c .before .before .before .before .before .before .before .before .before .before .before .before .before .same8 .ensures), c .before .before .before .before .before .before .before .before .before .before .before .before .if8 .left, ← (c .before .before .before .before .before .before .before .before .before .before .before .before .before .before .before .before .same7 .ensures), c .before .before .before .before .before .before .before .before .before .before .before .before .before .before .before .if7 .left, ← (c .before .before .before .before .before .before .before .before .before .before .before .before .before .before .before .before .before .before .before .same6 .ensures), c .before .before .before .before .before .before .before .before .before .before .before .before .before .before .before .before .before .before .if6 .left, ← (c .before .before .before .before .before .before .before .before .before .before .before .before .before .before .before .before .before .before .before .before .before .before .same5 .ensures), c .before .before .before .before .before .before .before .before .before .before .before .before .before .before .before .before .before .before .before .before .before .if5 .left, ← (c .before .before .before .before .before .before .before .before .before .before .before .before .before .before .before .before .before .before .before .before .before .before .before .before .before .same4 .ensures), c .before .before .before .before .before .before .before .before .before .before .before .before .before .before .before .before .before .before .before .before .before .before .before .before .if4 .left, ← (c .before .before .before .before .before .before .before .before .before .before .before .before .before .before .before .before .before .before .before .before .before .before .before .before .before .before .before .before .same3 .ensures), c .before .before .before .before .before .before .before .before .before .before .before .before .before .before .before .before .before .before .before .before .before .before .before .before .before .before .before .if3 .left, ← (c .before .before .before .before .before .before .before .before .before .before .before .before .before .before .before .before .before .before .before .before .before .before .before .before .before .before .before .before .before .before .before .same2 .ensures), c .before .before .before .before .before .before .before .before .before .before .before .before .before .before .before .before .before .before .before .before .before .before .before .before .before .before .before .before .before .before .if2 .left, ← (c .before .before .before .before .before .before .before .before .before .before .before .before .before .before .before .before .before .before .before .before .before .before .before .before .before .before .before .before .before .before .before .before .before .before .same .ensures), c .before .before .before .before .before .before .before .before .before .before .before .before .before .before .before .before .before .before .before .before .before .before .before .before .before .before .before .before .before .before .before .before .before .if1 .left))
+    (λ c. search needs)
+    (λ c κs. search needs)
+    (λ c. simp (← (c .before .same13 .ensures), c .if13 .taken, ← (c .before .before .before .before .same12 .ensures), c .before .before .before .if12 .left, ← (c .before .before .before .before .before .before .before .same11 .ensures), c .before .before .before .before .before .before .if11 .left, ← (c .before .before .before .before .before .before .before .before .before .before .same10 .ensures), c .before .before .before .before .before .before .before .before .before .if10 .left, ← (c .before .before .before .before .before .before .before .before .before .before .before .before .before .same9 .ensures), c .before .before .before .before .before .before .before .before .before .before .before .before .if9 .left, ← (c .before .before .before .before .before .before .before .before .before .before .before .before .before .before .before .before .same8 .ensures), c .before .before .before .before .before .before .before .before .before .before .before .before .before .before .before .if8 .left, ← (c .before .before .before .before .before .before .before .before .before .before .before .before .before .before .before .before .before .before .before .same7 .ensures), c .before .before .before .before .before .before .before .before .before .before .before .before .before .before .before .before .before .before .if7 .left, ← (c .before .before .before .before .before .before .before .before .before .before .before .before .before .before .before .before .before .before .before .before .before .before .same6 .ensures), c .before .before .before .before .before .before .before .before .before .before .before .before .before .before .before .before .before .before .before .before .before .if6 .left, ← (c .before .before .before .before .before .before .before .before .before .before .before .before .before .before .before .before .before .before .before .before .before .before .before .before .before .same5 .ensures), c .before .before .before .before .before .before .before .before .before .before .before .before .before .before .before .before .before .before .before .before .before .before .before .before .if5 .left, ← (c .before .before .before .before .before .before .before .before .before .before .before .before .before .before .before .before .before .before .before .before .before .before .before .before .before .before .before .before .same4 .ensures), c .before .before .before .before .before .before .before .before .before .before .before .before .before .before .before .before .before .before .before .before .before .before .before .before .before .before .before .if4 .left, ← (c .before .before .before .before .before .before .before .before .before .before .before .before .before .before .before .before .before .before .before .before .before .before .before .before .before .before .before .before .before .before .before .same3 .ensures), c .before .before .before .before .before .before .before .before .before .before .before .before .before .before .before .before .before .before .before .before .before .before .before .before .before .before .before .before .before .before .if3 .left, ← (c .before .before .before .before .before .before .before .before .before .before .before .before .before .before .before .before .before .before .before .before .before .before .before .before .before .before .before .before .before .before .before .before .before .before .same2 .ensures), c .before .before .before .before .before .before .before .before .before .before .before .before .before .before .before .before .before .before .before .before .before .before .before .before .before .before .before .before .before .before .before .before .before .if2 .left, ← (c .before .before .before .before .before .before .before .before .before .before .before .before .before .before .before .before .before .before .before .before .before .before .before .before .before .before .before .before .before .before .before .before .before .before .before .before .before .same .ensures), c .before .before .before .before .before .before .before .before .before .before .before .before .before .before .before .before .before .before .before .before .before .before .before .before .before .before .before .before .before .before .before .before .before .before .before .before .if1 .left))
+    (λ c. search needs)
+    (λ c κs. search needs)
+    (λ c. simp (← (c .before .same14 .ensures), c .if14 .taken, ← (c .before .before .before .before .same13 .ensures), c .before .before .before .if13 .left, ← (c .before .before .before .before .before .before .before .same12 .ensures), c .before .before .before .before .before .before .if12 .left, ← (c .before .before .before .before .before .before .before .before .before .before .same11 .ensures), c .before .before .before .before .before .before .before .before .before .if11 .left, ← (c .before .before .before .before .before .before .before .before .before .before .before .before .before .same10 .ensures), c .before .before .before .before .before .before .before .before .before .before .before .before .if10 .left, ← (c .before .before .before .before .before .before .before .before .before .before .before .before .before .before .before .before .same9 .ensures), c .before .before .before .before .before .before .before .before .before .before .before .before .before .before .before .if9 .left, ← (c .before .before .before .before .before .before .before .before .before .before .before .before .before .before .before .before .before .before .before .same8 .ensures), c .before .before .before .before .before .before .before .before .before .before .before .before .before .before .before .before .before .before .if8 .left, ← (c .before .before .before .before .before .before .before .before .before .before .before .before .before .before .before .before .before .before .before .before .before .before .same7 .ensures), c .before .before .before .before .before .before .before .before .before .before .before .before .before .before .before .before .before .before .before .before .before .if7 .left, ← (c .before .before .before .before .before .before .before .before .before .before .before .before .before .before .before .before .before .before .before .before .before .before .before .before .before .same6 .ensures), c .before .before .before .before .before .before .before .before .before .before .before .before .before .before .before .before .before .before .before .before .before .before .before .before .if6 .left, ← (c .before .before .before .before .before .before .before .before .before .before .before .before .before .before .before .before .before .before .before .before .before .before .before .before .before .before .before .before .same5 .ensures), c .before .before .before .before .before .before .before .before .before .before .before .before .before .before .before .before .before .before .before .before .before .before .before .before .before .before .before .if5 .left, ← (c .before .before .before .before .before .before .before .before .before .before .before .before .before .before .before .before .before .before .before .before .before .before .before .before .before .before .before .before .before .before .before .same4 .ensures), c .before .before .before .before .before .before .before .before .before .before .before .before .before .before .before .before .before .before .before .before .before .before .before .before .before .before .before .before .before .before .if4 .left, ← (c .before .before .before .before .before .before .before .before .before .before .before .before .before .before .before .before .before .before .before .before .before .before .before .before .before .before .before .before .before .before .before .before .before .before .same3 .ensures), c .before .before .before .before .before .before .before .before .before .before .before .before .before .before .before .before .before .before .before .before .before .before .before .before .before .before .before .before .before .before .before .before .before .if3 .left, ← (c .before .before .before .before .before .before .before .before .before .before .before .before .before .before .before .before .before .before .before .before .before .before .before .before .before .before .before .before .before .before .before .before .before .before .before .before .before .same2 .ensures), c .before .before .before .before .before .before .before .before .before .before .before .before .before .before .before .before .before .before .before .before .before .before .before .before .before .before .before .before .before .before .before .before .before .before .before .before .if2 .left, ← (c .before .before .before .before .before .before .before .before .before .before .before .before .before .before .before .before .before .before .before .before .before .before .before .before .before .before .before .before .before .before .before .before .before .before .before .before .before .before .before .before .same .ensures), c .before .before .before .before .before .before .before .before .before .before .before .before .before .before .before .before .before .before .before .before .before .before .before .before .before .before .before .before .before .before .before .before .before .before .before .before .before .before .before .if1 .left))
+    (λ c. search needs)
+    (λ c κs. search needs)
+    (λ c. simp (← (c .before .same15 .ensures), c .if15 .taken, ← (c .before .before .before .before .same14 .ensures), c .before .before .before .if14 .left, ← (c .before .before .before .before .before .before .before .same13 .ensures), c .before .before .before .before .before .before .if13 .left, ← (c .before .before .before .before .before .before .before .before .before .before .same12 .ensures), c .before .before .before .before .before .before .before .before .before .if12 .left, ← (c .before .before .before .before .before .before .before .before .before .before .before .before .before .same11 .ensures), c .before .before .before .before .before .before .before .before .before .before .before .before .if11 .left, ← (c .before .before .before .before .before .before .before .before .before .before .before .before .before .before .before .before .same10 .ensures), c .before .before .before .before .before .before .before .before .before .before .before .before .before .before .before .if10 .left, ← (c .before .before .before .before .before .before .before .before .before .before .before .before .before .before .before .before .before .before .before .same9 .ensures), c .before .before .before .before .before .before .before .before .before .before .before .before .before .before .before .before .before .before .if9 .left, ← (c .before .before .before .before .before .before .before .before .before .before .before .before .before .before .before .before .before .before .before .before .before .before .same8 .ensures), c .before .before .before .before .before .before .before .before .before .before .before .before .before .before .before .before .before .before .before .before .before .if8 .left, ← (c .before .before .before .before .before .before .before .before .before .before .before .before .before .before .before .before .before .before .before .before .before .before .before .before .before .same7 .ensures), c .before .before .before .before .before .before .before .before .before .before .before .before .before .before .before .before .before .before .before .before .before .before .before .before .if7 .left, ← (c .before .before .before .before .before .before .before .before .before .before .before .before .before .before .before .before .before .before .before .before .before .before .before .before .before .before .before .before .same6 .ensures), c .before .before .before .before .before .before .before .before .before .before .before .before .before .before .before .before .before .before .before .before .before .before .before .before .before .before .before .if6 .left, ← (c .before .before .before .before .before .before .before .before .before .before .before .before .before .before .before .before .before .before .before .before .before .before .before .before .before .before .before .before .before .before .before .same5 .ensures), c .before .before .before .before .before .before .before .before .before .before .before .before .before .before .before .before .before .before .before .before .before .before .before .before .before .before .before .before .before .before .if5 .left, ← (c .before .before .before .before .before .before .before .before .before .before .before .before .before .before .before .before .before .before .before .before .before .before .before .before .before .before .before .before .before .before .before .before .before .before .same4 .ensures), c .before .before .before .before .before .before .before .before .before .before .before .before .before .before .before .before .before .before .before .before .before .before .before .before .before .before .before .before .before .before .before .before .before .if4 .left, ← (c .before .before .before .before .before .before .before .before .before .before .before .before .before .before .before .before .before .before .before .before .before .before .before .before .before .before .before .before .before .before .before .before .before .before .before .before .before .same3 .ensures), c .before .before .before .before .before .before .before .before .before .before .before .before .before .before .before .before .before .before .before .before .before .before .before .before .before .before .before .before .before .before .before .before .before .before .before .before .if3 .left, ← (c .before .before .before .before .before .before .before .before .before .before .before .before .before .before .before .before .before .before .before .before .before .before .before .before .before .before .before .before .before .before .before .before .before .before .before .before .before .before .before .before .same2 .ensures), c .before .before .before .before .before .before .before .before .before .before .before .before .before .before .before .before .before .before .before .before .before .before .before .before .before .before .before .before .before .before .before .before .before .before .before .before .before .before .before .if2 .left, ← (c .before .before .before .before .before .before .before .before .before .before .before .before .before .before .before .before .before .before .before .before .before .before .before .before .before .before .before .before .before .before .before .before .before .before .before .before .before .before .before .before .before .before .before .same .ensures), c .before .before .before .before .before .before .before .before .before .before .before .before .before .before .before .before .before .before .before .before .before .before .before .before .before .before .before .before .before .before .before .before .before .before .before .before .before .before .before .before .before .before .if1 .left))
+    (λ c. search needs)
+    (λ c κs. search needs)
+    (λ c. simp (← (c .before .same16 .ensures), c .if16 .taken, ← (c .before .before .before .before .same15 .ensures), c .before .before .before .if15 .left, ← (c .before .before .before .before .before .before .before .same14 .ensures), c .before .before .before .before .before .before .if14 .left, ← (c .before .before .before .before .before .before .before .before .before .before .same13 .ensures), c .before .before .before .before .before .before .before .before .before .if13 .left, ← (c .before .before .before .before .before .before .before .before .before .before .before .before .before .same12 .ensures), c .before .before .before .before .before .before .before .before .before .before .before .before .if12 .left, ← (c .before .before .before .before .before .before .before .before .before .before .before .before .before .before .before .before .same11 .ensures), c .before .before .before .before .before .before .before .before .before .before .before .before .before .before .before .if11 .left, ← (c .before .before .before .before .before .before .before .before .before .before .before .before .before .before .before .before .before .before .before .same10 .ensures), c .before .before .before .before .before .before .before .before .before .before .before .before .before .before .before .before .before .before .if10 .left, ← (c .before .before .before .before .before .before .before .before .before .before .before .before .before .before .before .before .before .before .before .before .before .before .same9 .ensures), c .before .before .before .before .before .before .before .before .before .before .before .before .before .before .before .before .before .before .before .before .before .if9 .left, ← (c .before .before .before .before .before .before .before .before .before .before .before .before .before .before .before .before .before .before .before .before .before .before .before .before .before .same8 .ensures), c .before .before .before .before .before .before .before .before .before .before .before .before .before .before .before .before .before .before .before .before .before .before .before .before .if8 .left, ← (c .before .before .before .before .before .before .before .before .before .before .before .before .before .before .before .before .before .before .before .before .before .before .before .before .before .before .before .before .same7 .ensures), c .before .before .before .before .before .before .before .before .before .before .before .before .before .before .before .before .before .before .before .before .before .before .before .before .before .before .before .if7 .left, ← (c .before .before .before .before .before .before .before .before .before .before .before .before .before .before .before .before .before .before .before .before .before .before .before .before .before .before .before .before .before .before .before .same6 .ensures), c .before .before .before .before .before .before .before .before .before .before .before .before .before .before .before .before .before .before .before .before .before .before .before .before .before .before .before .before .before .before .if6 .left, ← (c .before .before .before .before .before .before .before .before .before .before .before .before .before .before .before .before .before .before .before .before .before .before .before .before .before .before .before .before .before .before .before .before .before .before .same5 .ensures), c .before .before .before .before .before .before .before .before .before .before .before .before .before .before .before .before .before .before .before .before .before .before .before .before .before .before .before .before .before .before .before .before .before .if5 .left, ← (c .before .before .before .before .before .before .before .before .before .before .before .before .before .before .before .before .before .before .before .before .before .before .before .before .before .before .before .before .before .before .before .before .before .before .before .before .before .same4 .ensures), c .before .before .before .before .before .before .before .before .before .before .before .before .before .before .before .before .before .before .before .before .before .before .before .before .before .before .before .before .before .before .before .before .before .before .before .before .if4 .left, ← (c .before .before .before .before .before .before .before .before .before .before .before .before .before .before .before .before .before .before .before .before .before .before .before .before .before .before .before .before .before .before .before .before .before .before .before .before .before .before .before .before .same3 .ensures), c .before .before .before .before .before .before .before .before .before .before .before .before .before .before .before .before .before .before .before .before .before .before .before .before .before .before .before .before .before .before .before .before .before .before .before .before .before .before .before .if3 .left, ← (c .before .before .before .before .before .before .before .before .before .before .before .before .before .before .before .before .before .before .before .before .before .before .before .before .before .before .before .before .before .before .before .before .before .before .before .before .before .before .before .before .before .before .before .same2 .ensures), c .before .before .before .before .before .before .before .before .before .before .before .before .before .before .before .before .before .before .before .before .before .before .before .before .before .before .before .before .before .before .before .before .before .before .before .before .before .before .before .before .before .before .if2 .left, ← (c .before .before .before .before .before .before .before .before .before .before .before .before .before .before .before .before .before .before .before .before .before .before .before .before .before .before .before .before .before .before .before .before .before .before .before .before .before .before .before .before .before .before .before .before .before .before .same .ensures), c .before .before .before .before .before .before .before .before .before .before .before .before .before .before .before .before .before .before .before .before .before .before .before .before .before .before .before .before .before .before .before .before .before .before .before .before .before .before .before .before .before .before .before .before .before .if1 .left))
+    (λ c. search needs)
+    (λ c κs. search needs)
+    (λ c. simp (← (c .before .same17 .ensures), c .if17 .taken, ← (c .before .before .before .before .same16 .ensures), c .before .before .before .if16 .left, ← (c .before .before .before .before .before .before .before .same15 .ensures), c .before .before .before .before .before .before .if15 .left, ← (c .before .before .before .before .before .before .before .before .before .before .same14 .ensures), c .before .before .before .before .before .before .before .before .before .if14 .left, ← (c .before .before .before .before .before .before .before .before .before .before .before .before .before .same13 .ensures), c .before .before .before .before .before .before .before .before .before .before .before .before .if13 .left, ← (c .before .before .before .before .before .before .before .before .before .before .before .before .before .before .before .before .same12 .ensures), c .before .before .before .before .before .before .before .before .before .before .before .before .before .before .before .if12 .left, ← (c .before .before .before .before .before .before .before .before .before .before .before .before .before .before .before .before .before .before .before .same11 .ensures), c .before .before .before .before .before .before .before .before .before .before .before .before .before .before .before .before .before .before .if11 .left, ← (c .before .before .before .before .before .before .before .before .before .before .before .before .before .before .before .before .before .before .before .before .before .before .same10 .ensures), c .before .before .before .before .before .before .before .before .before .before .before .before .before .before .before .before .before .before .before .before .before .if10 .left, ← (c .before .before .before .before .before .before .before .before .before .before .before .before .before .before .before .before .before .before .before .before .before .before .before .before .before .same9 .ensures), c .before .before .before .before .before .before .before .before .before .before .before .before .before .before .before .before .before .before .before .before .before .before .before .before .if9 .left, ← (c .before .before .before .before .before .before .before .before .before .before .before .before .before .before .before .before .before .before .before .before .before .before .before .before .before .before .before .before .same8 .ensures), c .before .before .before .before .before .before .before .before .before .before .before .before .before .before .before .before .before .before .before .before .before .before .before .before .before .before .before .if8 .left, ← (c .before .before .before .before .before .before .before .before .before .before .before .before .before .before .before .before .before .before .before .before .before .before .before .before .before .before .before .before .before .before .before .same7 .ensures), c .before .before .before .before .before .before .before .before .before .before .before .before .before .before .before .before .before .before .before .before .before .before .before .before .before .before .before .before .before .before .if7 .left, ← (c .before .before .before .before .before .before .before .before .before .before .before .before .before .before .before .before .before .before .before .before .before .before .before .before .before .before .before .before .before .before .before .before .before .before .same6 .ensures), c .before .before .before .before .before .before .before .before .before .before .before .before .before .before .before .before .before .before .before .before .before .before .before .before .before .before .before .before .before .before .before .before .before .if6 .left, ← (c .before .before .before .before .before .before .before .before .before .before .before .before .before .before .before .before .before .before .before .before .before .before .before .before .before .before .before .before .before .before .before .before .before .before .before .before .before .same5 .ensures), c .before .before .before .before .before .before .before .before .before .before .before .before .before .before .before .before .before .before .before .before .before .before .before .before .before .before .before .before .before .before .before .before .before .before .before .before .if5 .left, ← (c .before .before .before .before .before .before .before .before .before .before .before .before .before .before .before .before .before .before .before .before .before .before .before .before .before .before .before .before .before .before .before .before .before .before .before .before .before .before .before .before .same4 .ensures), c .before .before .before .before .before .before .before .before .before .before .before .before .before .before .before .before .before .before .before .before .before .before .before .before .before .before .before .before .before .before .before .before .before .before .before .before .before .before .before .if4 .left, ← (c .before .before .before .before .before .before .before .before .before .before .before .before .before .before .before .before .before .before .before .before .before .before .before .before .before .before .before .before .before .before .before .before .before .before .before .before .before .before .before .before .before .before .before .same3 .ensures), c .before .before .before .before .before .before .before .before .before .before .before .before .before .before .before .before .before .before .before .before .before .before .before .before .before .before .before .before .before .before .before .before .before .before .before .before .before .before .before .before .before .before .if3 .left, ← (c .before .before .before .before .before .before .before .before .before .before .before .before .before .before .before .before .before .before .before .before .before .before .before .before .before .before .before .before .before .before .before .before .before .before .before .before .before .before .before .before .before .before .before .before .before .before .same2 .ensures), c .before .before .before .before .before .before .before .before .before .before .before .before .before .before .before .before .before .before .before .before .before .before .before .before .before .before .before .before .before .before .before .before .before .before .before .before .before .before .before .before .before .before .before .before .before .if2 .left, ← (c .before .before .before .before .before .before .before .before .before .before .before .before .before .before .before .before .before .before .before .before .before .before .before .before .before .before .before .before .before .before .before .before .before .before .before .before .before .before .before .before .before .before .before .before .before .before .before .before .before .same .ensures), c .before .before .before .before .before .before .before .before .before .before .before .before .before .before .before .before .before .before .before .before .before .before .before .before .before .before .before .before .before .before .before .before .before .before .before .before .before .before .before .before .before .before .before .before .before .before .before .before .if1 .left))
+    (λ c. search needs)
+    (λ c κs. search needs)
+    (λ c. simp (← (c .before .same18 .ensures), c .if18 .taken, ← (c .before .before .before .before .same17 .ensures), c .before .before .before .if17 .left, ← (c .before .before .before .before .before .before .before .same16 .ensures), c .before .before .before .before .before .before .if16 .left, ← (c .before .before .before .before .before .before .before .before .before .before .same15 .ensures), c .before .before .before .before .before .before .before .before .before .if15 .left, ← (c .before .before .before .before .before .before .before .before .before .before .before .before .before .same14 .ensures), c .before .before .before .before .before .before .before .before .before .before .before .before .if14 .left, ← (c .before .before .before .before .before .before .before .before .before .before .before .before .before .before .before .before .same13 .ensures), c .before .before .before .before .before .before .before .before .before .before .before .before .before .before .before .if13 .left, ← (c .before .before .before .before .before .before .before .before .before .before .before .before .before .before .before .before .before .before .before .same12 .ensures), c .before .before .before .before .before .before .before .before .before .before .before .before .before .before .before .before .before .before .if12 .left, ← (c .before .before .before .before .before .before .before .before .before .before .before .before .before .before .before .before .before .before .before .before .before .before .same11 .ensures), c .before .before .before .before .before .before .before .before .before .before .before .before .before .before .before .before .before .before .before .before .before .if11 .left, ← (c .before .before .before .before .before .before .before .before .before .before .before .before .before .before .before .before .before .before .before .before .before .before .before .before .before .same10 .ensures), c .before .before .before .before .before .before .before .before .before .before .before .before .before .before .before .before .before .before .before .before .before .before .before .before .if10 .left, ← (c .before .before .before .before .before .before .before .before .before .before .before .before .before .before .before .before .before .before .before .before .before .before .before .before .before .before .before .before .same9 .ensures), c .before .before .before .before .before .before .before .before .before .before .before .before .before .before .before .before .before .before .before .before .before .before .before .before .before .before .before .if9 .left, ← (c .before .before .before .before .before .before .before .before .before .before .before .before .before .before .before .before .before .before .before .before .before .before .before .before .before .before .before .before .before .before .before .same8 .ensures), c .before .before .before .before .before .before .before .before .before .before .before .before .before .before .before .before .before .before .before .before .before .before .before .before .before .before .before .before .before .before .if8 .left, ← (c .before .before .before .before .before .before .before .before .before .before .before .before .before .before .before .before .before .before .before .before .before .before .before .before .before .before .before .before .before .before .before .before .before .before .same7 .ensures), c .before .before .before .before .before .before .before .before .before .before .before .before .before .before .before .before .before .before .before .before .before .before .before .before .before .before .before .before .before .before .before .before .before .if7 .left, ← (c .before .before .before .before .before .before .before .before .before .before .before .before .before .before .before .before .before .before .before .before .before .before .before .before .before .before .before .before .before .before .before .before .before .before .before .before .before .same6 .ensures), c .before .before .before .before .before .before .before .before .before .before .before .before .before .before .before .before .before .before .before .before .before .before .before .before .before .before .before .before .before .before .before .before .before .before .before .before .if6 .left, ← (c .before .before .before .before .before .before .before .before .before .before .before .before .before .before .before .before .before .before .before .before .before .before .before .before .before .before .before .before .before .before .before .before .before .before .before .before .before .before .before .before .same5 .ensures), c .before .before .before .before .before .before .before .before .before .before .before .before .before .before .before .before .before .before .before .before .before .before .before .before .before .before .before .before .before .before .before .before .before .before .before .before .before .before .before .if5 .left, ← (c .before .before .before .before .before .before .before .before .before .before .before .before .before .before .before .before .before .before .before .before .before .before .before .before .before .before .before .before .before .before .before .before .before .before .before .before .before .before .before .before .before .before .before .same4 .ensures), c .before .before .before .before .before .before .before .before .before .before .before .before .before .before .before .before .before .before .before .before .before .before .before .before .before .before .before .before .before .before .before .before .before .before .before .before .before .before .before .before .before .before .if4 .left, ← (c .before .before .before .before .before .before .before .before .before .before .before .before .before .before .before .before .before .before .before .before .before .before .before .before .before .before .before .before .before .before .before .before .before .before .before .before .before .before .before .before .before .before .before .before .before .before .same3 .ensures), c .before .before .before .before .before .before .before .before .before .before .before .before .before .before .before .before .before .before .before .before .before .before .before .before .before .before .before .before .before .before .before .before .before .before .before .before .before .before .before .before .before .before .before .before .before .if3 .left, ← (c .before .before .before .before .before .before .before .before .before .before .before .before .before .before .before .before .before .before .before .before .before .before .before .before .before .before .before .before .before .before .before .before .before .before .before .before .before .before .before .before .before .before .before .before .before .before .before .before .before .same2 .ensures), c .before .before .before .before .before .before .before .before .before .before .before .before .before .before .before .before .before .before .before .before .before .before .before .before .before .before .before .before .before .before .before .before .before .before .before .before .before .before .before .before .before .before .before .before .before .before .before .before .if2 .left, ← (c .before .before .before .before .before .before .before .before .before .before .before .before .before .before .before .before .before .before .before .before .before .before .before .before .before .before .before .before .before .before .before .before .before .before .before .before .before .before .before .before .before .before .before .before .before .before .before .before .before .before .before .before .same .ensures), c .before .before .before .before .before .before .before .before .before .before .before .before .before .before .before .before .before .before .before .before .before .before .before .before .before .before .before .before .before .before .before .before .before .before .before .before .before .before .before .before .before .before .before .before .before .before .before .before .before .before .before .if1 .left))
+    (λ c. simp (← (c .before .same18 .ensures), c .if18 .left, ← (c .before .before .before .before .same17 .ensures), c .before .before .before .if17 .left, ← (c .before .before .before .before .before .before .before .same16 .ensures), c .before .before .before .before .before .before .if16 .left, ← (c .before .before .before .before .before .before .before .before .before .before .same15 .ensures), c .before .before .before .before .before .before .before .before .before .if15 .left, ← (c .before .before .before .before .before .before .before .before .before .before .before .before .before .same14 .ensures), c .before .before .before .before .before .before .before .before .before .before .before .before .if14 .left, ← (c .before .before .before .before .before .before .before .before .before .before .before .before .before .before .before .before .same13 .ensures), c .before .before .before .before .before .before .before .before .before .before .before .before .before .before .before .if13 .left, ← (c .before .before .before .before .before .before .before .before .before .before .before .before .before .before .before .before .before .before .before .same12 .ensures), c .before .before .before .before .before .before .before .before .before .before .before .before .before .before .before .before .before .before .if12 .left, ← (c .before .before .before .before .before .before .before .before .before .before .before .before .before .before .before .before .before .before .before .before .before .before .same11 .ensures), c .before .before .before .before .before .before .before .before .before .before .before .before .before .before .before .before .before .before .before .before .before .if11 .left, ← (c .before .before .before .before .before .before .before .before .before .before .before .before .before .before .before .before .before .before .before .before .before .before .before .before .before .same10 .ensures), c .before .before .before .before .before .before .before .before .before .before .before .before .before .before .before .before .before .before .before .before .before .before .before .before .if10 .left, ← (c .before .before .before .before .before .before .before .before .before .before .before .before .before .before .before .before .before .before .before .before .before .before .before .before .before .before .before .before .same9 .ensures), c .before .before .before .before .before .before .before .before .before .before .before .before .before .before .before .before .before .before .before .before .before .before .before .before .before .before .before .if9 .left, ← (c .before .before .before .before .before .before .before .before .before .before .before .before .before .before .before .before .before .before .before .before .before .before .before .before .before .before .before .before .before .before .before .same8 .ensures), c .before .before .before .before .before .before .before .before .before .before .before .before .before .before .before .before .before .before .before .before .before .before .before .before .before .before .before .before .before .before .if8 .left, ← (c .before .before .before .before .before .before .before .before .before .before .before .before .before .before .before .before .before .before .before .before .before .before .before .before .before .before .before .before .before .before .before .before .before .before .same7 .ensures), c .before .before .before .before .before .before .before .before .before .before .before .before .before .before .before .before .before .before .before .before .before .before .before .before .before .before .before .before .before .before .before .before .before .if7 .left, ← (c .before .before .before .before .before .before .before .before .before .before .before .before .before .before .before .before .before .before .before .before .before .before .before .before .before .before .before .before .before .before .before .before .before .before .before .before .before .same6 .ensures), c .before .before .before .before .before .before .before .before .before .before .before .before .before .before .before .before .before .before .before .before .before .before .before .before .before .before .before .before .before .before .before .before .before .before .before .before .if6 .left, ← (c .before .before .before .before .before .before .before .before .before .before .before .before .before .before .before .before .before .before .before .before .before .before .before .before .before .before .before .before .before .before .before .before .before .before .before .before .before .before .before .before .same5 .ensures), c .before .before .before .before .before .before .before .before .before .before .before .before .before .before .before .before .before .before .before .before .before .before .before .before .before .before .before .before .before .before .before .before .before .before .before .before .before .before .before .if5 .left, ← (c .before .before .before .before .before .before .before .before .before .before .before .before .before .before .before .before .before .before .before .before .before .before .before .before .before .before .before .before .before .before .before .before .before .before .before .before .before .before .before .before .before .before .before .same4 .ensures), c .before .before .before .before .before .before .before .before .before .before .before .before .before .before .before .before .before .before .before .before .before .before .before .before .before .before .before .before .before .before .before .before .before .before .before .before .before .before .before .before .before .before .if4 .left, ← (c .before .before .before .before .before .before .before .before .before .before .before .before .before .before .before .before .before .before .before .before .before .before .before .before .before .before .before .before .before .before .before .before .before .before .before .before .before .before .before .before .before .before .before .before .before .before .same3 .ensures), c .before .before .before .before .before .before .before .before .before .before .before .before .before .before .before .before .before .before .before .before .before .before .before .before .before .before .before .before .before .before .before .before .before .before .before .before .before .before .before .before .before .before .before .before .before .if3 .left, ← (c .before .before .before .before .before .before .before .before .before .before .before .before .before .before .before .before .before .before .before .before .before .before .before .before .before .before .before .before .before .before .before .before .before .before .before .before .before .before .before .before .before .before .before .before .before .before .before .before .before .same2 .ensures), c .before .before .before .before .before .before .before .before .before .before .before .before .before .before .before .before .before .before .before .before .before .before .before .before .before .before .before .before .before .before .before .before .before .before .before .before .before .before .before .before .before .before .before .before .before .before .before .before .if2 .left, ← (c .before .before .before .before .before .before .before .before .before .before .before .before .before .before .before .before .before .before .before .before .before .before .before .before .before .before .before .before .before .before .before .before .before .before .before .before .before .before .before .before .before .before .before .before .before .before .before .before .before .before .before .before .same .ensures), c .before .before .before .before .before .before .before .before .before .before .before .before .before .before .before .before .before .before .before .before .before .before .before .before .before .before .before .before .before .before .before .before .before .before .before .before .before .before .before .before .before .before .before .before .before .before .before .before .before .before .before .if1 .left)))

@@ -1,0 +1,44 @@
+//! ./vcd FILE: the event words of a value change dump, lowest byte first, on standard output; a refusal as `40 at 91` on
+//! standard error, with status 1. The words come from the proved library, in pieces, whatever the length of the file.
+
+#[allow(dead_code)]
+mod vcd_link;
+use std::io::Write;
+use std::process::ExitCode;
+use vcd_link::more;
+
+const WORDS: usize = 1 << 16;
+
+fn main() -> ExitCode {
+    let mut args = std::env::args_os().skip(1);
+    let (Some(path), None) = (args.next(), args.next()) else {
+        eprintln!("usage: ./vcd FILE");
+        return ExitCode::from(2);
+    };
+    let file = match std::fs::read(&path) {
+        Ok(file) => file,
+        Err(error) => {
+            eprintln!("vcd: {}: {error}", path.to_string_lossy());
+            return ExitCode::from(2);
+        }
+    };
+    let mut words = vec![0u32; WORDS];
+    let mut cursor = [0u64; 8];
+    let mut out = std::io::stdout().lock();
+    loop {
+        let (number, told) = more(&file, &mut words, &mut cursor);
+        let bytes: Vec<u8> = words[..told[0] as usize].iter().flat_map(|w| w.to_le_bytes()).collect();
+        if let Err(error) = out.write_all(&bytes).and_then(|()| out.flush()) {
+            eprintln!("vcd: {error}");
+            return ExitCode::from(2);
+        }
+        match number {
+            0 => return ExitCode::SUCCESS,
+            43 => {}
+            _ => {
+                eprintln!("{number} at {}", told[1]);
+                return ExitCode::FAILURE;
+            }
+        }
+    }
+}
