@@ -24,6 +24,7 @@ use Rattle.writes.proofs.Addresses.{Addressed, at-mdcon, at-hvcon, at-clrflg, a
 use Rattle.writes.specs.Writes.{writeRegister}
 use Rattle.pins.specs.Pins.{pinMoved}
 use Rattle.pins.proofs.Numbers.{numbered}
+use Rattle.ddc2b.specs.Ddc2b.{phaseAtPeriod}
 use Rattle.clocks.specs.Clocks.{periodClock, timerRuns, timerStep, timerClock, watchdogClock, clockedAs, clocked, polarityFound}
 use Rattle.outcome.specs.Outcome.{coreAfter, keptAfter, next}
 use Rattle.feeding.specs.Observer.{Observer, vsynciOf, watchdogOf, observeAccepted, spoils, observe, permitted, throughout}
@@ -44,7 +45,7 @@ module _ (btcon : ℕ) (g : Core) {a b loaded written : Bool} {y r n : ℕ} {p :
       rw few (tracks (withWatchdog g (watchdogOf g + 1)) true s k t w)
 
   other-tracks : (z s period runs : Bool) → Tracks (pick period (periodClock (frame g z s y r n)) (pick runs (timerStep (frame g z s y r n)) (frame g z s y r n))) (seen g z s a b n loaded written) p d
-  unfolding periodClock timerStep
+  unfolding periodClock timerStep phaseAtPeriod
   other-tracks z s true runs = tracks (periodClock g) z s k t w
   other-tracks z s false true = tracks (timerStep g) z s k t w
   other-tracks z s false false = tracks g z s k t w

@@ -41,7 +41,7 @@ idle-of (Addressed bits ninth) h = absurd (true≢false (sym h))
 idle-of Ignoring h = absurd (true≢false (sym h))
 idle-of (Receive count bits) h = absurd (true≢false (sym h))
 idle-of (Transmit count byte) h = absurd (true≢false (sym h))
-idle-of Held h = absurd (true≢false (sym h))
+idle-of (Held clocks) h = absurd (true≢false (sym h))
 
 abbrev atPhase : Core → Phase → Core
 atPhase c q = withBus c (busOf (iistsOf c) (iiadrOf c) (iidatOf c) q (shifterOf c))
