@@ -165,7 +165,7 @@ def runs(work):
         root = work / "drivers" / path.stem / "main.rt"
         root.parent.mkdir(parents=True)
         root.write_text(text.replace("CORE.", "core." if core else ""))
-        deps = re.search(r"^// needs: (.*)$", text, re.M)[1].split()
+        deps = [name for name in re.search(r"^// needs: (.*)$", text, re.M)[1].split() if name in DEPS or name in KIT_DEPS]
         driver = Run(f"driver {path.stem}", root, deps, ["--stdin", str(work / "words")])
         said = driver.told(None, None) or sys.exit(f"wrong answers: {path} prints nothing")
         wrote = re.search(r'expected "", found "(.*?)"$', said, re.M) or sys.exit(f"wrong answers: {path}: {said[:1000]}")
