@@ -8,8 +8,8 @@ A name in a cell is written between backquotes, and each column takes names of i
     wrong program   crate/label, a must-fail edit: a file of one wrong program, or a labelled wrong answer in a file of several
     case            name.txt, a listing of crates/vectors/data; P7, a row of the table of cases; crate.name of a theorem that
                     computes a run, of the crate cases or of one whose name ends in _cases
-No cell is empty. A cell without a name is a reason in words. A cell that begins with "no " is one too, and may name anything that
-exists. Every labelled edit stands in some row's "wrong program", and every listing in some row's "case".
+No cell is empty. A cell without a name is a reason in words. A clause that begins with "no " is one too, and may name anything that
+exists; clauses are parted by semicolons. Every labelled edit stands in some row's "wrong program", and every listing in some row's "case".
 """
 import pathlib
 import re
@@ -90,13 +90,15 @@ def cell(line, column, text):
         complaints.append(f"line {line}: the cell '{column}' is empty")
     elif column in NAMED and not names and len(text.split()) < 2:
         complaints.append(f"line {line}: '{text}' in the column '{column}' is neither a name nor a reason")
-    for name in names:
-        if name not in anything:
-            complaints.append(f"line {line}: nothing has the name {name}")
-        elif column in NAMED and not text.startswith("no ") and name not in KINDS[column]:
+    for name in set(names) - anything:
+        complaints.append(f"line {line}: nothing has the name {name}")
+    if column not in NAMED:
+        complaints.extend(f"line {line}: {name} stands in the column '{column}', which takes no names" for name in names)
+        return names
+    claims = [clause for clause in text.split(";") if not clause.strip().startswith("no ")]
+    for name in re.findall(r"`([^`]+)`", " ".join(claims)):
+        if name in anything and name not in KINDS[column]:
             complaints.append(f"line {line}: {name} is not of the column '{column}'")
-        elif column not in NAMED:
-            complaints.append(f"line {line}: {name} stands in the column '{column}', which takes no names")
     return names
 
 

@@ -131,6 +131,17 @@ class Run:
         return said
 
 
+def placed(text):
+    """a driver with the parts of a chip as `chip::Chip` has them: a core beside the array of registers, or all in one struct"""
+    if "pub core: Core" in (ROOT / "crates/chip/src/lib.rt").read_text():
+        parts = {".CORE": ".core", "ARRAY(c)": "&c.registers"}
+    else:
+        parts = {".CORE": "", "ARRAY(c)": "c"}
+    for name, part in parts.items():
+        text = text.replace(name, part)
+    return text
+
+
 def first_difference(run, said):
     """the expected line in which the first run that failed differs, or how it failed"""
     place = re.search(r"on standard output, at byte (\d+)", said)
@@ -149,7 +160,6 @@ def runs(work):
     words = subprocess.run([model, "words", "7", str(WORDS)], check=True, capture_output=True).stdout
     given = subprocess.run([model, "answers"], check=True, capture_output=True, input=words).stdout.decode().split()
     (work / "words").write_bytes(words)
-    core = "pub core: Core" in (ROOT / "crates/chip/src/lib.rt").read_text()
     listing = work / "generated.txt"
     listing.write_text("".join(f"{int.from_bytes(words[4 * i:4 * i + 4], 'little'):08X} {a}\n" for i, a in enumerate(given)))
     names = (vectors / "args").read_text().split()
@@ -164,8 +174,8 @@ def runs(work):
         text = path.read_text()
         root = work / "drivers" / path.stem / "main.rt"
         root.parent.mkdir(parents=True)
-        root.write_text(text.replace("CORE.", "core." if core else ""))
-        deps = re.search(r"^// needs: (.*)$", text, re.M)[1].split()
+        root.write_text(placed(text))
+        deps = [name for name in re.search(r"^// needs: (.*)$", text, re.M)[1].split() if name in DEPS or name in KIT_DEPS]
         driver = Run(f"driver {path.stem}", root, deps, ["--stdin", str(work / "words")])
         said = driver.told(None, None) or sys.exit(f"wrong answers: {path} prints nothing")
         wrote = re.search(r'expected "", found "(.*?)"$', said, re.M) or sys.exit(f"wrong answers: {path}: {said[:1000]}")
