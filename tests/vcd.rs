@@ -116,7 +116,55 @@ fn body(d: &mut Dice, clean: bool, codes: &[&'static str]) -> String {
 /// A small file that has each sort of section, change and keyword.
 const SMALL: &str = "$date d $end $timescale 1 us $end $scope module m $end $var wire 1 ! SCL $end $var reg 1 ab SDA $end $var wire 4 % v [3:0] $end $upscope $end $enddefinitions $end\n$dumpvars 0! xab b01z0 % $end #3 1! r1.5 ! #8 0ab $comment c $end #17 1ab\n";
 
+/// A file of about so many bytes: eight variables, a change in four of five tokens.
+fn traffic(size: usize, codes: &[&'static str], step: u64) -> Vec<u8> {
+    let mut d = Dice(0x1234_5678_9abc_def1);
+    let mut text = String::from("$timescale 1 ns $end\n");
+    for (k, code) in codes.iter().enumerate() {
+        let name = ["SCL", "SDA", "HSYNCI", "VSYNCI"].get(k).map_or_else(|| format!("v{k}"), |n| n.to_string());
+        text += &format!("$var wire 1 {code} {name} $end\n");
+    }
+    text += "$enddefinitions $end\n";
+    let mut time = 0;
+    while text.len() < size {
+        if d.below(5) == 0 {
+            time += 1 + d.below(step);
+            text += &format!("#{time}\n");
+        } else {
+            text += &format!("{}{}\n", d.of(&["0", "1"]), d.of(codes));
+        }
+    }
+    text.into_bytes()
+}
+
+/// MB a second of the proved reader and of the model's, best of five each, side by side.
+fn bench() {
+    let short = ["!", "\"", "#", "$", "%", "&", "'", "("];
+    let long = ["aa!", "aa\"", "aa#", "ab!", "ab\"", "ab#", "ac!", "ac\""];
+    for (what, codes, step) in [("codes of one byte", &short, 200), ("codes of three bytes", &long, 200), ("many clocks", &short, 40_000)] {
+        for size in [2_000_000, 8_000_000, 32_000_000] {
+            let file = traffic(size, codes, step);
+            let mut words = vec![0u32; 64_000_000];
+            let mut best = [f64::MAX; 2];
+            for _ in 0..5 {
+                let began = std::time::Instant::now();
+                let (number, told) = whole(&file, &mut words);
+                best[0] = best[0].min(began.elapsed().as_secs_f64());
+                let began = std::time::Instant::now();
+                let model = read(&file, words.len());
+                best[1] = best[1].min(began.elapsed().as_secs_f64());
+                assert!(number == 0 && model.number == 0 && told[0] as usize == model.words.len());
+            }
+            let speed = |s: f64| file.len() as f64 / s / 1e6;
+            println!("| {what}, {} MB | {:.0} | {:.0} | {:.2} |", size / 1_000_000, speed(best[0]), speed(best[1]), best[1] / best[0]);
+        }
+    }
+}
+
 fn main() {
+    if std::env::args().nth(1).as_deref() == Some("bench") {
+        return bench();
+    }
     let mut d = Dice(0x9e37_79b9_7f4a_7c15);
     let mut numbers = [0u64; 45];
     let mut files = 0u64;
