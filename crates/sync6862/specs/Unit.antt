@@ -213,3 +213,23 @@ latches s =
     pick (wellFormed s)
     (Shown (s .sync .lines .latch) (s .sync .lines .overflow) (s .sync .periods .latch) (s .sync .periods .overflow))
     IllFormed
+
+-- ---- the numbers, exactly when each is given
+
+-- ENHSEL is given to a chip that has none
+unfoldable pub hasEnhsel : Part → Bool
+hasEnhsel Nt6861 = false
+hasEnhsel (Nt6862 enhsel) = true
+
+unfoldable pub lacksEnhsel : Part → Call → Bool
+lacksEnhsel part (Hsynci level) = false
+lacksEnhsel part (Vsynci level) = false
+lacksEnhsel part Clock = false
+lacksEnhsel part (Enhsel new) = not (hasEnhsel part)
+lacksEnhsel part (Hsel new) = false
+lacksEnhsel part ClearH = false
+lacksEnhsel part ClearV = false
+
+-- 8 for an ill formed state, then 2 for such an ENHSEL, else 0
+unfoldable pub numberOf : Counters → Call → ℕ
+numberOf s call = pick (wellFormed s) (pick (lacksEnhsel (s .part) call) 2 0) 8
