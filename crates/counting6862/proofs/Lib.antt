@@ -1,0 +1,7 @@
+pub mod AsSync
+pub mod Steps
+pub mod Effects
+pub mod Zeroed
+pub mod Since
+pub mod Interval
+pub mod Worked
