@@ -233,3 +233,8 @@ lacksEnhsel part ClearV = false
 -- 8 for an ill formed state, then 2 for such an ENHSEL, else 0
 unfoldable pub numberOf : Counters → Call → ℕ
 numberOf s call = pick (wellFormed s) (pick (lacksEnhsel (s .part) call) 2 0) 8
+
+-- the number of a state's chip
+unfoldable pub chipNumber : Part → ℕ
+chipNumber Nt6861 = 6861
+chipNumber (Nt6862 enhsel) = 6862
