@@ -13,7 +13,7 @@ use Rattle.sync6862.specs.declared.Call.the-variants.{Hsynci, Vsynci, Clock, En
 use Rattle.sync6862.specs.declared.Outcome.{Outcome}
 use Rattle.sync6862.specs.declared.Start.{Start}
 use Rattle.sync6862.specs.declared.Start.the-variants.{Made, NoSuchChip}
-use Rattle.sync6862.specs.Unit.{chipNumber, wellFormed, answer, fresh}
+use Rattle.sync6862.specs.Unit.{chipNumber, wellFormed, answer, fresh, freshNumber, numberOf}
 use Rattle.counting6862.specs.Counting.{run, clocks}
 use Rattle.numbers6862.specs.declared.Named.{Named}
 use Rattle.numbers6862.specs.declared.Named.the-variants.{Chip, Neither}
@@ -137,3 +137,18 @@ givenTo IllFormed n code value = refused 8 n
 -- call 0 asks for a fresh state and is offered none
 unfoldable pub call : List ℕ → ℕ → ℕ → Called
 call n code value = pick (eqb code 0) (madeOf (fresh value) n) (givenTo (read n) n code value)
+
+-- ---- the numbers, exactly when each is given
+
+unfoldable pub askedNumber : Asked → Counters → ℕ
+askedNumber (Do call) s = numberOf s call
+askedNumber (Clocks times) s = 0
+askedNumber (Refused number) s = number
+
+unfoldable pub offeredNumber : Offered → ℕ → ℕ → ℕ
+offeredNumber (Well s) code value = askedNumber (asked (s .part) code value) s
+offeredNumber IllFormed code value = 8
+
+-- 23 or 0 for a fresh state; else 8 before all, then 1 for no such call, 2 for ENHSEL on the NT6861, 3 for a value outside its range
+unfoldable pub callNumber : List ℕ → ℕ → ℕ → ℕ
+callNumber n code value = pick (eqb code 0) (freshNumber (fresh value)) (offeredNumber (read n) code value)
