@@ -118,7 +118,7 @@ pub read-well : (n : List ℕ) (s : Counters) → read n ≡ Well s → wellForm
 read-well n s h = found n s h .well
 
 -- twelve numbers are their entries
-twelve : (n : List ℕ) → length n ≡ 12
+pub twelve : (n : List ℕ) → length n ≡ 12
     → (getD n 0 0 ∷ getD n 1 0 ∷ getD n 2 0 ∷ getD n 3 0 ∷ getD n 4 0 ∷ getD n 5 0 ∷ getD n 6 0 ∷ getD n 7 0 ∷ getD n 8 0 ∷ getD n 9 0 ∷ getD n 10 0 ∷ getD n 11 0 ∷ []) ≡ n
 twelve [] size = absurd (omega arith)
 twelve (a ∷ []) size = absurd (omega arith)

@@ -15,6 +15,9 @@ use Rattle.sync6862.specs.declared.Start.{Start}
 use Rattle.sync6862.specs.declared.Start.the-variants.{Made, NoSuchChip}
 use Rattle.sync6862.specs.Unit.{chipNumber, wellFormed, answer, fresh, freshNumber, numberOf}
 use Rattle.counting6862.specs.Counting.{run, clocks}
+use Rattle.rates.specs.declared.Rate.{Rate}
+use Rattle.rates.specs.declared.Rate.the-variants as rate
+use Rattle.rates6862.specs.Report.{fieldReport}
 use Rattle.numbers6862.specs.declared.Named.{Named}
 use Rattle.numbers6862.specs.declared.Named.the-variants.{Chip, Neither}
 use Rattle.numbers6862.specs.declared.Offered.{Offered}
@@ -152,3 +155,12 @@ offeredNumber IllFormed code value = 8
 -- 23 or 0 for a fresh state; else 8 before all, then 1 for no such call, 2 for ENHSEL on the NT6861, 3 for a value outside its range
 unfoldable pub callNumber : List ℕ → ℕ → ℕ → ℕ
 callNumber n code value = pick (eqb code 0) (freshNumber (fresh value)) (offeredNumber (read n) code value)
+
+-- ---- the field rate: numbers that are no well formed state are ill formed
+
+unfoldable pub fieldOffered : Offered → Rate
+fieldOffered (Well s) = fieldReport s
+fieldOffered IllFormed = rate.IllFormed
+
+unfoldable pub field : List ℕ → Rate
+field n = fieldOffered (read n)

@@ -3,7 +3,8 @@ ghost use mathlib.Core.Path.{_≡_};
 ghost use Rattle.sync6862.specs.Unit.{chipNumber};
 ghost use Rattle.counting6862.specs.Counting.{run, clocks as clocksOf};
 ghost use Rattle.bits.specs.Byte.{num};
-ghost use Rattle.numbers6862.specs.Numbers.{enhselNumber, numbersOf, bitsFit, partOf, stateOf, offeredAs, read as readOf, withBit, alone as aloneOf, enhselAsked, asked as askedOf, refused as refusedOf, leftAs, madeOf, obeyed as obeyedOf, given as givenOf, givenTo, call as callOf};
+ghost use Rattle.numbers6862.specs.Numbers.{enhselNumber, numbersOf, bitsFit, partOf, stateOf, offeredAs, read as readOf, withBit, alone as aloneOf, enhselAsked, asked as askedOf, refused as refusedOf, leftAs, madeOf, obeyed as obeyedOf, given as givenOf, givenTo, call as callOf, fieldOffered, field as fieldOf};
+use rates::Rate;
 use sync::LineCounter;
 use sync::Lines;
 use sync::PeriodCounter;
@@ -289,4 +290,21 @@ pub fn call(n: [u16; 12], code: u32, value: u32) -> Called
     } else {
         given_to(read(n), n, code, value)
     }
+}
+
+fn field_of(state: Offered) -> Rate
+    ensures { λ r. ⌜ r ≡ fieldOffered state ⌝ }
+{
+    match state {
+        Offered::Well(s) => rates6862::field_rate(s),
+        Offered::IllFormed => Rate::IllFormed,
+    }
+}
+
+// The report on the field rate of the state that the numbers are.
+// Wrong answers: numbers that are no state told as an overflow; those of the NT6861 with ENHSEL 1 reported on.
+pub fn field(n: [u16; 12]) -> Rate
+    ensures { λ r. ⌜ r ≡ fieldOf n ⌝ }
+{
+    field_of(read(n))
 }
