@@ -3,6 +3,7 @@
 //! It is written from document 01 and the readings in docs/DECISIONS.md, and shares no code with the proved crates.
 
 pub mod chip;
+pub mod counters6862;
 pub mod coverage;
 pub mod replay;
 #[cfg(test)]

@@ -1,5 +1,6 @@
 -- A script: a line a call on the twelve numbers, with what is told after each. The first malformed line ends it.
 use Prim.Native.Nat.{ℕ, _+_, _%_}
+use lib.Ieee.{Float, binary64, ofBits, toBits, lt}
 use mathlib.Core.Bool.{true, false}
 use mathlib.Core.List.{List, [], _∷_}
 use lib.Dec.{eqb, ltb}
@@ -82,3 +83,16 @@ found (Line word count first value) p b = obeyed (orderOf word count first value
 -- a byte of the script
 unfoldable pub next : Progress → ℕ → Step
 next p b = pick (p .ended) (record { progress = p; event = Quiet }) (found (line.next (p .reader) b) p b)
+
+-- ---- the rate's 64 bits
+
+-- of a rate above 0, which every rate that is reported is; 0 stands for no rate
+unfoldable pub positiveBits : Float → ℕ
+positiveBits x = pick (lt (ofBits binary64 0) x) (toBits binary64 x) 0
+
+unfoldable pub rateBits : Rate → ℕ
+rateBits IllFormed = 0
+rateBits NothingLatched = 0
+rateBits Overflow = 0
+rateBits (FieldRate x) = positiveBits x
+rateBits (LineRate x) = positiveBits x

@@ -1,6 +1,6 @@
 // A script for the counters of either chip, run on twelve numbers.
 ghost use mathlib.Core.Path.{_≡_};
-ghost use Rattle.script6862.specs.Script.{oneMore, opened as openedOf, withReader, nextLine, stopped as stoppedOf, rateNumber, putAt, calledWith, reported as reportedOf, obeyed as obeyedOf, within as withinOf, found as foundOf, next as nextOf};
+ghost use Rattle.script6862.specs.Script.{oneMore, opened as openedOf, withReader, nextLine, stopped as stoppedOf, rateNumber, putAt, calledWith, reported as reportedOf, obeyed as obeyedOf, within as withinOf, found as foundOf, next as nextOf, positiveBits, rateBits};
 use orders6862::Found;
 use orders6862::Order;
 use orders6862::Reader;
@@ -191,5 +191,26 @@ pub fn next(p: Progress, b: u8) -> Step
     } else {
         let reader = p.reader;
         found(orders6862::next(reader, b), p, b)
+    }
+}
+
+// The 64 bits of a rate above 0; else 0.
+fn positive_bits(x: f64) -> u64
+    ensures { λ r. ⌜ r ≡ positiveBits x ⌝ }
+{
+    if 0.0 < x { f64::to_bits(x) } else { 0 }
+}
+
+// The 64 bits of the rate that a report tells, or 0 where it tells none.
+// Wrong answers: the bits of no line rate told; 1 where nothing is latched.
+pub fn rate_bits(rate: Rate) -> u64
+    ensures { λ r. ⌜ r ≡ rateBits rate ⌝ }
+{
+    match rate {
+        Rate::IllFormed => 0,
+        Rate::NothingLatched => 0,
+        Rate::Overflow => 0,
+        Rate::FieldRate(x) => positive_bits(x),
+        Rate::LineRate(x) => positive_bits(x),
     }
 }
