@@ -65,7 +65,7 @@ fn enhsel_number(part: Part) -> u16
 }
 
 // A state as twelve numbers.
-// Wrong answers: HCNT and VCNT exchanged; ENHSEL of the NT6861 written as 1.
+// Wrong answers: the interval in the place of the H latch; ENHSEL of the NT6861 written as 1.
 pub fn written(s: Counters) -> [u16; 12]
     ensures { λ r. ⌜ r ≡ numbersOf s ⌝ }
 {
@@ -148,7 +148,7 @@ fn offered_as(s: Counters) -> Offered
 }
 
 // The well formed state that the numbers are, if they are one.
-// Wrong answers: a level of 2 taken for 1; ENHSEL 1 taken on the NT6861.
+// Wrong answers: a level of 2 taken; ENHSEL 1 taken on the NT6861.
 pub fn read(n: [u16; 12]) -> Offered
     ensures { λ r. ⌜ r ≡ readOf n ⌝ }
 {
@@ -281,7 +281,7 @@ fn given_to(state: Offered, n: [u16; 12], code: u32, value: u32) -> Called
 
 // Call 0 makes a fresh state for the chip of that number, or answers 23; each other call is given to the state that the numbers are,
 // or answers 8. A refusal moves nothing.
-// Wrong answers: 8 for a fresh state over numbers that are none; a clock for none asked.
+// Wrong answers: 0 for a fresh state of no chip; none given of the clocks asked for.
 pub fn call(n: [u16; 12], code: u32, value: u32) -> Called
     ensures { λ r. ⌜ r ≡ callOf n code value ⌝ }
 {

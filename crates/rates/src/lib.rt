@@ -50,7 +50,7 @@ fn line_hz(h: Lines, v: Periods) -> f64
 }
 
 // The field rate from VCNT of any width, or why there is none.
-// Wrong answers: a latch of 1 told as nothing latched; 124,999 divided by the latch.
+// Wrong answers: 125,001 divided by the latch; a latch of 0 told before an overflow.
 pub fn by_periods(v: PeriodCounter) -> Rate
     ensures { λ r. ⌜ r ≡ byPeriods v ⌝ }
 {

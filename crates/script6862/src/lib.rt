@@ -179,7 +179,7 @@ fn found(f: Found, p: Progress, b: u8) -> Step
 }
 
 // A byte of the script. After a malformed line nothing is read.
-// Wrong answers: a byte read after the end; nothing read before it.
+// Wrong answers: bytes read after the end and not before it; the number of place 11 put at place 0.
 pub fn next(p: Progress, b: u8) -> Step
     ensures { λ n. ⌜ n ≡ nextOf p b ⌝ }
 {
@@ -202,7 +202,7 @@ fn positive_bits(x: f64) -> u64
 }
 
 // The 64 bits of the rate that a report tells, or 0 where it tells none.
-// Wrong answers: the bits of no line rate told; 1 where nothing is latched.
+// Wrong answers: no bits of a field rate; 1 where nothing is latched.
 pub fn rate_bits(rate: Rate) -> u64
     ensures { λ r. ⌜ r ≡ rateBits rate ⌝ }
 {

@@ -352,7 +352,7 @@ fn answered(s: Counters, call: Call) -> Outcome
 }
 
 // A call: number 8 for an ill formed state, then 2 for ENHSEL on the NT6861; a refusal moves nothing.
-// Wrong answers: 2 before 8; HCNT zeroed by its clearing on the NT6862 too.
+// Wrong answers: 2 for an ill formed state; HCNT zeroed by clear H on the NT6862 too.
 pub fn answer(s: Counters, call: Call) -> Outcome
     ensures { λ r. ⌜ r ≡ answerOf s call ⌝ }
 {
@@ -379,7 +379,7 @@ fn fresh_as(part: Part) -> Counters
 }
 
 // A fresh state for the chip of this number.
-// Wrong answers: ENHSEL 0 when fresh; a state for every number.
+// Wrong answers: ENHSEL 0 when fresh; a state for chip 6863.
 pub fn fresh(number: u32) -> Start
     ensures { λ r. ⌜ r ≡ freshOf number ⌝ }
 {
@@ -391,7 +391,7 @@ pub fn fresh(number: u32) -> Start
 }
 
 // The latches with the overflow bits.
-// Wrong answers: the counts for the latches; the overflow bits exchanged.
+// Wrong answers: HCNT shown for its latch; the overflow bits exchanged.
 pub fn latches(s: Counters) -> LatchReport
     ensures { λ r. ⌜ r ≡ latchesOf s ⌝ }
 {
