@@ -1,6 +1,5 @@
 -- `numbers6862::asked_for` meets its contract.
 -- Assumes nothing.
-use borrow.Author.Needs.{needs}
 use borrow.Author.Tests.{ne-eqb}
 use Rattle.numbers6862.specs.Numbers.{asked, call}
 use Rattle.numbers6862.proofs.asked_for.Statement.{statement}
@@ -11,12 +10,12 @@ unfolding asked call
 asked-for-spec =
     tie.close
     (tie.spec
-    (λ c κs. search needs)
-    (λ c κs. search needs)
-    (λ c κs. search needs)
-    (λ c κs. search needs)
-    (λ c κs. search needs)
-    (λ c κs. search needs)
+    (λ c κs. tt)
+    (λ c κs. tt)
+    (λ c κs. tt)
+    (λ c κs. tt)
+    (λ c κs. tt)
+    (λ c κs. tt)
     (λ c. simp (c .with-bit .ensures, c .before .match .keys1))
     (λ c. simp (c .with-bit2 .ensures, c .before .match .keys2))
     (λ c. simp (c .match .keys3))

@@ -1,6 +1,5 @@
 -- `numbers6862::call` meets its contract.
 -- Assumes nothing.
-use borrow.Author.Needs.{needs}
 use borrow.Author.Tests.{eq-eqb, ne-eqb}
 use Rattle.numbers6862.specs.Numbers.{call}
 use Rattle.numbers6862.proofs.call.Statement.{statement}
@@ -11,9 +10,9 @@ unfolding call
 call-spec =
     tie.close
     (tie.spec
-    (λ c κs. search needs)
-    (λ c κs. search needs)
-    (λ c κs. search needs)
-    (λ c κs. search needs)
+    (λ c κs. tt)
+    (λ c κs. tt)
+    (λ c κs. tt)
+    (λ c κs. tt)
     (λ c. simp (c .made .ensures, c .before .fresh .ensures, eq-eqb _ _ (c .before .before .if1 .taken)))
     (λ c. simp (c .given-to .ensures, c .before .read .ensures, ne-eqb _ _ (c .before .before .if1 .left))))

@@ -12,6 +12,6 @@ enhsel-asked-spec =
     (tie.spec
     (λ c. search needs)
     (λ c. search needs)
-    (λ c κs. search needs)
+    (λ c κs. tt)
     (λ c. simp (c .enum-told .given .1))
     (λ c. simp (c .with-bit .ensures, c .before .enum-told2 .given .1)))

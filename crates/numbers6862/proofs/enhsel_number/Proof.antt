@@ -12,6 +12,6 @@ enhsel-number-spec =
     (tie.spec
     (λ c. search needs)
     (λ c. search needs)
-    (λ c κs. search needs)
+    (λ c κs. tt)
     (λ c. simp (c .enum-told .given .1))
     (λ c. simp (c .number-of .ensures, c .before .before .part .given .1)))

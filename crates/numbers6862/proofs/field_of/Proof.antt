@@ -11,7 +11,7 @@ field-of-spec =
     tie.close
     (tie.spec
     (λ c. search needs)
-    (λ c κs. search needs)
+    (λ c κs. tt)
     (λ c. search needs)
     (λ c. simp (c .field-rate .ensures .0, c .before .before .state .given .1))
     (λ c. simp (c .enum-told .given .1)))

@@ -11,12 +11,12 @@ given-spec =
     tie.close
     (tie.spec
     (λ c. search needs)
-    (λ c κs. search needs)
+    (λ c κs. tt)
     (λ c. search needs)
-    (λ c κs. search needs)
-    (λ c κs. search needs)
+    (λ c κs. tt)
+    (λ c κs. tt)
     (λ c. search needs)
-    (λ c κs. search needs)
+    (λ c κs. tt)
     (λ c. simp (c .obeyed .ensures, c .before .before .wish .given .1))
     (λ c. simp (c .left .ensures, c .before .clocks .ensures, c .before .before .before .wish2 .given .1))
     (λ c. simp (c .refused .ensures, c .before .before .wish3 .given .1)))

@@ -11,9 +11,9 @@ given-to-spec =
     tie.close
     (tie.spec
     (λ c. search needs)
-    (λ c κs. search needs)
-    (λ c κs. search needs)
+    (λ c κs. tt)
+    (λ c κs. tt)
     (λ c. search needs)
-    (λ c κs. search needs)
+    (λ c κs. tt)
     (λ c. simp (c .given .ensures, c .before .asked-for .ensures, c .before .before .before .state .given .1))
     (λ c. simp (c .refused .ensures, c .before .enum-told .given .1)))

@@ -1,6 +1,5 @@
 -- `numbers6862::left` meets its contract.
 -- Assumes nothing.
-use borrow.Author.Needs.{needs}
 use Rattle.numbers6862.proofs.left.Statement.{statement}
 use Rattle.numbers6862.proofs.left.Tie as tie
 
@@ -8,5 +7,5 @@ pub left-spec : {M : Type 1} → statement M
 left-spec =
     tie.close
     (tie.spec
-    (λ c κs. search needs)
+    (λ c κs. tt)
     (λ c. simp (c .written .ensures)))

@@ -11,8 +11,8 @@ made-spec =
     tie.close
     (tie.spec
     (λ c. search needs)
-    (λ c κs. search needs)
+    (λ c κs. tt)
     (λ c. search needs)
-    (λ c κs. search needs)
+    (λ c κs. tt)
     (λ c. simp (c .left .ensures, c .before .before .start .given .1))
     (λ c. simp (c .refused .ensures, c .before .enum-told .given .1)))

@@ -1,6 +1,5 @@
 -- `numbers6862::obeyed` meets its contract.
 -- Assumes nothing.
-use borrow.Author.Needs.{needs}
 use Rattle.numbers6862.specs.Numbers.{call}
 use Rattle.numbers6862.proofs.obeyed.Statement.{statement}
 use Rattle.numbers6862.proofs.obeyed.Tie as tie
@@ -10,6 +9,6 @@ unfolding call
 obeyed-spec =
     tie.close
     (tie.spec
-    (λ c κs. search needs)
-    (λ c κs. search needs)
+    (λ c κs. tt)
+    (λ c κs. tt)
     (λ c. simp (c .left .ensures, c .before .before .answer .ensures)))

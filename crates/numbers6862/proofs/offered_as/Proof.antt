@@ -1,6 +1,5 @@
 -- `numbers6862::offered_as` meets its contract.
 -- Assumes nothing.
-use borrow.Author.Needs.{needs}
 use Rattle.numbers6862.specs.Numbers.{offeredAs}
 use Rattle.numbers6862.proofs.offered_as.Statement.{statement}
 use Rattle.numbers6862.proofs.offered_as.Tie as tie
@@ -10,6 +9,6 @@ unfolding offeredAs
 offered-as-spec =
     tie.close
     (tie.spec
-    (λ c κs. search needs)
+    (λ c κs. tt)
     (λ c. simp (← (c .before .well-formed .ensures), c .if1 .taken))
     (λ c. simp (← (c .before .well-formed .ensures), c .if1 .left)))

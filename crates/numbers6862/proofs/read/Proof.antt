@@ -10,13 +10,13 @@ unfolding read readAs
 read-spec =
     tie.close
     (tie.spec
-    (λ c κs. search needs)
+    (λ c κs. tt)
     (λ c. search needs)
     (λ c. search needs)
-    (λ c κs. search needs)
+    (λ c κs. tt)
     (λ c. search needs)
-    (λ c κs. search needs)
-    (λ c κs. search needs)
+    (λ c κs. tt)
+    (λ c κs. tt)
     (λ c. search needs)
     (λ c. simp (c .offered-as .ensures, c .before .state-of .ensures, ← (c .before .before .before .before .before .part-of .ensures), c .before .before .before .part .given .1, ← (c .before .before .before .before .before .before .before .bits-fit .ensures), c .before .before .before .before .before .before .if1 .taken))
     (λ c. simp (← (c .before .before .part-of .ensures), c .enum-told .given .1, ← (c .before .before .before .before .bits-fit .ensures), c .before .before .before .if1 .taken))

@@ -10,11 +10,11 @@ at-word-spec =
     (tie.spec
     (λ c. search needs)
     (λ c. search needs)
-    (λ c κs. search needs)
+    (λ c κs. tt)
     (λ c. search needs)
     (λ c. search needs)
     (λ c. search needs)
-    (λ c κs. search needs)
+    (λ c κs. tt)
     (λ c. search needs)
     (λ c. simp (c .enum-told .given .1))
     (λ c. simp (c .reader-at .ensures, c .before .enum-told2 .given .1))

@@ -1,6 +1,5 @@
 -- `orders6862::next` meets its contract.
 -- Assumes nothing.
-use borrow.Author.Needs.{needs}
 use Rattle.orders6862.proofs.next.Statement.{statement}
 use Rattle.orders6862.proofs.next.Tie as tie
 
@@ -8,6 +7,6 @@ pub next-spec : {M : Type 1} → statement M
 next-spec =
     tie.close
     (tie.spec
-    (λ c κs. search needs)
-    (λ c κs. search needs)
+    (λ c κs. tt)
+    (λ c κs. tt)
     (λ c. simp (c .next-at .ensures, c .before .symbol-of .ensures)))

@@ -1,6 +1,5 @@
 -- `orders6862::order_of` meets its contract.
 -- Assumes nothing.
-use borrow.Author.Needs.{needs}
 use borrow.Author.Tests.{ne-eqb}
 use Rattle.orders6862.specs.Orders.{orderOf}
 use Rattle.orders6862.proofs.order_of.Statement.{statement}
@@ -11,16 +10,16 @@ unfolding orderOf
 order-of-spec =
     tie.close
     (tie.spec
-    (λ c κs. search needs)
-    (λ c κs. search needs)
-    (λ c κs. search needs)
-    (λ c κs. search needs)
-    (λ c κs. search needs)
-    (λ c κs. search needs)
-    (λ c κs. search needs)
-    (λ c κs. search needs)
-    (λ c κs. search needs)
-    (λ c κs. search needs)
+    (λ c κs. tt)
+    (λ c κs. tt)
+    (λ c κs. tt)
+    (λ c κs. tt)
+    (λ c κs. tt)
+    (λ c κs. tt)
+    (λ c κs. tt)
+    (λ c κs. tt)
+    (λ c κs. tt)
+    (λ c κs. tt)
     (λ c. simp (c .with-number .ensures, c .before .match .keys1))
     (λ c. simp (c .with-number2 .ensures, c .before .match .keys2))
     (λ c. simp (c .with-number3 .ensures, c .before .match .keys3))

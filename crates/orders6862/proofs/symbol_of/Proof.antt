@@ -1,6 +1,5 @@
 -- `orders6862::symbol_of` meets its contract.
 -- Assumes nothing.
-use borrow.Author.Needs.{needs}
 use borrow.Author.Tests.{ne-eqb}
 use Rattle.orders6862.specs.Line.{symbolOf}
 use Rattle.orders6862.proofs.symbol_of.Statement.{statement}
@@ -11,7 +10,7 @@ unfolding symbolOf
 symbol-of-spec =
     tie.close
     (tie.spec
-    (λ c κs. search needs)
+    (λ c κs. tt)
     (λ c. simp (c .match .keys1))
     (λ c. simp (c .match .keys2))
     (λ c. simp (c .match .keys3))

@@ -14,6 +14,6 @@ with-letter-spec =
     (λ c. search needs)
     (λ c. search needs)
     (λ c. search needs)
-    (λ c κs. search needs)
+    (λ c κs. tt)
     (λ c. simp (c .reader-at .ensures, lt-ltb _ _ (c .before .if1 .taken)))
     (λ c. simp (le-ltb _ _ (c .if1 .left))))

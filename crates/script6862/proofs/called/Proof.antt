@@ -1,6 +1,5 @@
 -- `script6862::called` meets its contract.
 -- Assumes nothing.
-use borrow.Author.Needs.{needs}
 use Rattle.script6862.proofs.called.Statement.{statement}
 use Rattle.script6862.proofs.called.Tie as tie
 
@@ -8,6 +7,6 @@ pub called-spec : {M : Type 1} → statement M
 called-spec =
     tie.close
     (tie.spec
-    (λ c κs. search needs)
-    (λ c κs. search needs)
+    (λ c κs. tt)
+    (λ c κs. tt)
     (λ c. simp (c .next-line .ensures, c .before .before .call .ensures)))

@@ -11,12 +11,12 @@ found-spec =
     tie.close
     (tie.spec
     (λ c. search needs)
-    (λ c κs. search needs)
+    (λ c κs. tt)
     (λ c. search needs)
-    (λ c κs. search needs)
+    (λ c κs. tt)
     (λ c. search needs)
-    (λ c κs. search needs)
-    (λ c κs. search needs)
+    (λ c κs. tt)
+    (λ c κs. tt)
     (λ c. simp (c .within .ensures, c .before .before .f .given .1))
     (λ c. simp (c .stopped .ensures, c .before .enum-told .given .1))
     (λ c. simp (c .obeyed .ensures, c .before .order-of .ensures, c .before .before .before .f2 .given .1)))

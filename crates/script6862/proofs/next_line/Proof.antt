@@ -1,6 +1,5 @@
 -- `script6862::next_line` meets its contract.
 -- Assumes nothing.
-use borrow.Author.Needs.{needs}
 use Rattle.script6862.proofs.next_line.Statement.{statement}
 use Rattle.script6862.proofs.next_line.Tie as tie
 
@@ -8,6 +7,6 @@ pub next-line-spec : {M : Type 1} → statement M
 next-line-spec =
     tie.close
     (tie.spec
-    (λ c κs. search needs)
-    (λ c κs. search needs)
+    (λ c κs. tt)
+    (λ c κs. tt)
     (λ c. simp (c .one-more .ensures, c .before .line-start .ensures)))

@@ -11,13 +11,13 @@ obeyed-spec =
     tie.close
     (tie.spec
     (λ c. search needs)
-    (λ c κs. search needs)
+    (λ c κs. tt)
     (λ c. search needs)
-    (λ c κs. search needs)
+    (λ c κs. tt)
     (λ c. search needs)
-    (λ c κs. search needs)
+    (λ c κs. tt)
     (λ c. search needs)
-    (λ c κs. search needs)
+    (λ c κs. tt)
     (λ c. simp (c .called .ensures, c .before .before .order .given .1))
     (λ c. simp (c .reported .ensures, c .before .enum-told .given .1))
     (λ c. simp (c .put-at .ensures, c .before .before .order2 .given .1))

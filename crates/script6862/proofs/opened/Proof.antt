@@ -1,6 +1,5 @@
 -- `script6862::opened` meets its contract.
 -- Assumes nothing.
-use borrow.Author.Needs.{needs}
 use Rattle.script6862.specs.Script.{opened}
 use Rattle.script6862.proofs.opened.Statement.{statement}
 use Rattle.script6862.proofs.opened.Tie as tie
@@ -10,5 +9,5 @@ unfolding opened
 opened-spec =
     tie.close
     (tie.spec
-    (λ c κs. search needs)
+    (λ c κs. tt)
     (λ c. simp (c .line-start .ensures)))

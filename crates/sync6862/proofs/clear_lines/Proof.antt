@@ -11,8 +11,8 @@ clear-lines-spec =
     tie.close
     (tie.spec
     (λ c. search needs)
-    (λ c κs. search needs)
+    (λ c κs. tt)
     (λ c. search needs)
-    (λ c κs. search needs)
+    (λ c κs. tt)
     (λ c. simp (c .clear-lines .ensures, c .before .enum-told .given .1))
     (λ c. simp (c .release-lines .ensures, c .before .enum-told2 .given .1)))

@@ -1,6 +1,5 @@
 -- `sync6862::cleared_v` meets its contract.
 -- Assumes nothing.
-use borrow.Author.Needs.{needs}
 use Rattle.sync6862.specs.Unit.{clearedV}
 use Rattle.sync6862.proofs.cleared_v.Statement.{statement}
 use Rattle.sync6862.proofs.cleared_v.Tie as tie
@@ -10,6 +9,6 @@ unfolding clearedV
 cleared-v-spec =
     tie.close
     (tie.spec
-    (λ c κs. search needs)
-    (λ c κs. search needs)
+    (λ c κs. tt)
+    (λ c κs. tt)
     (λ c. simp (c .with-sync .ensures, c .before .clear-overflow .ensures)))

@@ -1,6 +1,5 @@
 -- `sync6862::clocked` meets its contract.
 -- Assumes nothing.
-use borrow.Author.Needs.{needs}
 use Rattle.sync6862.specs.Unit.{clocked}
 use Rattle.sync6862.proofs.clocked.Statement.{statement}
 use Rattle.sync6862.proofs.clocked.Tie as tie
@@ -10,9 +9,9 @@ unfolding clocked
 clocked-spec =
     tie.close
     (tie.spec
-    (λ c κs. search needs)
-    (λ c κs. search needs)
-    (λ c κs. search needs)
-    (λ c κs. search needs)
-    (λ c κs. search needs)
+    (λ c κs. tt)
+    (λ c κs. tt)
+    (λ c κs. tt)
+    (λ c κs. tt)
+    (λ c κs. tt)
     (λ c. simp (c .with-sync .ensures, c .before .on-period .ensures, c .before .before .interval-last .ensures, c .before .before .before .periods-last .ensures, c .before .before .before .before .per-field .ensures)))

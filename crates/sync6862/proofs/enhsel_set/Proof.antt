@@ -1,6 +1,5 @@
 -- `sync6862::enhsel_set` meets its contract.
 -- Assumes nothing.
-use borrow.Author.Needs.{needs}
 use Rattle.sync6862.specs.Unit.{enhselSet}
 use Rattle.sync6862.proofs.enhsel_set.Statement.{statement}
 use Rattle.sync6862.proofs.enhsel_set.Tie as tie
@@ -10,6 +9,6 @@ unfolding enhselSet
 enhsel-set-spec =
     tie.close
     (tie.spec
-    (λ c κs. search needs)
-    (λ c κs. search needs)
+    (λ c κs. tt)
+    (λ c κs. tt)
     (λ c. simp (c .restarted .ensures, c .before .differs .ensures)))

@@ -1,6 +1,5 @@
 -- `sync6862::fresh` meets its contract.
 -- Assumes nothing.
-use borrow.Author.Needs.{needs}
 use borrow.Author.Tests.{ne-eqb}
 use Rattle.sync6862.specs.Unit.{fresh}
 use Rattle.sync6862.proofs.fresh.Statement.{statement}
@@ -11,8 +10,8 @@ unfolding fresh
 fresh-spec =
     tie.close
     (tie.spec
-    (λ c κs. search needs)
-    (λ c κs. search needs)
+    (λ c κs. tt)
+    (λ c κs. tt)
     (λ c. simp (c .fresh-as .ensures, c .before .match .keys1))
     (λ c. simp (c .fresh-as2 .ensures, c .before .match .keys2))
     (λ c. simp (ne-eqb _ _ (c .match .rest .1), ne-eqb _ _ (c .match .rest .0 .1))))

@@ -1,6 +1,5 @@
 -- `sync6862::fresh_as` meets its contract.
 -- Assumes nothing.
-use borrow.Author.Needs.{needs}
 use Rattle.sync6862.specs.Unit.{freshAs}
 use Rattle.sync6862.proofs.fresh_as.Statement.{statement}
 use Rattle.sync6862.proofs.fresh_as.Tie as tie
@@ -10,5 +9,5 @@ unfolding freshAs
 fresh-as-spec =
     tie.close
     (tie.spec
-    (λ c κs. search needs)
+    (λ c κs. tt)
     (λ c. simp (c .zero-sync .ensures)))

@@ -1,6 +1,5 @@
 -- `sync6862::hsel_set` meets its contract.
 -- Assumes nothing.
-use borrow.Author.Needs.{needs}
 use Rattle.sync6862.specs.Unit.{hselSet}
 use Rattle.sync6862.proofs.hsel_set.Statement.{statement}
 use Rattle.sync6862.proofs.hsel_set.Tie as tie
@@ -10,6 +9,6 @@ unfolding hselSet
 hsel-set-spec =
     tie.close
     (tie.spec
-    (λ c κs. search needs)
-    (λ c κs. search needs)
+    (λ c κs. tt)
+    (λ c κs. tt)
     (λ c. simp (c .restarted .ensures, c .before .restarts .ensures)))

@@ -1,6 +1,5 @@
 -- `sync6862::hsync_moved` meets its contract.
 -- Assumes nothing.
-use borrow.Author.Needs.{needs}
 use Rattle.sync6862.specs.Unit.{hsyncMoved}
 use Rattle.sync6862.proofs.hsync_moved.Statement.{statement}
 use Rattle.sync6862.proofs.hsync_moved.Tie as tie
@@ -10,5 +9,5 @@ unfolding hsyncMoved
 hsync-moved-spec =
     tie.close
     (tie.spec
-    (λ c κs. search needs)
+    (λ c κs. tt)
     (λ c. simp (c .on-hsync .ensures)))

@@ -1,6 +1,5 @@
 -- `sync6862::latches` meets its contract.
 -- Assumes nothing.
-use borrow.Author.Needs.{needs}
 use Rattle.sync6862.specs.Unit.{latches}
 use Rattle.sync6862.proofs.latches.Statement.{statement}
 use Rattle.sync6862.proofs.latches.Tie as tie
@@ -10,6 +9,6 @@ unfolding latches
 latches-spec =
     tie.close
     (tie.spec
-    (λ c κs. search needs)
+    (λ c κs. tt)
     (λ c. simp (← (c .before .before .before .well-formed .ensures), c .before .before .if1 .taken))
     (λ c. simp (← (c .before .well-formed .ensures), c .if1 .left)))

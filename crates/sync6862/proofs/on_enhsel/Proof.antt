@@ -12,7 +12,7 @@ on-enhsel-spec =
     (tie.spec
     (λ c. search needs)
     (λ c. search needs)
-    (λ c κs. search needs)
-    (λ c κs. search needs)
+    (λ c κs. tt)
+    (λ c κs. tt)
     (λ c. simp (c .enum-told .given .1))
     (λ c. simp (c .done .ensures, c .before .enhsel-set .ensures, c .before .before .before .part .given .1)))

@@ -1,6 +1,5 @@
 -- `sync6862::on_period` meets its contract.
 -- Assumes nothing.
-use borrow.Author.Needs.{needs}
 use Rattle.sync6862.specs.Unit.{onPeriodTo}
 use Rattle.sync6862.proofs.on_period.Statement.{statement}
 use Rattle.sync6862.proofs.on_period.Tie as tie
@@ -10,7 +9,7 @@ unfolding onPeriodTo
 on-period-spec =
     tie.close
     (tie.spec
-    (λ c κs. search needs)
-    (λ c κs. search needs)
-    (λ c κs. search needs)
+    (λ c κs. tt)
+    (λ c κs. tt)
+    (λ c κs. tt)
     (λ c. simp (c .interval-next .ensures, c .before .step-periods .ensures, c .before .before .lines-on-period .ensures)))

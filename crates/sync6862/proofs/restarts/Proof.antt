@@ -12,6 +12,6 @@ restarts-spec =
     (tie.spec
     (λ c. search needs)
     (λ c. search needs)
-    (λ c κs. search needs)
+    (λ c κs. tt)
     (λ c. simp (c .enum-told .given .1))
     (λ c. simp (c .differs .ensures, c .before .enum-told2 .given .1)))

@@ -1,6 +1,5 @@
 -- `sync6862::step_periods` meets its contract.
 -- Assumes nothing.
-use borrow.Author.Needs.{needs}
 use Rattle.sync6862.specs.Unit.{stepPeriodsTo}
 use Rattle.sync6862.proofs.step_periods.Statement.{statement}
 use Rattle.sync6862.proofs.step_periods.Tie as tie
@@ -10,6 +9,6 @@ unfolding stepPeriodsTo
 step-periods-spec =
     tie.close
     (tie.spec
-    (λ c κs. search needs)
-    (λ c κs. search needs)
+    (λ c κs. tt)
+    (λ c κs. tt)
     (λ c. simp (c .overflowed .ensures, c .before .counted .ensures)))

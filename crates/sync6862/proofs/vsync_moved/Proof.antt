@@ -1,6 +1,5 @@
 -- `sync6862::vsync_moved` meets its contract.
 -- Assumes nothing.
-use borrow.Author.Needs.{needs}
 use Rattle.sync6862.specs.Unit.{vsyncMoved}
 use Rattle.sync6862.proofs.vsync_moved.Statement.{statement}
 use Rattle.sync6862.proofs.vsync_moved.Tie as tie
@@ -10,6 +9,6 @@ unfolding vsyncMoved
 vsync-moved-spec =
     tie.close
     (tie.spec
-    (λ c κs. search needs)
-    (λ c κs. search needs)
+    (λ c κs. tt)
+    (λ c κs. tt)
     (λ c. simp (c .on-vsync .ensures, c .before .per-field .ensures)))

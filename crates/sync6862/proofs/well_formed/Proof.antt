@@ -1,6 +1,5 @@
 -- `sync6862::well_formed` meets its contract.
 -- Assumes nothing.
-use borrow.Author.Needs.{needs}
 use Rattle.sync6862.specs.Unit.{wellFormed}
 use Rattle.sync6862.proofs.well_formed.Statement.{statement}
 use Rattle.sync6862.proofs.well_formed.Tie as tie
@@ -10,7 +9,7 @@ unfolding wellFormed
 well-formed-spec =
     tie.close
     (tie.spec
-    (λ c κs. search needs)
-    (λ c κs. search needs)
-    (λ c κs. search needs)
+    (λ c κs. tt)
+    (λ c κs. tt)
+    (λ c κs. tt)
     (λ c. simp (c .well .ensures, c .before .interval-last .ensures, c .before .before .periods-last .ensures)))
