@@ -21,7 +21,7 @@ same() {
 }
 
 seed=${SEED:-1}
-count=${COUNT:-50000}
+count=${COUNT:-25000}
 lines=0
 for _ in 1 2 3 4; do
     "$model" script "$seed" "$count" > "$work/seed $seed"
@@ -42,9 +42,9 @@ for bad in x 'h' 'h 0 0' 'h  0 ' ' h 0' 'clrh 0' 'clrv ' 'field 1' 'put 12 0' 'p
     malformed=$((malformed + 1))
 done
 
-# the README's example
-awk '/^```sh$/ {inside = 1; next} /^```$/ {inside = 0} inside && /counters6862/' README.md > "$work/example.sh"
-awk '/^```text$/ {inside = 1; next} /^```$/ {inside = 0} inside && /^0 6862 /' README.md > "$work/example"
+# the README's example, as written there
+sed -n 's/^    \(printf .*counters6862\)$/\1/p' README.md > "$work/example.sh"
+sed -n 's/^    \([0-9]* 686[12] .*\)$/\1/p' README.md > "$work/example"
 [ -s "$work/example.sh" ] && [ -s "$work/example" ] || { echo "counters6862: no example in README.md"; exit 1; }
 bash "$work/example.sh" | cmp - "$work/example" || { echo "counters6862: the example of README.md differs"; exit 1; }
 

@@ -1,5 +1,6 @@
 pub mod AsSync
 pub mod Steps
+pub mod Chips
 pub mod Effects
 pub mod Zeroed
 pub mod Since

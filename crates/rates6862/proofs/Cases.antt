@@ -11,10 +11,11 @@ use Rattle.sync6862.specs.declared.Part.the-variants.{Nt6861, Nt6862}
 use Rattle.sync6862.specs.declared.Counters.{Counters}
 use Rattle.sync6862.specs.Unit.{periodsLast, intervalLast, wellFormed}
 use Rattle.sync6862.proofs.WellFormed.{within}
-use Rattle.rates.specs.Hertz.{Exactly, fieldHz}
+use lib.Ieee.{Float}
+use Rattle.rates.specs.Hertz.{Between, fieldHz}
 use Rattle.rates.specs.Report.{told, byPeriods}
 use Rattle.rates.specs.declared.Rate.{Rate}
-use Rattle.rates.specs.declared.Rate.the-variants.{IllFormed, NothingLatched, Overflow}
+use Rattle.rates.specs.declared.Rate.the-variants.{IllFormed, NothingLatched, Overflow, FieldRate}
 use Rattle.rates.proofs.Hertz.{field-between}
 use Rattle.rates.proofs.Cases.{positive, told-case}
 use Rattle.rates6862.specs.Report.{fieldReport, lowest, FieldCase}
@@ -48,3 +49,8 @@ field-case s = field-by s (wellFormed s) refl
 -- a rate that is the report, with what its case says
 pub field-says : (s : Counters) (r : Rate) → r ≡ fieldReport s → (r ≡ fieldReport s) × FieldCase s r
 field-says s r e = (e, rw e (field-case s))
+
+-- a rate that is reported is 125,000 divided by the latch, rounded once, and lies between the chip's lowest and 125,000
+pub rate-between : (s : Counters) (x : Float) → fieldReport s ≡ FieldRate x → (x ≡ fieldHz (s .sync .periods .latch)) × Between (lowest (s .part)) 125000 x
+unfolding FieldCase
+rate-between s x e = let c : FieldCase s (FieldRate x) = rw e at (field-case s) in (c .1, c .2)
