@@ -1,7 +1,7 @@
 #!/usr/bin/env bash
 # Compares `counters6862`, as `rt ci` built it, with the independent model of the counters: generated scripts of four seeds, the hand-worked
 # lines of crates/counters6862, malformed lines, and the example of the README; then the calls of the C interface, linked from their
-# static library, with the same model. A difference prints the line and both outputs.
+# static library, from C by the header and, beside the same model, from Rust. A difference prints the line and both outputs.
 set -euo pipefail
 cd "$(dirname "$0")/.."
 work=$(mktemp -d)
@@ -49,6 +49,8 @@ sed -n 's/^    \([0-9]* 686[12] .*\)$/\1/p' README.md > "$work/example"
 bash "$work/example.sh" | cmp - "$work/example" || { echo "counters6862: the example of README.md differs"; exit 1; }
 
 rt staticlib sync6862_capi > "$work/log" 2>&1 || { cat "$work/log"; exit 1; }
+cc -std=c99 -Wall -Wextra -Werror -Iinclude -o "$work/c" tests/counters6862.c target/staticlib/libsync6862_capi.a
+"$work/c"
 cargo build --offline --quiet --release --features proved --bin calls6862
 echo "counters6862 agrees: $lines lines of scripts, $malformed scripts with a line of every form"
 target/cargo/release/calls6862

@@ -15,6 +15,7 @@ use Rattle.sync6862.specs.declared.Start.the-variants.{Made}
 use Rattle.sync6862.specs.declared.Call.{Call}
 use Rattle.sync6862.specs.declared.Call.the-variants.{Hsynci, Vsynci, Clock, Enhsel, Hsel, ClearH, ClearV}
 use Rattle.sync6862.specs.Unit.{periodsLast, intervalLast, perField, restarts, stepPeriodsTo, intervalNextTo, linesOnPeriodTo, onPeriodTo, wellTo, wellFormed, clearLinesOf, hsyncMoved, vsyncMoved, clocked, hselSet, clearedH, clearedV, onEnhsel, answered, answer, freshAs, fresh}
+use Rattle.sync.proofs.WellFormed.{zero-well}
 use Rattle.sync6862.proofs.WellFormed.{well-kept}
 use Rattle.counting6862.specs.Counting.{run}
 use Rattle.counting6862.specs.Base.{Base, baseStep, baseRun, baseFresh, unitOf}
@@ -48,7 +49,11 @@ runs-same b (call ∷ calls) w =
     let kept = well-kept (unitOf b) call (well-same b ∙ w) in
     rw same (runs-same (baseStep b call) calls (sym (well-same (baseStep b call)) ∙ rw same at kept))
 
--- from fresh, any list of calls
+-- from fresh
 pub fresh-same : fresh 6861 ≡ Made (unitOf baseFresh)
 unfolding fresh freshAs
 fresh-same = refl
+
+pub fresh-runs-same : (calls : List Call) → run (freshAs Nt6861) calls ≡ unitOf (baseRun baseFresh calls)
+unfolding freshAs
+fresh-runs-same calls = runs-same baseFresh calls zero-well

@@ -134,19 +134,3 @@ periods-effect s (Enhsel new) h = enhsel-periods (s .part) s new
 periods-effect s (Hsel new) h = restarted-periods (restarts (s .part) (s .hsel) new) (s .sync)
 periods-effect s ClearH h = refl
 periods-effect s ClearV h = cc
-
--- a state stays with its chip, so that VCNT keeps its last value
-enhsel-last : (part : Part) (s : Counters) (new : Bool) → s .part ≡ part → periodsLast (onEnhsel part s new .state .part) ≡ periodsLast part
-unfolding onEnhsel enhselSet periodsLast
-enhsel-last Nt6861 s new e = rw e
-enhsel-last (Nt6862 old) s new e = refl
-
-pub last-kept : (s : Counters) (call : Call) → periodsLast (answered s call .state .part) ≡ periodsLast (s .part)
-unfolding answered hsyncMoved vsyncMoved clocked hselSet clearedH clearedV
-last-kept s (Hsynci level) = refl
-last-kept s (Vsynci level) = refl
-last-kept s Clock = refl
-last-kept s (Enhsel new) = enhsel-last (s .part) s new refl
-last-kept s (Hsel new) = refl
-last-kept s ClearH = refl
-last-kept s ClearV = refl

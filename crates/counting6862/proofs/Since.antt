@@ -21,7 +21,8 @@ use Rattle.sync6862.specs.Unit.{periodsLast, intervalLast, perField, stepPeriod
 use Rattle.sync6862.proofs.WellFormed.{well-kept}
 use Rattle.counting6862.specs.Counting.{run, clocks, stepsPeriodsTo, risesHsynci, hsynciAfter, hsyncRises, isClock, periodClocks, zeroesLines, releasesLines, zeroesPeriods, breaksLines, never}
 use Rattle.counting6862.proofs.Steps.{lines-more, periods-more, periods-since-zero, lines-stand}
-use Rattle.counting6862.proofs.Effects.{done, lines-effect, hsynci-effect, periods-effect, last-kept}
+use Rattle.counting6862.proofs.Effects.{done, lines-effect, hsynci-effect, periods-effect}
+use Rattle.counting6862.proofs.Chips.{last-kept}
 use Rattle.counting6862.proofs.Zeroed.{lines-zeroed, periods-zeroed}
 
 none : (x y : Bool) → (not x && y) ≡ true → (x ≡ false) × (y ≡ true)
@@ -50,10 +51,9 @@ unfolding run stepsPeriodsTo never
 periods-stepped s [] w q = refl
 periods-stepped s (call ∷ calls) w q =
     let h = none (zeroesPeriods s call) _ q in
-    let last : ℕ = periodsLast (s .part) in
     let e : answer s call .state .sync .periods ≡ pick (isClock call) (stepPeriodsTo (periodsLast (s .part)) (s .sync .periods)) (s .sync .periods) =
     ap (λ (o : Outcome). o .state .sync .periods) (done s call w) ∙ periods-effect s call (h .0) in
-    let l : periodsLast (answer s call .state .part) ≡ periodsLast (s .part) = ap (λ (o : Outcome). periodsLast (o .state .part)) (done s call w) ∙ last-kept s call in
+    let l = last-kept s call in
     periods-stepped (answer s call .state) calls (well-kept s call w) (h .1)
     ∙ rw (e, l) (periods-more (periodsLast (s .part)) (isClock call) _ (s .sync .periods))
 

@@ -33,7 +33,7 @@ readerAt place word count first = record { place = place; word = word; count = c
 abbrev pub lineStart : Reader
 lineStart = readerAt Start 0 0 0
 
--- a letter more of a word, five bits each; it has six letters at most
+-- a letter more of a word, five bits each, which hold 1 to 26; it has six letters at most
 unfoldable pub lettered : ℕ → ℕ → Found
 lettered word l = pick (ltb word 33554432) (Within (readerAt Word (word * 32 + l % 32) 0 0)) Refused
 
@@ -44,7 +44,7 @@ begun r d =
     (Within (record { place = Number; word = r .word; count = r .count + 1; first = r .first; value = d }))
     Refused
 
--- a digit more of a number, which is at most 999,999,999
+-- a digit, which is below ten, more of a number, which is at most 999,999,999
 unfoldable pub grown : Reader → ℕ → Found
 grown r d =
     pick (ltb (r .value) 100000000)

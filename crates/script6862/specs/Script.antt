@@ -54,7 +54,8 @@ rateNumber Overflow = 0
 rateNumber (FieldRate x) = 0
 rateNumber (LineRate x) = 0
 
--- a call, the report, and a number put in its place
+-- a call, the report, and a number put in its place: an order's place is below twelve and its number has 16 bits, so that the remainders
+-- change neither
 abbrev pub calledWith : Progress → ℕ → ℕ → Step
 calledWith p code value =
     record { progress = nextLine p (numbers.call (p .numbers) code value .numbers); event = Answer (numbers.call (p .numbers) code value .number) }

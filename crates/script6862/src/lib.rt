@@ -124,7 +124,7 @@ fn reported(p: Progress) -> Step
     }
 }
 
-// A number put in its place; what is no place or no number of 16 bits is none.
+// A number put in its place. An order's place is below twelve and its number has 16 bits, so that the remainders change neither.
 fn put_at(p: Progress, place: u32, value: u32) -> Step
     ensures { λ n. ⌜ n ≡ putAt p place value ⌝ }
 {
