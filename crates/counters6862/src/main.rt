@@ -12,26 +12,12 @@ struct Turn {
     more: bool,
 }
 
-fn wide(n: u16) -> u64 {
-    n as u64
-}
-
-fn print_next(n: u16) {
-    io::write_all(STDOUT_FILENO, b" ");
-    io::print_decimal(STDOUT_FILENO, wide(n));
-}
-
-fn print_numbers(n: [u16; 12]) {
-    let mut i = 0;
-    while i < 12 {
-        print_next(n[i]);
-        i += 1;
-    }
-}
-
+// The number and the twelve numbers.
 fn print_answer(number: u8, n: [u16; 12]) {
-    io::print_decimal(STDOUT_FILENO, number as u64);
-    print_numbers(n);
+    let line = lines6862::line(number, n);
+    let bytes = line.bytes;
+    let count = line.count;
+    io::write_all(STDOUT_FILENO, &bytes[..count]);
 }
 
 fn print_half(w: u32) {
