@@ -1,4 +1,5 @@
-/* Calls of the proved libraries for programs in C. A slice of the library passes as a pointer and a length. */
+/* Calls of the proved libraries for programs in C. A slice of a library passes as a pointer and a length. A library NAME is made by
+ * `rt staticlib NAME` as target/staticlib/libNAME.a. */
 #ifndef NT6861_H
 #define NT6861_H
 
@@ -30,6 +31,26 @@ uint8_t nt6861_vcd_more(const uint8_t *file, size_t size, uint32_t *words, size_
                         uint64_t *told, size_t told_places);
 
 /* END vcd_capi */
+
+/* ---- sync6862_capi: the sync counters of the NT6861 or the NT6862, in twelve numbers that the caller lends:
+ *
+ *   0 chip (6861, 6862)    1 HSYNCI    2 VSYNCI    3 HCNT    4 its overflow bit    5 VCNT    6 its overflow bit
+ *   7 H latch    8 V latch    9 interval    10 HSEL    11 ENHSEL (0 on the NT6861)
+ *
+ * nt6862_counters gives a call to the state that the numbers are and writes the state after it in their place:
+ *
+ *   call 0  a fresh state for the chip that value names, whatever the numbers are
+ *   call 1  HSYNCI is value        call 2  VSYNCI is value       call 3  value 8 us clocks
+ *   call 4  ENHSEL is value        call 5  HSEL is value         call 6  clear H       call 7  clear V (value 0 for both)
+ *
+ * It returns 0 where that is done. Else it writes nothing and returns 15 for a length that is not 12; then, for call 0, 23 for a
+ * chip that is neither; for each other call 8 for numbers that are no well formed state, 1 for a call above 7, 2 for ENHSEL on the
+ * NT6861, 3 for a value outside its range, in that order. */
+uint8_t nt6862_counters(uint16_t *state, size_t length, uint32_t call, uint32_t value);
+
+/* The field rate of such numbers in Hz, from 7 to 125000; or 0: nothing latched, -1: VCNT in overflow, -8: numbers that are no well
+ * formed state, -15: a length that is not 12. */
+double nt6862_field_rate(const uint16_t *state, size_t length);
 
 #ifdef __cplusplus
 }

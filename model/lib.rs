@@ -4,6 +4,7 @@
 //! shares no code with the proved crates.
 
 pub mod chip;
+pub mod counters6862;
 pub mod coverage;
 pub mod edid;
 pub mod replay;

@@ -27,7 +27,7 @@ or-false true = refl
 or-false false = refl
 
 -- what is told, by the tests in their order
-told-case : (Says : Rate → Type 0) (overflow unlatched : Bool) (rate : Rate)
+pub told-case : (Says : Rate → Type 0) (overflow unlatched : Bool) (rate : Rate)
     → (overflow ≡ true → Says Overflow) → (overflow ≡ false → unlatched ≡ true → Says NothingLatched) → (overflow ≡ false → unlatched ≡ false → Says rate)
     → Says (told overflow unlatched rate)
 told-case Says true unlatched rate over none good = over refl

@@ -19,7 +19,7 @@ pub enum Rate {
 
 // The field rate of a VCNT latch: one division, so one rounding.
 fn field_hz(v: Periods) -> f64
-    requires { ⌜ (1 ≤ v .0) × (v .0 < 4096) ⌝ }
+    requires { ⌜ 1 ≤ v .0 ⌝ }
     ensures { λ r. ⌜ r ≡ fieldHz v ⌝ }
 {
     125000.0 / (v.0 as f64)
@@ -49,9 +49,9 @@ fn line_hz(h: Lines, v: Periods) -> f64
     lines_product(h) / (v.0 as f64)
 }
 
-// The field rate from VCNT, or why there is none.
-fn by_periods(v: PeriodCounter) -> Rate
-    requires { ⌜ v .latch .0 < 4096 ⌝ }
+// The field rate from VCNT of any width, or why there is none.
+// Wrong answers: 125,001 divided by the latch; a latch of 0 told before an overflow.
+pub fn by_periods(v: PeriodCounter) -> Rate
     ensures { λ r. ⌜ r ≡ byPeriods v ⌝ }
 {
     if v.overflow {

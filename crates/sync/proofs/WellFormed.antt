@@ -51,15 +51,15 @@ counted-fits overflow count h = let most = counted-within 4095 count overflow (o
 
 -- ---- HCNT and VCNT
 
-step-lines-fits : (c : LineCounter) → LinesFit c → LinesFit (stepLines c)
+pub step-lines-fits : (c : LineCounter) → LinesFit c → LinesFit (stepLines c)
 unfolding stepLines
 step-lines-fits c h = record { count = counted-fits _ _ (h .count); latch = h .latch }
 
-latch-lines-fits : (c : LineCounter) → LinesFit c → LinesFit (latchLines c)
+pub latch-lines-fits : (c : LineCounter) → LinesFit c → LinesFit (latchLines c)
 unfolding latchLines
 latch-lines-fits c h = record { count = zeroed-below 4096 _ _ (h .count); latch = latched-below 4096 _ _ _ (h .count) (h .latch) }
 
-clear-lines-fits : (bit : Bool) (c : LineCounter) → LinesFit c → LinesFit (clearLines bit c)
+pub clear-lines-fits : (bit : Bool) (c : LineCounter) → LinesFit c → LinesFit (clearLines bit c)
 unfolding clearLines
 clear-lines-fits true c h = record { count = omega arith; latch = h .latch }
 clear-lines-fits false c h = h
@@ -77,12 +77,12 @@ unfolding clearPeriods
 clear-periods-fits true c h = record { count = omega arith; latch = h .latch }
 clear-periods-fits false c h = h
 
-lines-on-vsync-fits : (hsel : Bool) (c : LineCounter) → LinesFit c → LinesFit (linesOnVsync hsel c)
+pub lines-on-vsync-fits : (hsel : Bool) (c : LineCounter) → LinesFit c → LinesFit (linesOnVsync hsel c)
 unfolding linesOnVsync
 lines-on-vsync-fits true c h = latch-lines-fits c h
 lines-on-vsync-fits false c h = h
 
-interval-end-fits : (below : Bool) (c : LineCounter) → LinesFit c → LinesFit (pick below c (latchLines c))
+pub interval-end-fits : (below : Bool) (c : LineCounter) → LinesFit c → LinesFit (pick below c (latchLines c))
 interval-end-fits true c h = h
 interval-end-fits false c h = latch-lines-fits c h
 

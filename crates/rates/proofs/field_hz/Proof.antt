@@ -14,4 +14,4 @@ field-hz-spec =
     tie.close
     (tie.spec
     (λ c. search needs)
-    (λ c. div-whole _ 125000 (c .before .args .v .0) (refl, refl) (lit< tt) (c .before .pre .0) (omega arith)))
+    (λ c. div-whole _ 125000 (c .before .args .v .0) (refl, refl) (lit< tt) (c .before .pre) (omega arith)))

@@ -1,7 +1,5 @@
 -- `rates::field_rate` meets its contract.
 use borrow.Author.Needs.{needs}
-use mathlib.Core.Path.{sym, _∙_}
-use Rattle.sync.proofs.WellFormed.{fits}
 use Rattle.rates.specs.Report.{fieldReport}
 use Rattle.rates.proofs.Cases.{field-says}
 use Rattle.rates.proofs.field_rate.Statement.{statement}
@@ -13,6 +11,6 @@ field-rate-spec =
     tie.close
     (tie.spec
     (λ c κs. search needs)
-    (λ c κs. fits _ (sym (c .before .before .well-sync .ensures) ∙ c .before .if1 .taken) .periods .latch)
+    (λ c κs. search needs)
     (λ c. field-says _ _ (simp (c .by-periods .ensures, ← (c .before .before .before .well-sync .ensures), c .before .before .if1 .taken)))
     (λ c. field-says _ _ (simp (← (c .before .well-sync .ensures), c .if1 .left))))

@@ -1,0 +1,17 @@
+-- `lines6862::push` meets its contract.
+-- Assumes nothing.
+use borrow.Author.Needs.{needs}
+use borrow.Author.Tests.{lt-ltb, le-ltb}
+use Rattle.lines6862.specs.Text.{pushed}
+use Rattle.lines6862.proofs.push.Statement.{statement}
+use Rattle.lines6862.proofs.push.Tie as tie
+
+pub push-spec : {M : Type 1} → statement M
+unfolding pushed
+push-spec =
+    tie.close
+    (tie.spec
+    (λ c. search needs)
+    (λ c. search needs)
+    (λ c. simp (lt-ltb _ _ (c .if1 .taken)))
+    (λ c. simp (le-ltb _ _ (c .if1 .left))))

@@ -1,0 +1,3 @@
+pub mod Times
+pub mod RoundTrip
+pub mod Refusals

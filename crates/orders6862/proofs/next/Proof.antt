@@ -1,0 +1,12 @@
+-- `orders6862::next` meets its contract.
+-- Assumes nothing.
+use Rattle.orders6862.proofs.next.Statement.{statement}
+use Rattle.orders6862.proofs.next.Tie as tie
+
+pub next-spec : {M : Type 1} → statement M
+next-spec =
+    tie.close
+    (tie.spec
+    (λ c κs. tt)
+    (λ c κs. tt)
+    (λ c. simp (c .next-at .ensures, c .before .symbol-of .ensures)))

@@ -1,0 +1,3 @@
+pub mod Tests
+pub mod WellFormed
+pub mod Numbers

@@ -1,0 +1,56 @@
+#!/usr/bin/env bash
+# Compares `counters6862`, as `rt ci` built it, with the independent model of the counters: generated scripts of four seeds, the hand-worked
+# lines of crates/counters6862, malformed lines, and the example of the README; then the calls of the C interface, linked from their
+# static library, from C by the header and, beside the same model, from Rust. A difference prints the line and both outputs.
+set -euo pipefail
+cd "$(dirname "$0")/.."
+work=$(mktemp -d)
+trap 'rm -rf "$work"' EXIT
+cargo build --offline --quiet --release --bin model6862
+model=target/cargo/release/model6862
+program=target/bin/counters6862
+
+# same NAME: the program's lines and the model's for the script of that name
+same() {
+    "$program" < "$work/$1" > "$work/proved"
+    "$model" run < "$work/$1" > "$work/expected"
+    cmp -s "$work/proved" "$work/expected" && return
+    echo "counters6862: $1 differs; the first lines of the difference (program <, model >):"
+    diff "$work/proved" "$work/expected" | head -n 4
+    exit 1
+}
+
+seed=${SEED:-1}
+count=${COUNT:-25000}
+lines=0
+for _ in 1 2 3 4; do
+    "$model" script "$seed" "$count" > "$work/seed $seed"
+    same "seed $seed"
+    lines=$((lines + count))
+    seed=$((seed + 1))
+done
+
+cp crates/counters6862/stdin "$work/hand-worked"
+same hand-worked
+cmp -s "$work/expected" crates/counters6862/stdout || { echo "counters6862: the model differs from the hand-worked lines"; exit 1; }
+
+malformed=0
+for bad in x 'h' 'h 0 0' 'h  0 ' ' h 0' 'clrh 0' 'clrv ' 'field 1' 'put 12 0' 'put 0 65536' 'put 0' 'put 0 0 0' 'clock -1' 'clock' 'h 1000000000' 'H 0' 'freshen 6862' \
+    'enhsels 1' '#' '' 'h0' 'h 0#'; do
+    printf 'fresh 6862\n%s\nh 0' "$bad" > "$work/line '$bad'"
+    same "line '$bad'"
+    malformed=$((malformed + 1))
+done
+
+# the README's example, as written there
+sed -n 's/^    \(printf .*counters6862\)$/\1/p' README.md > "$work/example.sh"
+sed -n 's/^    \([0-9]* 686[12] .*\)$/\1/p' README.md > "$work/example"
+[ -s "$work/example.sh" ] && [ -s "$work/example" ] || { echo "counters6862: no example in README.md"; exit 1; }
+bash "$work/example.sh" | cmp - "$work/example" || { echo "counters6862: the example of README.md differs"; exit 1; }
+
+rt staticlib sync6862_capi > "$work/log" 2>&1 || { cat "$work/log"; exit 1; }
+cc -std=c99 -Wall -Wextra -Werror -Iinclude -o "$work/c" tests/counters6862.c target/staticlib/libsync6862_capi.a
+"$work/c"
+cargo build --offline --quiet --release --features proved --bin calls6862
+echo "counters6862 agrees: $lines lines of scripts, $malformed scripts with a line of every form"
+target/cargo/release/calls6862
