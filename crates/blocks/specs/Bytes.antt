@@ -10,6 +10,10 @@ use Rattle.bits.specs.Byte.{pick}
 abbrev pub Bytes : List ℕ → Type 0
 Bytes xs = (i : ℕ) → getD xs i 0 < 256
 
+-- every element is a word of 32 bits
+abbrev pub Words32 : List ℕ → Type 0
+Words32 ws = (i : ℕ) → getD ws i 0 < 4294967296
+
 -- a number in two bytes, and in four
 abbrev pub twoBytes : ℕ → List ℕ
 twoBytes n = n % 256 ∷ n / 256 ∷ []
