@@ -49,8 +49,7 @@ more-words due b rest e = rw (eq-eqb _ _ e)
 pub read-written : (ws : List ℕ) → (readWords 0 (blocksOf (recordingOf ws)) ≡ ws) × (readNumber 0 (blocksOf (recordingOf ws)) ≡ 0)
 unfolding recordingOf
 read-written ws =
-    let same : blocksOf (joined (numbered 0 (parts ws))) ≡ numbered 0 (parts ws) = blocks-joined (numbered 0 (parts ws)) (numbered-sized 0 (parts ws) (parts-at-most ws)) in
-    (
+    let same : blocksOf (joined (numbered 0 (parts ws))) ≡ numbered 0 (parts ws) = blocks-joined (numbered 0 (parts ws)) (numbered-sized 0 (parts ws) (parts-at-most ws)) in (
       ap (readWords 0) same ∙ read-numbered 0 (parts ws) (parts-at-most ws) ∙ joined-parts ws,
       ap (readNumber 0) same ∙ accept-numbered 0 (parts ws) (parts-at-most ws),
     )
@@ -128,8 +127,7 @@ pub accepted-written : (bytes : List ℕ) → Bytes bytes → readNumber 0 (bloc
     → (bytes ≡ joined (numbered 0 (map blockWords (blocksOf bytes)))) × (length (blocksOf bytes) ≤ 65536)
 unfolding blocksOf
 accepted-written bytes k e =
-    let inside : BytesIn (blocksOf bytes) = cut-bytes 512 _ bytes k in
-    (
+    let inside : BytesIn (blocksOf bytes) = cut-bytes 512 _ bytes k in (
       sym (joined-blocks bytes) ∙ ap joined (accepted-blocks 0 (blocksOf bytes) inside (cut-at-most 512 _ bytes) e),
       omega (arith, accepted-few 0 (blocksOf bytes) inside (omega arith) e),
     )
