@@ -1,0 +1,4 @@
+pub mod Place
+pub mod Lines
+pub mod Calls
+pub mod Replaying
