@@ -2,3 +2,4 @@ pub mod Place
 pub mod Lines
 pub mod Calls
 pub mod Replaying
+pub mod Recordings

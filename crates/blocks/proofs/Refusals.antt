@@ -40,6 +40,20 @@ pub numbers : (due : ℕ) (b : List ℕ)
 unfolding refusal
 numbers due b = by-tests (ltb (length b) 512) (eqb (sumOf b) (sum (take 508 b))) (eqb (numberOf b) due) (ltb (countOf b) 127) (allZero (unused b))
 
+-- a refusal is one of five numbers
+range-of : (short added numbered counted zero : Bool) → (tested short added numbered counted zero ≡ 0 → ⊥)
+    → (10 ≤ tested short added numbered counted zero) × (tested short added numbered counted zero ≤ 14)
+range-of true added numbered counted zero h = (omega arith, omega arith)
+range-of false false numbered counted zero h = (omega arith, omega arith)
+range-of false true false counted zero h = (omega arith, omega arith)
+range-of false true true false zero h = (omega arith, omega arith)
+range-of false true true true false h = (omega arith, omega arith)
+range-of false true true true true h = absurd (h refl)
+
+pub refusal-range : (due : ℕ) (b : List ℕ) → (refusal due b ≡ 0 → ⊥) → (10 ≤ refusal due b) × (refusal due b ≤ 14)
+unfolding refusal
+refusal-range due b = range-of (ltb (length b) 512) (eqb (sumOf b) (sum (take 508 b))) (eqb (numberOf b) due) (ltb (countOf b) 127) (allZero (unused b))
+
 -- an accepted block
 pub record Good (due : ℕ) (b : List ℕ) : Type 0 where
   pub full : 512 ≤ length b

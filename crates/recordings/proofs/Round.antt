@@ -101,7 +101,7 @@ by-test : (n m : ℕ) → pick (eqb n 0) m n ≡ 0 → (n ≡ 0) × (m ≡ 0)
 by-test zero m e = (refl, e)
 by-test (suc n) m e = absurd (let z : suc n ≡ 0 = rw (eqb·suc-zero n) at e in omega arith)
 
-accepted-first : (due : ℕ) (b : List ℕ) (rest : List (List ℕ)) → readNumber due (b ∷ rest) ≡ 0 → (refusal due b ≡ 0) × (readNumber (due + 1) rest ≡ 0)
+pub accepted-first : (due : ℕ) (b : List ℕ) (rest : List (List ℕ)) → readNumber due (b ∷ rest) ≡ 0 → (refusal due b ≡ 0) × (readNumber (due + 1) rest ≡ 0)
 unfolding readNumber
 accepted-first due b rest e = by-test (refusal due b) (readNumber (due + 1) rest) e
 
