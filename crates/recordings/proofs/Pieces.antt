@@ -81,3 +81,16 @@ unfolding blocksOf cut
 blocks-nil bytes h =
     let n : (length bytes + 511) / 512 ≡ 0 = omega arith in
     ap (λ (m : ℕ). cut 512 m bytes) n
+
+-- the first part of a list of words, and those behind it
+pub parts-cons : (ws : List ℕ) → 0 < length ws → parts ws ≡ take 126 ws ∷ parts (drop 126 ws)
+unfolding parts cut
+parts-cons ws h =
+    let n : (length ws + 125) / 126 ≡ suc ((length (drop 126 ws) + 125) / 126) = omega (arith, length-drop 126 ws) in
+    ap (λ (m : ℕ). cut 126 m ws) n
+
+pub parts-nil : (ws : List ℕ) → length ws ≡ 0 → parts ws ≡ []
+unfolding parts cut
+parts-nil ws h =
+    let n : (length ws + 125) / 126 ≡ 0 = omega arith in
+    ap (λ (m : ℕ). cut 126 m ws) n
