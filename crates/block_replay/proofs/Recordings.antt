@@ -2,12 +2,14 @@
 -- a recording in parts.
 -- Assumes nothing.
 use mathlib.Core.Path.{_≡_, refl, sym, ap, ap₂, _∙_}
-use mathlib.Core.Bool.{true, false}
+use mathlib.Core.Bool.{Bool, true, false}
 use mathlib.Core.List.{List, [], _∷_, _++_, map, append-nil, append-assoc}
-use Prim.Native.Nat.{ℕ, _+_, _*_, _≤_}
+use Prim.Native.Nat.{ℕ, _+_, _*_, _/_, _≤_}
 use native.Mathlib.Omega.{arith}
-use lib.ListN.{length, take, drop}
+use lib.Dec.{ltb}
+use lib.ListN.{length, take, drop, length-append}
 use lib.Seq.{take-at}
+use Rattle.bits.specs.Byte.{pick}
 use Rattle.hex.specs.Hex.{hexLine}
 use Rattle.answers.specs.Answer.{answerWord}
 use Rattle.chip.specs.declared.Chip.{Chip}
@@ -19,7 +21,8 @@ use Rattle.blocks.specs.Block.{blockWords, refusal}
 use Rattle.recordings.specs.Recording.{blocksOf, joined, recordingOf, readWords, readNumber, readNext}
 use Rattle.recordings.proofs.Round.{read-written}
 use Rattle.recordings.proofs.Joined.{accepted-words, accepted-next, onward, stopped, bad-block, bad-number, blocks-append}
-use Rattle.block_replay.specs.Replay.{wordsFrom, numberFrom, lastAnswer, blockAnswers, hexLines, blockText, replayed, textLeft}
+use Rattle.block_replay.specs.Replay.{wordsFrom, numberFrom, lastAnswer, blockAnswers, hexLines, blockText, refusedReplay, replayed, textLeft}
+use Rattle.block_replay.specs.declared.Replayed.{Replayed}
 use Rattle.block_replay.proofs.Lines.{lines-append}
 use Rattle.block_replay.proofs.Calls.{call-chip, call-answers}
 use Rattle.block_replay.proofs.Replaying.{no-last, one-last}
@@ -109,3 +112,19 @@ module _ (c : Chip) (due n : ℕ) (xs ys : List ℕ) (h : length xs ≡ 512 * n)
         ap₂ (λ (x : List ℕ) (y : ℕ). advancedAnswers c x ++ lastAnswer y) ws (ap (readNumber due) b ∙ s .number),
         ap (advanced c) ws,
       )
+
+-- ---- the text written is within its places
+
+count-by : (well many short : Bool) (c d : Chip) (due next number : ℕ) (text places : List ℕ)
+    → pick well (pick many (refusedReplay c due 7) (pick short (refusedReplay c due 7) (record { chip = d; next = next; count = length text; number = number }))) (refusedReplay c due 8) .count
+    ≤ length (pick well (pick many places (pick short places (text ++ drop (length text) places))) places)
+count-by false many short c d due next number text places = omega arith
+count-by true true short c d due next number text places = omega arith
+count-by true false true c d due next number text places = omega arith
+count-by true false false c d due next number text places = omega (arith, length-append text (drop (length text) places))
+
+pub count-within : (c : Chip) (due : ℕ) (bytes places new : List ℕ) (r : Replayed) → r ≡ replayed c due bytes places → new ≡ textLeft c due bytes places → r .count ≤ length new
+unfolding replayed textLeft
+count-within c due bytes places new r p q =
+    rw (p, q) (count-by (wellFormed c) (ltb 128 (length bytes / 512)) (ltb (length places) (length (blockText c due bytes))) c (advanced c (wordsFrom due bytes)) due
+    (readNext due (blocksOf bytes)) (numberFrom due bytes) (blockText c due bytes) places)

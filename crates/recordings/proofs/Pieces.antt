@@ -6,7 +6,7 @@ use Prim.Native.Nat.{ℕ, zero, suc, _+_, _*_, _/_, _<_, _≤_}
 use native.Mathlib.Omega.{arith}
 use native.Mathlib.Nat.{suc-mul}
 use lib.ListN.{length, take, drop, getD, length-append, length-drop, length-take, take-append-drop}
-use lib.Seq.{take-at, drop-at, length-take-le}
+use lib.Seq.{take-at, drop-at, take-append-le, drop-append-le}
 use Rattle.recordings.specs.Recording.{cut, parts, blocksOf, joined}
 
 -- every piece of this length, or of at most this
@@ -94,3 +94,22 @@ unfolding parts cut
 parts-nil ws h =
     let n : (length ws + 125) / 126 ≡ 0 = omega arith in
     ap (λ (m : ℕ). cut 126 m ws) n
+
+pub length-cut : (size n : ℕ) (xs : List ℕ) → length (cut size n xs) ≡ n
+unfolding cut
+length-cut size zero xs = refl
+length-cut size (suc n) xs = ap suc (length-cut size n (drop size xs))
+
+pub length-parts : (ws : List ℕ) → length (parts ws) ≡ (length ws + 125) / 126
+unfolding parts
+length-parts ws = length-cut 126 ((length ws + 125) / 126) ws
+
+-- words in two lists, the first of whole blocks
+pub parts-append : (n : ℕ) (ws vs : List ℕ) → length ws ≡ 126 * n → parts (ws ++ vs) ≡ parts ws ++ parts vs
+parts-append zero [] vs h = rw (parts-nil [] refl)
+parts-append zero (w ∷ ws) vs h = absurd (omega arith)
+parts-append (suc n) ws vs h =
+    parts-cons (ws ++ vs) (omega (arith, length-append ws vs))
+    ∙ ap₂ (λ (x : List ℕ) (r : List (List ℕ)). x ∷ r) (take-append-le 126 ws vs (omega arith))
+    (ap parts (drop-append-le 126 ws vs (omega arith)) ∙ parts-append n (drop 126 ws) vs (length-drop 126 ws ∙ omega arith))
+    ∙ ap (λ (t : List (List ℕ)). t ++ parts vs) (sym (parts-cons ws (omega arith)))
