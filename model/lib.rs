@@ -4,6 +4,7 @@
 
 pub mod chip;
 pub mod coverage;
+pub mod recordings;
 pub mod replay;
 #[cfg(test)]
 mod tests;
