@@ -126,5 +126,5 @@ count-by true false false c d due next number text places = omega (arith, length
 pub count-within : (c : Chip) (due : ℕ) (bytes places new : List ℕ) (r : Replayed) → r ≡ replayed c due bytes places → new ≡ textLeft c due bytes places → r .count ≤ length new
 unfolding replayed textLeft
 count-within c due bytes places new r p q =
-    rw (p, q) (count-by (wellFormed c) (ltb 128 (length bytes / 512)) (ltb (length places) (length (blockText c due bytes))) c (advanced c (wordsFrom due bytes)) due
+    rw (p, q) (count-by (wellFormed c) (ltb 32 (length bytes / 512)) (ltb (length places) (length (blockText c due bytes))) c (advanced c (wordsFrom due bytes)) due
     (readNext due (blocksOf bytes)) (numberFrom due bytes) (blockText c due bytes) places)

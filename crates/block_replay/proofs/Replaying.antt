@@ -101,15 +101,15 @@ module _ (c : Chip) (due : ℕ) (bytes places : List ℕ) where
   unfolding replayed textLeft
   gives-eight t = rw t (refl, refl)
 
-  pub gives-seven : wellFormed c ≡ true → 128 < length bytes / 512 → (refusedReplay c due 7 ≡ replayed c due bytes places) × (places ≡ textLeft c due bytes places)
+  pub gives-seven : wellFormed c ≡ true → 32 < length bytes / 512 → (refusedReplay c due 7 ≡ replayed c due bytes places) × (places ≡ textLeft c due bytes places)
   unfolding replayed textLeft
   gives-seven t h = rw (t, lt-ltb _ _ h) (refl, refl)
 
   -- ---- the blocks read into places of their own, the room that the text takes
 
-  module _ (t : wellFormed c ≡ true) (h : length bytes / 512 ≤ 128) (zeros : List ℕ) (n : length zeros ≡ 16128)
+  module _ (t : wellFormed c ≡ true) (h : length bytes / 512 ≤ 32) (zeros : List ℕ) (n : length zeros ≡ 4032)
       (r : BlocksRead) (w : List ℕ) (e : (r ≡ blocksRead due bytes zeros) × (w ≡ wordsLeft due bytes zeros)) where
-    pub few : length (wordsFrom due bytes) ≤ 16128
+    pub few : length (wordsFrom due bytes) ≤ 4032
     unfolding blocksOf
     few = omega (arith, words-bounded due ((length bytes + 511) / 512) bytes)
 
@@ -127,13 +127,13 @@ module _ (c : Chip) (due : ℕ) (bytes places : List ℕ) where
     pub numbered : r .number ≡ numberFrom due bytes
     numbered = ap (λ (x : BlocksRead). x .number) result
 
-    pub size-kept : length w ≡ 16128
+    pub size-kept : length w ≡ 4032
     size-kept =
         ap length left
         ∙ length-append (wordsFrom due bytes) (drop (length (wordsFrom due bytes)) zeros)
         ∙ omega (arith, length-drop (length (wordsFrom due bytes)) zeros, n, few)
 
-    pub count-fits : r .count ≤ 16128
+    pub count-fits : r .count ≤ 4032
     count-fits = omega (arith, counted, few)
 
     pub words-read : take (r .count) w ≡ wordsFrom due bytes
@@ -153,14 +153,14 @@ module _ (c : Chip) (due : ℕ) (bytes places : List ℕ) where
       unfolding replayed textLeft
       no-room k =
           let short = lt-ltb (length places) (length (blockText c due bytes)) (rw size-text at k) in
-          rw (t, le-ltb 128 (length bytes / 512) h, short) (refl, refl)
+          rw (t, le-ltb 32 (length bytes / 512) h, short) (refl, refl)
 
-      module _ (k : size ≤ length places) (blank : List ℕ) (m : length blank ≡ 16128) (after : Chip) (answers : List ℕ)
+      module _ (k : size ≤ length places) (blank : List ℕ) (m : length blank ≡ 4032) (after : Chip) (answers : List ℕ)
           (u : (after ≡ advanced c (take (r .count) w)) × (answers ≡ advancedAnswers c (take (r .count) w) ++ drop (length (take (r .count) w)) blank)) where
         given : answers ≡ advancedAnswers c (wordsFrom due bytes) ++ drop (length (wordsFrom due bytes)) blank
         given = u .1 ∙ ap (λ (ws : List ℕ). advancedAnswers c ws ++ drop (length ws) blank) words-read
 
-        pub answers-kept : length answers ≡ 16128
+        pub answers-kept : length answers ≡ 4032
         answers-kept =
             ap length given
             ∙ length-append (advancedAnswers c (wordsFrom due bytes)) (drop (length (wordsFrom due bytes)) blank)
@@ -184,7 +184,7 @@ module _ (c : Chip) (due : ℕ) (bytes places : List ℕ) where
         done new y =
             let enough = le-ltb (length places) (length (blockText c due bytes)) (rw size-text at k) in
             let chip : after ≡ advanced c (wordsFrom due bytes) = u .0 ∙ ap (advanced c) words-read in
-            rw (t, le-ltb 128 (length bytes / 512) h, enough) (
+            rw (t, le-ltb 32 (length bytes / 512) h, enough) (
               rw (chip, result, size-text),
               y ∙ ap (λ (l : List ℕ). l ++ drop (length l) places) same-text,
             )

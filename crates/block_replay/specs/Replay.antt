@@ -47,13 +47,13 @@ blockText c due bytes = hexLines (blockAnswers c due bytes)
 abbrev pub refusedReplay : Chip → ℕ → ℕ → Replayed
 refusedReplay c due number = record { chip = c; next = due; count = 0; number = number }
 
--- what is given back: 8 at an ill formed state, before any block is read; then 7 for more than 128 whole blocks, or where the
+-- what is given back: 8 at an ill formed state, before any block is read; then 7 for more than 32 whole blocks, or where the
 -- text does not fit; else the chip after the words, the number that is due next, the length of the text, and 0 or the number of
 -- the bad block
 unfoldable pub replayed : Chip → ℕ → List ℕ → List ℕ → Replayed
 replayed c due bytes places =
     pick (wellFormed c)
-    (pick (ltb 128 (length bytes / 512))
+    (pick (ltb 32 (length bytes / 512))
     (refusedReplay c due 7)
     (pick (ltb (length places) (length (blockText c due bytes)))
     (refusedReplay c due 7)
@@ -64,7 +64,7 @@ replayed c due bytes places =
 unfoldable pub textLeft : Chip → ℕ → List ℕ → List ℕ → List ℕ
 textLeft c due bytes places =
     pick (wellFormed c)
-    (pick (ltb 128 (length bytes / 512))
+    (pick (ltb 32 (length bytes / 512))
     places
     (pick (ltb (length places) (length (blockText c due bytes)))
     places

@@ -65,16 +65,16 @@ fn answer_words(start: Chip, words: &[u32], answers: &mut [u32]) -> Chip
     after
 }
 
-// Places for the words of 128 blocks, or for their answers.
-fn places() -> [u32; 16128]
-    ensures { λ r. ⌜ 16128 ≡ length r ⌝ }
+// Places for the words of 32 blocks, or for their answers.
+fn places() -> [u32; 4032]
+    ensures { λ r. ⌜ 4032 ≡ length r ⌝ }
 {
-    [0; 16128]
+    [0; 4032]
 }
 
 // The bytes of text that answers and a number take.
 fn text_length(count: usize, number: u8) -> usize
-    requires { ⌜ count ≤ 16128 ⌝ }
+    requires { ⌜ count ≤ 4032 ⌝ }
     ensures { λ r. ⌜ r ≡ 9 * (count + length (lastAnswer number)) ⌝ }
 {
     if number == 0 {
@@ -85,14 +85,14 @@ fn text_length(count: usize, number: u8) -> usize
 }
 
 // The replay of blocks from a state that is offered, where the first block must have the number that is due: the text of the
-// answers to the start of `text`. At an ill formed state 8, before any block is read; then 7 for more than 128 whole blocks, or
+// answers to the start of `text`. At an ill formed state 8, before any block is read; then 7 for more than 32 whole blocks, or
 // where the text does not fit; and nothing written.
 // Wrong answers: the chip as it was before the blocks; the last line without the number's place of its own.
 pub fn replay_blocks(start: Chip, due: u32, bytes: &[u8], text: &mut [u8]) -> Replayed
     ensures { λ r. ⌜ (r ≡ replayed start due (now (bytes .entry)) (now (text .entry))) × (now (text .exit) ≡ textLeft start due (now (bytes .entry)) (now (text .entry))) ⌝ }
 {
     if form::well_formed(start) {
-        if 128 < bytes.len() / 512 {
+        if 32 < bytes.len() / 512 {
             return Replayed {
                 chip: start,
                 next: due,

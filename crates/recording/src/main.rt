@@ -15,11 +15,18 @@ struct Turn {
     more: bool,
 }
 
-// Room for the text of 128 blocks and a last line.
-fn text_buffer() -> [u8; 145161]
-    ensures { λ r. ⌜ 145161 ≡ length r ⌝ }
+// Room for 32 blocks: buffers of this size stay in the processor's nearest memory.
+fn input_buffer() -> [u8; 16384]
+    ensures { λ r. ⌜ 16384 ≡ length r ⌝ }
 {
-    [0; 145161]
+    [0; 16384]
+}
+
+// Room for the text of 32 blocks and a last line.
+fn text_buffer() -> [u8; 36297]
+    ensures { λ r. ⌜ 36297 ≡ length r ⌝ }
+{
+    [0; 36297]
 }
 
 // The bytes to replay: all that were read or, where a read failed, those of whole blocks, since the rest of a block is not known
@@ -43,9 +50,9 @@ fn tell(failed: bool, number: u8) -> bool {
     true
 }
 
-// Reads up to 128 blocks, answers them, and tells whether to go on.
+// Reads up to 32 blocks, answers them, and tells whether to go on.
 fn replay_some(c: Chip, due: u32) -> Turn {
-    let mut input = io::large_buffer();
+    let mut input = input_buffer();
     let filled = input::fill(STDIN_FILENO, &mut input);
     let n = replayed_bytes(filled.count, filled.failed);
     let mut out = text_buffer();
@@ -58,7 +65,7 @@ fn replay_some(c: Chip, due: u32) -> Turn {
         return Turn {
             chip: next,
             next: done.next,
-            more: (n == 65536) & !is_bad,
+            more: (n == 16384) & !is_bad,
         };
     }
     io::write_all(

@@ -16,17 +16,17 @@ use Rattle.block_replay.proofs.replay_blocks.Tie as tie
 well : (r : tie.After-read-blocks) → wellFormed (r .before .before .before .before .before .before .before .before .args .start) ≡ true
 well r = sym (r .before .before .before .before .before .well-formed .ensures) ∙ r .before .before .before .before .if1 .taken
 
-blank : (r : tie.After-read-blocks) → length (r .before .before .places .result) ≡ 16128
+blank : (r : tie.After-read-blocks) → length (r .before .before .places .result) ≡ 4032
 blank r = sym (r .before .before .places .ensures)
 
-within : (r : tie.After-read-blocks) → r .read-blocks .result .count ≤ 16128
+within : (r : tie.After-read-blocks) → r .read-blocks .result .count ≤ 4032
 within r = count-fits _ _ _ (r .before .before .before .before .before .before .before .before .args .text .now) (well r) (r .before .before .before .if2 .left) _ (blank r) _ _ (r .read-blocks .ensures)
 
-held : (r : tie.After-read-blocks) → length (r .read-blocks .last .1 .1 .0) ≡ 16128
+held : (r : tie.After-read-blocks) → length (r .read-blocks .last .1 .1 .0) ≡ 4032
 held r = size-kept _ _ _ (r .before .before .before .before .before .before .before .before .args .text .now) (well r) (r .before .before .before .if2 .left) _ (blank r) _ _ (r .read-blocks .ensures)
 
 -- once they are answered
-answers-held : (a : tie.After-answer-words) → length (a .answer-words .last .1 .1 .0) ≡ 16128
+answers-held : (a : tie.After-answer-words) → length (a .answer-words .last .1 .1 .0) ≡ 4032
 answers-held a =
     let r = a .before .before .before .before .before .before .before in
     answers-kept _ _ _ (r .before .before .before .before .before .before .before .before .args .text .now) (well r) (r .before .before .before .if2 .left) _ (blank r) _ _ (r .read-blocks .ensures) _ (a .before .before .before .before .before .text-length .ensures)

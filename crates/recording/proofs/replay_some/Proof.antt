@@ -14,8 +14,8 @@ use Rattle.recording.proofs.replay_some.Tie as tie
 written : (c : tie.After-replay-blocks) → c .replay-blocks .result .count ≤ length (c .replay-blocks .last .1 .1 .1 .0)
 written c = count-within _ _ _ _ _ (c .replay-blocks .result) (c .replay-blocks .ensures .0) (c .replay-blocks .ensures .1)
 
-large-buffer-requires : tie.Need-large-buffer-requires
-large-buffer-requires c κs = search needs
+input-buffer-requires : tie.Need-input-buffer-requires
+input-buffer-requires c κs = search needs
 
 slice-aggregate-fill : tie.Need-slice-aggregate-fill
 slice-aggregate-fill c = search needs
@@ -73,7 +73,7 @@ pub replay-some-spec : {M : Type 1} → statement M
 replay-some-spec =
     tie.close
     (tie.spec
-    large-buffer-requires
+    input-buffer-requires
     slice-aggregate-fill
     fill-requires
     replayed-bytes-requires
