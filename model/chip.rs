@@ -1,7 +1,8 @@
 //! The peripherals of the NT6861 as a plain program.
 //!
-//! Written from document 01 and the readings in docs/DECISIONS.md. It shares nothing with the
-//! proved code: no source, no tables, no layout of the state. It exists to be compared with it.
+//! Written from document 01, the wishes of document 02 that touch the chip, and the readings in
+//! docs/DECISIONS.md. It shares nothing with the proved code: no source, no tables, no layout of
+//! the state. It exists to be compared with it.
 //!
 //! Control bits are kept as named booleans and put together only when a register is read. The pull
 //! on each bus line is stored, and an edge is whatever changes the line, found by looking at the
@@ -153,6 +154,9 @@ pub enum Phase {
         bits: u8,
         byte: u8,
     },
+    /// A data byte is in, TXAK was 1 at its eighth fall, and SDA stays the master's until the
+    /// ninth. An address is never refused so.
+    NotAcknowledged,
     /// A byte goes out. `rest` has the bit now on SDA on top; after eight falls SDA is the
     /// master's, and `acked` tells that its level was taken.
     Outgoing {
@@ -677,7 +681,13 @@ impl Chip {
         }
         match &mut self.phase {
             Phase::Incoming { bits: 8, .. } if self.pull_sda => self.hold(),
+            Phase::Incoming {
+                bits: 8,
+                address: false,
+                ..
+            } if self.txak => self.phase = Phase::NotAcknowledged,
             Phase::Incoming { bits: 8, .. } => self.pull_sda = true,
+            Phase::NotAcknowledged => self.hold(),
             Phase::Outgoing { acked: true, .. } => self.hold(),
             Phase::Outgoing { rest, falls, .. } if *falls < 8 => {
                 *rest <<= 1;

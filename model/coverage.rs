@@ -39,6 +39,8 @@ const CLASSES: &[&str] = &[
     "reset: RESET goes low while held",
     "reset: watchdog in a transfer",
     "reset: watchdog while held",
+    "reset: RESET goes low in a not-acknowledged ninth clock",
+    "reset: watchdog in a not-acknowledged ninth clock",
     "reset: RESET low given again",
     "reset: pin moved while low",
     "reset: clock while low",
@@ -104,6 +106,8 @@ const CLASSES: &[&str] = &[
     "mode: DDC2B to DDC1 by a write",
     "mode: DDC2B to DDC1 in a transfer",
     "mode: DDC2B to DDC1 while held",
+    "mode: off in a not-acknowledged ninth clock",
+    "mode: DDC2B to DDC1 in a not-acknowledged ninth clock",
     "mode: MD changed with DDC off",
     "mode: ENDDC rewritten in a transfer",
     // DDC1
@@ -117,12 +121,16 @@ const CLASSES: &[&str] = &[
     "START: while ignoring",
     "START: in a receive",
     "START: in a transmit",
+    "START: in a not-acknowledged ninth clock",
+    "START: kept off by the acknowledge of a data byte",
     "START: START bit already set",
     "STOP: from idle",
     "STOP: in an address",
     "STOP: while ignoring",
     "STOP: in a receive",
     "STOP: in a transmit",
+    "STOP: in a not-acknowledged ninth clock",
+    "STOP: kept off by the acknowledge of a data byte",
     "SDA: moved outside while pulled, SCL high",
     "SDA: moved outside while pulled, SCL low",
     "SDA: moved outside while held",
@@ -136,6 +144,22 @@ const CLASSES: &[&str] = &[
     "incoming: bit gathered",
     "incoming: data byte complete",
     "incoming: acknowledge begun",
+    "incoming: data byte acknowledged",
+    "incoming: data byte acknowledged, the one before not",
+    "incoming: data byte not acknowledged",
+    "incoming: data byte not acknowledged, the one before was",
+    "incoming: data byte not acknowledged, nor the one before",
+    // TXAK; it is told by SDA moved outside at the ninth high
+    "TXAK: changed while held",
+    "TXAK: changed between the rises of a data byte",
+    "TXAK: changed at the eighth high of a data byte",
+    "TXAK: changed in an acknowledged ninth clock",
+    "TXAK: changed in a not-acknowledged ninth clock",
+    "TXAK: told, unlike at letting go",
+    "TXAK: told, unlike at the eighth rise",
+    "TXAK: told, unlike in the ninth clock",
+    "TXAK: 1 at the eighth fall of an address",
+    "TXAK: 1 at the eighth fall of a byte out",
     "ignoring: SCL rise",
     "ignoring: SCL fall",
     "idle: SCL fall",
@@ -149,11 +173,13 @@ const CLASSES: &[&str] = &[
     "TRX: changed in a transmit",
     "II DAT: written in a transmit",
     "II DAT: written in a receive or address",
+    "II DAT: written in a not-acknowledged ninth clock",
     "II DAT: written while idle or ignoring",
     "II ADR: written in an address",
     // Hold
     "hold: after an address",
     "hold: after a data byte in",
+    "hold: after a data byte not acknowledged",
     "hold: after a byte out, RXAK 0",
     "hold: after a byte out, RXAK 1",
     "held: outside SCL rise",
@@ -181,13 +207,24 @@ fn place(chip: &Chip) -> usize {
         Phase::Idle => 2,
         Phase::Incoming { address: true, .. } => 3,
         Phase::Ignoring => 4,
-        Phase::Incoming { .. } => 5,
+        Phase::Incoming { .. } | Phase::NotAcknowledged => 5,
         Phase::Outgoing { .. } => 6,
         Phase::Held => 7,
     }
 }
 
+/// What the chip does not keep of the data byte under way.
+#[derive(Default)]
+struct DataByte {
+    txak_at_letting_go: bool,
+    txak_at_eighth_rise: bool,
+    txak_at_eighth_fall: bool,
+    /// Whether the data byte before it in this transfer was acknowledged.
+    acknowledged_before: Option<bool>,
+}
+
 struct Tally {
+    data: DataByte,
     classes: BTreeMap<&'static str, u64>,
     moves: [[u64; 8]; 8],
     reads: [u64; 0x26],
@@ -198,6 +235,7 @@ struct Tally {
 impl Tally {
     fn new() -> Tally {
         Tally {
+            data: DataByte::default(),
             classes: CLASSES.iter().map(|&class| (class, 0)).collect(),
             moves: [[0; 8]; 8],
             reads: [0; 0x26],
@@ -239,6 +277,10 @@ impl Tally {
             self.hit("reset: watchdog");
             self.hit_if(old.phase != Phase::Idle, "reset: watchdog in a transfer");
             self.hit_if(old.phase == Phase::Held, "reset: watchdog while held");
+            self.hit_if(
+                old.phase == Phase::NotAcknowledged,
+                "reset: watchdog in a not-acknowledged ninth clock",
+            );
             return;
         }
         self.flags(old, event, new);
@@ -258,6 +300,10 @@ impl Tally {
                         self.hit_if(busy, "reset: RESET goes low in a transfer");
                         let held = old.phase == Phase::Held;
                         self.hit_if(held, "reset: RESET goes low while held");
+                        self.hit_if(
+                            old.phase == Phase::NotAcknowledged,
+                            "reset: RESET goes low in a not-acknowledged ninth clock",
+                        );
                     }
                 } else if !running {
                     self.hit("reset: pin moved while low");
@@ -341,6 +387,7 @@ impl Tally {
         self.writes[register as usize] += 1;
         let busy = old.phase != Phase::Idle;
         let held = old.phase == Phase::Held;
+        let refused = old.phase == Phase::NotAcknowledged;
         match register {
             0x05 => {
                 if old.hsel != new.hsel {
@@ -363,6 +410,10 @@ impl Tally {
                     self.hit("mode: DDC2B to DDC1 by a write");
                     self.hit_if(busy, "mode: DDC2B to DDC1 in a transfer");
                     self.hit_if(held, "mode: DDC2B to DDC1 while held");
+                    self.hit_if(
+                        refused,
+                        "mode: DDC2B to DDC1 in a not-acknowledged ninth clock",
+                    );
                 } else {
                     self.hit("mode: DDC1 to DDC2B by a write");
                     self.hit_if(old.pull_sda, "mode: DDC1 to DDC2B with a bit 0 out");
@@ -393,22 +444,29 @@ impl Tally {
                 let address = matches!(old.phase, Phase::Incoming { address: true, .. });
                 self.hit_if(address, "II ADR: written in an address");
             }
-            0x14 if held => self.hit(match (old.trx, byte & 0x80 != 0, old.level(pin::SCL)) {
-                (false, _, false) => "let go: to receive, outside SCL 0",
-                (false, _, true) => "let go: to receive, outside SCL 1",
-                (true, false, false) => "let go: to transmit bit 0, outside SCL 0",
-                (true, false, true) => "let go: to transmit bit 0, outside SCL 1",
-                (true, true, false) => "let go: to transmit bit 1, outside SCL 0",
-                (true, true, true) => "let go: to transmit bit 1, outside SCL 1",
-            }),
+            0x14 if held => {
+                self.data.txak_at_letting_go = old.txak;
+                self.hit(match (old.trx, byte & 0x80 != 0, old.level(pin::SCL)) {
+                    (false, _, false) => "let go: to receive, outside SCL 0",
+                    (false, _, true) => "let go: to receive, outside SCL 1",
+                    (true, false, false) => "let go: to transmit bit 0, outside SCL 0",
+                    (true, false, true) => "let go: to transmit bit 0, outside SCL 1",
+                    (true, true, false) => "let go: to transmit bit 1, outside SCL 0",
+                    (true, true, true) => "let go: to transmit bit 1, outside SCL 1",
+                });
+            }
             0x14 => self.hit(match old.phase {
                 Phase::Outgoing { .. } => "II DAT: written in a transmit",
                 Phase::Incoming { .. } => "II DAT: written in a receive or address",
+                Phase::NotAcknowledged => "II DAT: written in a not-acknowledged ninth clock",
                 _ => "II DAT: written while idle or ignoring",
             }),
             0x15 => {
                 let outgoing = matches!(old.phase, Phase::Outgoing { .. });
                 self.hit_if(outgoing && old.trx != new.trx, "TRX: changed in a transmit");
+                if old.txak != new.txak {
+                    self.txak_changed(old);
+                }
                 if old.enddc == new.enddc {
                     self.hit_if(busy, "mode: ENDDC rewritten in a transfer");
                 } else if new.ddc_on() {
@@ -427,11 +485,29 @@ impl Tally {
                     self.hit_if(busy, "mode: off in a transfer");
                     let raised = held && old.level(pin::SCL);
                     self.hit_if(raised, "mode: off while held, outside SCL 1");
+                    self.hit_if(refused, "mode: off in a not-acknowledged ninth clock");
                 }
             }
             0x16 => self.hit_if(!old.enbt, "timer: BT written while enabled"),
             _ => {}
         }
+    }
+
+    fn txak_changed(&mut self, old: &Chip) {
+        self.hit(match old.phase {
+            Phase::Held => "TXAK: changed while held",
+            Phase::Incoming {
+                address: false,
+                bits,
+                ..
+            } => match (bits, old.pull_sda) {
+                (8, true) => "TXAK: changed in an acknowledged ninth clock",
+                (8, false) => "TXAK: changed at the eighth high of a data byte",
+                _ => "TXAK: changed between the rises of a data byte",
+            },
+            Phase::NotAcknowledged => "TXAK: changed in a not-acknowledged ninth clock",
+            _ => return,
+        });
     }
 
     fn sync_clock(&mut self, old: &Chip, new: &Chip) {
@@ -516,14 +592,19 @@ impl Tally {
             (Phase::Ignoring, true) => self.hit("ignoring: SCL rise"),
             (Phase::Held, false) => self.hit("held: outside SCL fall"),
             (Phase::Held, true) => self.hit("held: outside SCL rise"),
-            (Phase::Incoming { bits: 8, .. }, true) => {}
+            (Phase::Incoming { bits: 8, .. } | Phase::NotAcknowledged, true) => {}
             (Phase::Incoming { address, bits, .. }, true) => {
                 self.hit("incoming: bit gathered");
                 if bits == 7 && address {
+                    self.data.acknowledged_before = None;
                     self.address(new);
-                } else {
-                    self.hit_if(bits == 7, "incoming: data byte complete");
+                } else if bits == 7 {
+                    self.data.txak_at_eighth_rise = old.txak;
+                    self.hit("incoming: data byte complete");
                 }
+            }
+            (Phase::NotAcknowledged, false) => {
+                self.hit("hold: after a data byte not acknowledged");
             }
             (Phase::Incoming { address, .. }, false) => {
                 if new.phase == Phase::Held {
@@ -532,8 +613,8 @@ impl Tally {
                     } else {
                         "hold: after a data byte in"
                     });
-                } else {
-                    self.hit_if(new.pull_sda, "incoming: acknowledge begun");
+                } else if matches!(old.phase, Phase::Incoming { bits: 8, .. }) {
+                    self.eighth_fall(old, address, new);
                 }
             }
             (Phase::Outgoing { falls: 8, .. }, true) => {
@@ -552,6 +633,7 @@ impl Tally {
             }),
             (Phase::Outgoing { falls: 7, .. }, false) => {
                 self.hit("outgoing: SDA released for the acknowledge");
+                self.hit_if(old.txak, "TXAK: 1 at the eighth fall of a byte out");
             }
             (Phase::Outgoing { .. }, false) => self.hit(if new.pull_sda {
                 "outgoing: bit 0 put out by a fall"
@@ -559,6 +641,48 @@ impl Tally {
                 "outgoing: bit 1 put out by a fall"
             }),
         }
+    }
+
+    /// Of a byte in.
+    fn eighth_fall(&mut self, old: &Chip, address: bool, new: &Chip) {
+        self.hit_if(new.pull_sda, "incoming: acknowledge begun");
+        if address {
+            self.hit_if(old.txak, "TXAK: 1 at the eighth fall of an address");
+            return;
+        }
+        self.data.txak_at_eighth_fall = old.txak;
+        let before = self.data.acknowledged_before.replace(new.pull_sda);
+        self.hit(if new.pull_sda {
+            "incoming: data byte acknowledged"
+        } else {
+            "incoming: data byte not acknowledged"
+        });
+        match (before, new.pull_sda) {
+            (Some(false), true) => self.hit("incoming: data byte acknowledged, the one before not"),
+            (Some(true), false) => {
+                self.hit("incoming: data byte not acknowledged, the one before was");
+            }
+            (Some(false), false) => {
+                self.hit("incoming: data byte not acknowledged, nor the one before");
+            }
+            _ => {}
+        }
+    }
+
+    /// SDA moved outside at the ninth high of a data byte.
+    fn ninth_high(&mut self, old: &Chip, level: bool) {
+        self.hit(match (level, old.pull_sda) {
+            (false, false) => "START: in a not-acknowledged ninth clock",
+            (false, true) => "START: kept off by the acknowledge of a data byte",
+            (true, false) => "STOP: in a not-acknowledged ninth clock",
+            (true, true) => "STOP: kept off by the acknowledge of a data byte",
+        });
+        let decided = self.data.txak_at_eighth_fall;
+        let unlike_let_go = decided != self.data.txak_at_letting_go;
+        self.hit_if(unlike_let_go, "TXAK: told, unlike at letting go");
+        let unlike_rise = decided != self.data.txak_at_eighth_rise;
+        self.hit_if(unlike_rise, "TXAK: told, unlike at the eighth rise");
+        self.hit_if(decided != old.txak, "TXAK: told, unlike in the ninth clock");
     }
 
     /// An address is complete; it stands in II DAT.
@@ -591,6 +715,13 @@ impl Tally {
         if old.phase == Phase::Held {
             self.hit("SDA: moved outside while held");
             return;
+        }
+        let ninth_clock = match old.phase {
+            Phase::Incoming { address: false, .. } => old.pull_sda,
+            phase => phase == Phase::NotAcknowledged,
+        };
+        if ninth_clock && old.scl() {
+            self.ninth_high(old, level);
         }
         if old.pull_sda {
             self.hit(if old.scl() {

@@ -1,6 +1,7 @@
 //! A second, independent model of the NT6861 peripherals, for comparison by running.
 //!
-//! It is written from document 01 and the readings in docs/DECISIONS.md, and shares no code with the proved crates.
+//! It is written from document 01, the wishes of document 02 that touch the chip, and the readings in docs/DECISIONS.md, and
+//! shares no code with the proved crates.
 
 pub mod chip;
 pub mod coverage;

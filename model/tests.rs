@@ -1,4 +1,5 @@
-//! The cases of document 01, more worked out from its rules, and checks of the generator.
+//! The cases of document 01, more worked out from the rules of documents 01 and 02, and checks of
+//! the generator.
 
 use crate::chip::{flag, pin, Chip, Counter, Phase};
 use crate::coverage;
@@ -119,6 +120,58 @@ impl Rig {
         rig.clear_flags();
         rig
     }
+
+    /// Addressed at A0H and held, START and flags cleared, with this in II STS.
+    fn addressed_for_write(status: u8) -> Rig {
+        let mut rig = Rig::ddc2b();
+        rig.start();
+        rig.send(0xA0);
+        rig.write(0x15, status);
+        rig.clear_flags();
+        rig
+    }
+
+    /// A data byte up to the ninth high, SDA outside left at its last bit.
+    fn data_to_ninth_high(&mut self, byte: u8) {
+        self.write(0x14, 0x00);
+        self.bits(byte, 8);
+        self.scl(1);
+    }
+}
+
+/// The listings that the proved program runs hold for this model too.
+#[test]
+fn listings_hold() {
+    let data = concat!(env!("CARGO_MANIFEST_DIR"), "/crates/vectors/data");
+    let mut listings = 0;
+    for entry in std::fs::read_dir(data).expect(data) {
+        let path = entry.expect(data).path();
+        // The folder below has listings made to go wrong.
+        if path.is_dir() {
+            continue;
+        }
+        listings += 1;
+        let text = std::fs::read_to_string(&path).expect("a listing");
+        let mut rig = Rig::new();
+        for line in text.lines() {
+            if line.is_empty() || line.starts_with('#') {
+                continue;
+            }
+            let (count, entry) = line.split_once('*').unwrap_or(("1", line));
+            let (count, entry) = match count.parse::<u32>() {
+                Ok(count) => (count, entry),
+                // The asterisk stands in the comment.
+                Err(_) => (1, line),
+            };
+            let mut parts = entry.split_whitespace();
+            let mut number = || u32::from_str_radix(parts.next().unwrap(), 16).unwrap();
+            let (word, answer) = (number(), number());
+            for _ in 0..count {
+                assert_eq!(rig.raw(word), answer, "{}: {line}", path.display());
+            }
+        }
+    }
+    assert!(listings > 0);
 }
 
 // The cases named in document 01.
@@ -835,6 +888,218 @@ fn own_address_at_the_eighth_rise() {
     rig.scl(0);
     rig.ninth_clock(1);
     assert_eq!(rig.0.phase, Phase::Held);
+}
+
+// TXAK (Wish 2).
+
+#[test]
+fn txak_1_leaves_sda_released() {
+    // SDA rises: STOP, and no more comes of the byte.
+    let mut rig = Rig::addressed_for_write(0x01);
+    rig.data_to_ninth_high(0x30);
+    assert!(!rig.0.pull_sda);
+    rig.sda(1);
+    assert_eq!(rig.read(0x15), 0x10);
+    assert_eq!(rig.0.phase, Phase::Idle);
+    rig.scl(0);
+    assert_eq!(rig.flags(), flag::S);
+    assert_eq!(rig.read(0x14), 0x30);
+    // SDA falls: START, and an address follows.
+    let mut rig = Rig::addressed_for_write(0x01);
+    rig.data_to_ninth_high(0x31);
+    rig.sda(0);
+    assert_eq!(rig.read(0x15), 0x20);
+    rig.scl(0);
+    assert_eq!(rig.flags(), flag::S);
+    rig.send(0xA0);
+    assert_eq!(rig.flags(), flag::S | flag::A | flag::D);
+    assert_eq!(rig.0.phase, Phase::Held);
+}
+
+#[test]
+fn txak_0_pulls_sda() {
+    let mut rig = Rig::addressed_for_write(0x00);
+    rig.data_to_ninth_high(0x30);
+    assert!(rig.0.pull_sda);
+    for level in [1, 0, 1] {
+        rig.sda(level);
+    }
+    assert_eq!(rig.read(0x15), 0x00);
+    rig.scl(0);
+    assert_eq!(rig.0.phase, Phase::Held);
+    assert_eq!(rig.flags(), flag::S | flag::D);
+}
+
+/// Written at five moments of a byte, TXAK counts as it is at the third, the last before the eighth
+/// fall; no write is refused and no read shows it.
+#[test]
+fn txak_counts_at_the_eighth_fall_alone() {
+    for written in 0..32u8 {
+        let at = |moment: u32| written >> moment & 1;
+        let mut rig = Rig::addressed_for_write(at(0));
+        rig.write(0x14, 0x00);
+        rig.bits(0xF4, 3);
+        rig.write(0x15, at(1));
+        rig.bits(0xA0, 4);
+        rig.sda(0);
+        rig.scl(1);
+        assert_eq!(rig.read(0x14), 0xF4);
+        assert!(!rig.0.pull_sda);
+        rig.write(0x15, at(2));
+        assert!(!rig.0.pull_sda);
+        rig.scl(0);
+        assert_eq!(rig.0.pull_sda, at(2) == 0, "{written:05b}");
+        rig.write(0x15, at(3));
+        rig.scl(1);
+        rig.write(0x15, at(4));
+        assert_eq!(rig.0.pull_sda, at(2) == 0, "{written:05b}");
+        assert_eq!(rig.read(0x15), 0x00);
+        let mut stopped = Rig(rig.0);
+        stopped.sda(1);
+        let stop = if at(2) == 1 { 0x10 } else { 0x00 };
+        assert_eq!(stopped.read(0x15), stop, "{written:05b}");
+        rig.scl(0);
+        assert_eq!(rig.0.phase, Phase::Held);
+        assert!(rig.0.pull_scl && !rig.0.pull_sda);
+        assert_eq!(rig.flags(), flag::S | flag::D);
+    }
+}
+
+#[test]
+fn matched_address_is_always_acknowledged() {
+    for (own, address) in [(0xFF, 0xA0), (0xFF, 0xA1), (0x6E, 0x6E), (0xA0, 0xA0)] {
+        for txak in [0, 1] {
+            let mut rig = Rig::ddc2b();
+            rig.write(0x13, own);
+            rig.write(0x15, txak);
+            rig.start();
+            rig.bits(address, 8);
+            assert!(rig.0.pull_sda);
+            rig.write(0x15, txak);
+            rig.sda(1);
+            rig.scl(1);
+            rig.sda(0);
+            rig.sda(1);
+            assert_eq!(rig.read(0x15), 0x00);
+            rig.scl(0);
+            assert_eq!(rig.0.phase, Phase::Held);
+            assert_eq!(rig.flags(), flag::S | flag::A | flag::D);
+        }
+    }
+}
+
+#[test]
+fn foreign_transfer_with_txak_1() {
+    let mut rig = Rig::ddc2b();
+    rig.write(0x15, 0x01);
+    rig.start();
+    for byte in [0x62, 0xA0, 0x30] {
+        rig.bits(byte, 8);
+        assert_eq!(rig.0.phase, Phase::Ignoring);
+        assert!(!rig.0.pull_sda);
+        rig.ninth_clock(0);
+    }
+    assert_eq!(rig.flags(), flag::S);
+    assert_eq!(rig.read(0x14), 0x62);
+}
+
+#[test]
+fn not_acknowledged_bytes_set_d_and_hold() {
+    let mut rig = Rig::addressed_for_write(0x00);
+    for (txak, byte) in [(1, 0x12), (1, 0x34), (0, 0x56), (1, 0x78), (0, 0x9A)] {
+        rig.write(0x15, txak);
+        rig.write(0x14, 0xFF);
+        rig.bits(byte, 8);
+        assert_eq!(rig.0.pull_sda, txak == 0);
+        assert_eq!(rig.flags(), flag::S);
+        rig.ninth_clock(1);
+        assert_eq!(rig.flags(), flag::S | flag::D);
+        assert_eq!(rig.0.phase, Phase::Held);
+        assert_eq!(rig.read(0x14), byte);
+        rig.clear_flags();
+        rig.scl(1);
+        rig.scl(0);
+        assert_eq!(rig.flags(), 0);
+    }
+}
+
+#[test]
+fn not_acknowledged_byte_cut_off() {
+    let ninth = || {
+        let mut rig = Rig::addressed_for_write(0x01);
+        rig.data_to_ninth_high(0x30);
+        rig.clear_flags();
+        assert_eq!(rig.0.phase, Phase::NotAcknowledged);
+        rig
+    };
+    // Only stored.
+    let mut rig = ninth();
+    rig.write(0x14, 0x5A);
+    assert_eq!(rig.0.phase, Phase::NotAcknowledged);
+    rig.scl(0);
+    assert_eq!(rig.0.phase, Phase::Held);
+    assert_eq!(rig.read(0x14), 0x5A);
+    // Off and on, to DDC1 and back.
+    for (register, there, back) in [(0x15, 0x09, 0x01), (0x05, 0x07, 0x06)] {
+        let mut rig = ninth();
+        rig.write(register, there);
+        rig.write(register, back);
+        assert_eq!(rig.0.phase, Phase::Idle);
+        assert!(rig.0.txak);
+        rig.scl(0);
+        assert_eq!(rig.flags(), flag::S);
+    }
+    let mut rig = ninth();
+    let levels = rig.0.levels;
+    rig.clocks(3, 64);
+    assert_eq!(
+        rig.0,
+        Chip {
+            levels,
+            ..Chip::fresh()
+        }
+    );
+}
+
+#[test]
+fn txak_means_nothing_to_a_byte_out() {
+    let mut rig = Rig::addressed_for_read();
+    rig.write(0x15, 0x05);
+    rig.write(0x14, 0x7F);
+    rig.sda(1);
+    for _ in 0..8 {
+        rig.scl(1);
+        rig.scl(0);
+    }
+    assert!(!rig.0.pull_sda);
+    rig.ninth_clock(1);
+    assert_eq!(rig.read(0x15), 0x06);
+    assert_eq!(rig.flags(), flag::S | flag::D);
+    // A byte in leaves RXAK, acknowledged or not.
+    for txak in [0, 1] {
+        rig.write(0x15, txak);
+        rig.data_to_ninth_high(0x30);
+        assert_eq!(rig.read(0x15), 0x02);
+        rig.scl(0);
+        assert_eq!(rig.read(0x15), 0x02);
+    }
+    // DDC1 loads and shifts as it did.
+    let mut rig = Rig::new();
+    rig.write(0x14, 0xB4);
+    rig.write(0x15, 0x01);
+    rig.rises(pin::VSYNCI, 10);
+    assert_eq!(rig.flags(), flag::V | flag::D);
+    assert_eq!(rig.0.shift, 0xB4);
+}
+
+#[test]
+fn without_txak_every_data_byte_is_acknowledged() {
+    let mut chip = Chip::fresh();
+    for word in Traffic::new(5).take(300_000) {
+        let write_of_status = word & 0xFFFF_FF00 == 0x0200_1500;
+        chip.step(if write_of_status { word & !1 } else { word });
+        assert_ne!(chip.phase, Phase::NotAcknowledged);
+    }
 }
 
 // The generator.

@@ -1,9 +1,8 @@
 //! Seeded event words for comparing two models of the chip.
 //!
-//! Written from document 01 and its recorded readings; shares no code with the proved crates. The
-//! generator never looks
-//! at a chip: it only remembers the outside levels its own words leave behind. Equal seeds give
-//! equal words, and a shorter list is the beginning of a longer one.
+//! Written from documents 01 and 02 and their recorded readings; shares no code with the proved
+//! crates. The generator never looks at a chip: it only remembers the outside levels its own words
+//! leave behind. Equal seeds give equal words, and a shorter list is the beginning of a longer one.
 //!
 //! Words come in scenarios, each a coherent run of events such as an I²C transfer with its firmware
 //! or a field of sync pulses. Noise words are put between them at a rate drawn per scenario.
@@ -101,6 +100,14 @@ const WATCHDOG_CLOCK: u8 = 3;
 
 fn word(kind: u8, a: u8, b: u8) -> u32 {
     u32::from_be_bytes([kind, 0, a, b])
+}
+
+/// How the master leaves the ninth clock of a byte that it sent.
+#[derive(PartialEq, Eq)]
+enum Ninth {
+    Fall,
+    Start,
+    Stop,
 }
 
 pub struct Traffic {
@@ -561,7 +568,7 @@ impl Traffic {
             }
             if self.rng.one_in(4) {
                 self.turn_on(false);
-                self.transfer();
+                self.transfer(false);
             }
             let clocks = match self.rng.below(4) {
                 0 => self.rng.range(1, 62),
@@ -1086,8 +1093,9 @@ impl Traffic {
         } else {
             self.turn_on(false);
         }
+        let mut started = false;
         for _ in 0..self.rng.range(1, 4) {
-            self.transfer();
+            started = self.transfer(started);
         }
         self.turn_off_one_in(6);
     }
@@ -1102,8 +1110,11 @@ impl Traffic {
         self.write(IIADR, byte);
     }
 
-    fn transfer(&mut self) {
-        self.start();
+    /// True if it ends in a START, so that the next one begins with its address.
+    fn transfer(&mut self, started: bool) -> bool {
+        if !started {
+            self.start();
+        }
         let address = match self.rng.below(10) {
             0..=3 => 0xA0 | self.rng.below(2) as u8,
             4..=6 => self.own ^ self.rng.below(2) as u8,
@@ -1113,15 +1124,23 @@ impl Traffic {
             _ => self.rng.byte(),
         };
         let reading = address & 1 == 1;
-        self.send_byte(address);
+        let txak = self.rng.one_in(4);
+        let mut ninth = self.send_byte(address, txak);
         for _ in 0..self.rng.below(5) {
+            if ninth != Ninth::Fall {
+                break;
+            }
             let next = self.rng.byte();
             self.serve(reading, next);
             if reading {
                 self.receive_byte();
             } else {
-                self.send_byte(next);
+                let txak = self.rng.flip();
+                ninth = self.send_byte(next, txak);
             }
+        }
+        if ninth != Ninth::Fall {
+            return ninth == Ninth::Start;
         }
         match self.rng.below(6) {
             // Leave the chip holding, or the bus as it is.
@@ -1134,6 +1153,7 @@ impl Traffic {
                 self.stop();
             }
         }
+        false
     }
 
     /// START, repeated or not; ends with SCL low.
@@ -1163,14 +1183,19 @@ impl Traffic {
         self.probe_one_in(4);
     }
 
-    /// Eight bits and the clock for the acknowledge.
-    fn send_byte(&mut self, byte: u8) {
+    /// Eight bits and the clock for the acknowledge. With `txak` the firmware writes TXAK at any
+    /// moment of it, and what tells whether SDA is pulled is likely to follow.
+    fn send_byte(&mut self, byte: u8, txak: bool) -> Ninth {
         for place in (0..8).rev() {
             let bit = byte >> place & 1 == 1;
             // With SCL already high the bit was laid on SDA while the chip held.
             if !self.level(pin::SCL) {
                 self.sda(bit);
                 self.scl(true);
+            }
+            let often = if place == 0 { 3 } else { 16 };
+            if txak {
+                self.write_txak_one_in(often);
             }
             if place == 0 {
                 self.probe_one_in(4);
@@ -1179,17 +1204,57 @@ impl Traffic {
                 self.glitch();
             }
             self.scl(false);
+            if txak {
+                self.write_txak_one_in(often);
+            }
             self.trouble();
         }
         let released = !self.rng.one_in(4);
         self.sda(released);
+        if txak && self.rng.one_in(8) {
+            self.upset();
+        }
         self.scl(true);
+        if txak {
+            self.write_txak_one_in(4);
+            if self.rng.one_in(8) {
+                // Lets nothing go: SCL is not held yet.
+                let byte = self.rng.byte();
+                self.write(IIDAT, byte);
+            }
+            if self.rng.one_in(3) {
+                return self.leave_ninth_clock();
+            }
+        }
         if self.rng.one_in(8) {
             // The chip has SDA low now if it acknowledges.
             self.glitch();
         }
         self.scl(false);
         self.probe_one_in(3);
+        Ninth::Fall
+    }
+
+    /// Whatever else II STS takes is left to chance; DDC stays on.
+    fn write_txak_one_in(&mut self, n: u32) {
+        if self.rng.one_in(n) {
+            let byte = self.rng.byte() & !ENDDC;
+            self.write(IISTS, byte);
+        }
+    }
+
+    /// START or STOP by the level of SDA; the chip sees it only if it did not acknowledge.
+    fn leave_ninth_clock(&mut self) -> Ninth {
+        if self.level(pin::SDA) {
+            self.sda(false);
+            self.probe_one_in(2);
+            self.scl(false);
+            Ninth::Start
+        } else {
+            self.sda(true);
+            self.probe_one_in(2);
+            Ninth::Stop
+        }
     }
 
     /// Eight clocks for the chip's bits, then the master's acknowledge.
@@ -1305,41 +1370,7 @@ impl Traffic {
                 let byte = self.rng.byte() & !ENDDC;
                 self.write(IISTS, byte);
             }
-            // Off, perhaps on again.
-            5 | 6 => {
-                self.write(IISTS, ENDDC);
-                if self.rng.flip() {
-                    self.probe();
-                }
-                if !self.rng.one_in(3) {
-                    self.write(IISTS, 0);
-                }
-            }
-            // To DDC1, perhaps back.
-            7 | 8 => {
-                self.write(MDCON, HSEL | MD);
-                if self.rng.flip() {
-                    self.rise(pin::VSYNCI);
-                }
-                if !self.rng.one_in(3) {
-                    self.write(MDCON, HSEL);
-                }
-            }
-            9 => {
-                self.pin(pin::RESET, false);
-                self.pin(pin::RESET, true);
-                if self.rng.flip() {
-                    self.turn_on(false);
-                }
-            }
-            10 => {
-                for _ in 0..self.rng.range(48, 70) {
-                    self.clock(WATCHDOG_CLOCK);
-                }
-                if self.rng.flip() {
-                    self.turn_on(false);
-                }
-            }
+            5..=10 => self.upset(),
             11 => {
                 self.toggle(pin::SCL);
                 self.toggle(pin::SCL);
@@ -1364,12 +1395,53 @@ impl Traffic {
         }
     }
 
+    /// A change of mode or a reset, perhaps undone.
+    fn upset(&mut self) {
+        match self.rng.below(6) {
+            // Off.
+            0 | 1 => {
+                self.write(IISTS, ENDDC);
+                if self.rng.flip() {
+                    self.probe();
+                }
+                if !self.rng.one_in(3) {
+                    self.write(IISTS, 0);
+                }
+            }
+            // To DDC1.
+            2 | 3 => {
+                self.write(MDCON, HSEL | MD);
+                if self.rng.flip() {
+                    self.rise(pin::VSYNCI);
+                }
+                if !self.rng.one_in(3) {
+                    self.write(MDCON, HSEL);
+                }
+            }
+            4 => {
+                self.pin(pin::RESET, false);
+                self.pin(pin::RESET, true);
+                if self.rng.flip() {
+                    self.turn_on(false);
+                }
+            }
+            _ => {
+                for _ in 0..self.rng.range(56, 70) {
+                    self.clock(WATCHDOG_CLOCK);
+                }
+                if self.rng.flip() {
+                    self.turn_on(false);
+                }
+            }
+        }
+    }
+
     /// Bus lines moved without a protocol in mind, mostly with SDA steady while SCL is high.
     fn wiggle(&mut self) {
         self.wake();
         if self.rng.flip() {
             self.turn_on(false);
-            self.transfer();
+            self.transfer(false);
         }
         for _ in 0..self.rng.range(10, 120) {
             match self.rng.below(16) {

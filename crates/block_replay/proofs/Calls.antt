@@ -7,7 +7,7 @@ use Prim.Native.Nat.{ℕ, _≤_}
 use borrow.Author.Tests.{le-ltb}
 use lib.ListN.{length, drop}
 use Rattle.chip.specs.declared.Chip.{Chip}
-use Rattle.form.specs.Form.{wellFormed}
+use Rattle.well_formed.specs.WellFormed.{wellFormed}
 use Rattle.run.specs.Run.{advanced, advancedAnswers, run, runAnswers}
 
 module _ (c : Chip) (ws places : List ℕ) (t : wellFormed c ≡ true) (h : length ws ≤ length places) where

@@ -8,7 +8,7 @@ use Rattle.bits.specs.Byte.{pick}
 use Rattle.hex.specs.Hex.{hexLine}
 use Rattle.answers.specs.Answer.{answerWord}
 use Rattle.chip.specs.declared.Chip.{Chip}
-use Rattle.form.specs.Form.{wellFormed}
+use Rattle.well_formed.specs.WellFormed.{wellFormed}
 use Rattle.run.specs.Run.{advanced, advancedAnswers}
 use Rattle.recordings.specs.Recording.{blocksOf, readWords, readNumber, readNext}
 use Rattle.block_replay.specs.declared.Replayed.{Replayed}

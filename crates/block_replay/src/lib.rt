@@ -4,7 +4,7 @@ ghost use mathlib.Core.Bool.{true};
 ghost use Prim.Native.Nat.{_+_, _*_, _≤_};
 ghost use mathlib.Core.List.{_++_};
 ghost use lib.ListN.{length, take, drop};
-ghost use Rattle.form.specs.Form.{wellFormed};
+ghost use Rattle.well_formed.specs.WellFormed.{wellFormed};
 ghost use Rattle.run.specs.Run.{advanced, advancedAnswers};
 ghost use Rattle.hex.specs.Hex.{hexLine};
 ghost use Rattle.block_replay.specs.Replay.{hexLines, lastAnswer, replayed, textLeft};
@@ -91,7 +91,7 @@ fn text_length(count: usize, number: u8) -> usize
 pub fn replay_blocks(start: Chip, due: u32, bytes: &[u8], text: &mut [u8]) -> Replayed
     ensures { λ r. ⌜ (r ≡ replayed start due (now (bytes .entry)) (now (text .entry))) × (now (text .exit) ≡ textLeft start due (now (bytes .entry)) (now (text .entry))) ⌝ }
 {
-    if form::well_formed(start) {
+    if well_formed::well_formed(start) {
         if 32 < bytes.len() / 512 {
             return Replayed {
                 chip: start,

@@ -1,2 +1,2 @@
-pub mod Lines
+pub mod Bus
 pub mod Ddc1

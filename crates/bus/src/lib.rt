@@ -1,6 +1,6 @@
 // The bus: modes, edges of lines, the phases of a transfer, what the chip pulls, and the shift register of DDC1.
 ghost use mathlib.Core.Path.{_≡_};
-ghost use Rattle.bus.specs.Lines.{edge, mode, modeNumber, changesMode, line, pullsAtBit, pullsSda, pullsScl, sdaPulled, sclPulled};
+ghost use Rattle.bus.specs.Bus.{edge, mode, modeNumber, changesMode, line, pullsAtBit, pullsSda, pullsScl, sdaPulled, sclPulled};
 ghost use Rattle.bus.specs.Ddc1.{loadsAtRise, shifterAtRise};
 use registers::ENDDC;
 use registers::MD12;
@@ -19,26 +19,33 @@ pub enum Edge {
     Fall,
 }
 
-// The phase of the bus (document 01, "The forms we expect"). `acknowledged`: the eighth fall has pulled SDA. A transmit
-// counts the bits put out, 1 to 8; at 9 the acknowledge is awaited and at 10 it has been taken.
+// The phase of the bus (document 01, "The forms we expect"). An address gathers up to seven bits; with its eighth it is the chip's
+// own, `Addressed`, or the bus is ignored. `ninth`: the eighth fall has pulled SDA, and the ninth clock runs. A receive counts the
+// bits gathered, 0 to 8; in the ninth clock it stands at 9 where SDA is pulled (ACK) and at 10 where it is released (NACK). A
+// transmit counts the bits put out, 1 to 8; at 9 the acknowledge is awaited and at 10 it has been taken. `Held`: the chip holds SCL
+// low (clock stretching), for so many clocks of 8 µs.
 pub enum Phase {
     Idle,
     Address {
         count: u8,
         bits: u8,
-        acknowledged: bool,
+    },
+    Addressed {
+        bits: u8,
+        ninth: bool,
     },
     Ignoring,
     Receive {
         count: u8,
         bits: u8,
-        acknowledged: bool,
     },
     Transmit {
         count: u8,
         byte: u8,
     },
-    Held,
+    Held {
+        clocks: u16,
+    },
 }
 
 // The shift register of DDC1, and the rises of VSYNCI left before the next load.
@@ -119,19 +126,12 @@ pub fn pulls_sda(phase: Phase) -> bool
 {
     match phase {
         Phase::Idle => false,
-        Phase::Address {
-            count: _,
-            bits: _,
-            acknowledged,
-        } => acknowledged,
+        Phase::Address { count: _, bits: _ } => false,
+        Phase::Addressed { bits: _, ninth } => ninth,
         Phase::Ignoring => false,
-        Phase::Receive {
-            count: _,
-            bits: _,
-            acknowledged,
-        } => acknowledged,
+        Phase::Receive { count, bits: _ } => count == 9,
         Phase::Transmit { count, byte } => pulls_at_bit(count, byte),
-        Phase::Held => false,
+        Phase::Held { clocks: _ } => false,
     }
 }
 
@@ -142,19 +142,12 @@ pub fn pulls_scl(phase: Phase) -> bool
 {
     match phase {
         Phase::Idle => false,
-        Phase::Address {
-            count: _,
-            bits: _,
-            acknowledged: _,
-        } => false,
+        Phase::Address { count: _, bits: _ } => false,
+        Phase::Addressed { bits: _, ninth: _ } => false,
         Phase::Ignoring => false,
-        Phase::Receive {
-            count: _,
-            bits: _,
-            acknowledged: _,
-        } => false,
+        Phase::Receive { count: _, bits: _ } => false,
         Phase::Transmit { count: _, byte: _ } => false,
-        Phase::Held => true,
+        Phase::Held { clocks: _ } => true,
     }
 }
 

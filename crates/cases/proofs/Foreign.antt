@@ -6,7 +6,7 @@ use mathlib.Core.Bool.{Bool, false}
 use Rattle.bus.specs.declared.Phase.{Phase}
 use Rattle.bus.specs.declared.Phase.the-variants.{Ignoring}
 use Rattle.chip.specs.declared.Chip.{Chip}
-use Rattle.chip.specs.State.{fresh, withReset}
+use Rattle.chip.specs.State.{fresh, chipOf, withReset}
 use Rattle.run.specs.Run.{after}
 use Rattle.isolation.specs.Foreign.{since, observerOf, observe, permitted, untouched, throughout, RunsAgree, bus-idle}
 use Rattle.isolation.proofs.Theorems.{one-transfer, several-transfers}
@@ -47,7 +47,7 @@ unfolding opened observe permitted untouched idleState startedState transfer clo
 foreign-agree = one-transfer startedState refl refl (transfer 0xa2) (transfer 0x54) (record { words = refl; left = refl; right = refl; sda = refl })
 
 -- both end ignoring, and II DAT is what differs
-pub foreign-ends : _≡_ {A = Phase × ℕ × ℕ} (after startedState (transfer 0xa2) .bus .phase, after startedState (transfer 0xa2) .bus .iidat, after startedState (transfer 0x54) .bus .iidat) (Ignoring, 0xa2, 0x54)
+pub foreign-ends : _≡_ {A = Phase × ℕ × ℕ} (after startedState (transfer 0xa2) .core .bus .phase, after startedState (transfer 0xa2) .core .bus .iidat, after startedState (transfer 0x54) .core .bus .iidat) (Ignoring, 0xa2, 0x54)
 unfolding opened observe permitted untouched idleState startedState transfer clockBit
 foreign-ends = refl
 
@@ -57,13 +57,17 @@ unfolding opened observe permitted untouched idleState startedState transfer clo
 own-refused = refl
 
 -- ---- RESET low at first: a clock then is not gathered, and the transfer begins once RESET is high
+unfoldable pub lowState : Chip
+unfolding startedState
+lowState = chipOf (startedState .registers) (withReset (startedState .core) false)
+
 unfoldable pub afterLow : ℕ → List ℕ
 unfolding clockBit
 afterLow n = clockBit (n % 2) ++ (0x03001c01 ∷ transfer n)
 
-pub low-agree : RunsAgree (withReset startedState false) (afterLow 0xa2) (afterLow 0x55)
-unfolding opened observe permitted untouched idleState startedState transfer clockBit afterLow
-low-agree = one-transfer (withReset startedState false) refl refl (afterLow 0xa2) (afterLow 0x55) (record { words = refl; left = refl; right = refl; sda = refl })
+pub low-agree : RunsAgree lowState (afterLow 0xa2) (afterLow 0x55)
+unfolding opened observe permitted untouched idleState startedState lowState transfer clockBit afterLow
+low-agree = one-transfer lowState refl refl (afterLow 0xa2) (afterLow 0x55) (record { words = refl; left = refl; right = refl; sda = refl })
 
 -- ---- several transfers from an idle bus
 pub several-agree : RunsAgree idleState (whole 0xa2 ++ whole 0x10) (whole 0x54 ++ whole 0xee)

@@ -44,7 +44,7 @@ IsLine (LineRate x) a b = Exactly x a b
 
 abbrev pub Meets : Chip → Claim → Type 0
 Meets c none = Unit
-Meets c (vcnt count overflow) = _≡_ {A = ℕ × Bool} (c .sync .periods .count .0, c .sync .periods .overflow) (count, overflow)
+Meets c (vcnt count overflow) = _≡_ {A = ℕ × Bool} (c .core .sync .periods .count .0, c .core .sync .periods .overflow) (count, overflow)
 Meets c (fieldRate a b) = IsField (rateReport c Field) a b
 Meets c (lineRate a b) = IsLine (rateReport c Line) a b
 

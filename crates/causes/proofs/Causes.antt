@@ -10,7 +10,7 @@ use Rattle.events.specs.declared.Decoded.the-variants.{Read, Write, Pin, Clock,
 use Rattle.events.specs.Word.{decode, InRange}
 use Rattle.events.proofs.Refusal.{decode-in-range}
 use Rattle.chip.specs.declared.Chip.{Chip}
-use Rattle.outcome.specs.Outcome.{next}
+use Rattle.outcome.specs.Outcome.{coreAfter, next}
 use Rattle.causes.specs.Causes.{Source, flag, raises, clears}
 use Rattle.causes.proofs.Flags.{after, never-read, never-write, never-reset, never-refused}
 use Rattle.causes.proofs.Writes.{at-write}
@@ -18,7 +18,7 @@ use Rattle.causes.proofs.Pins.{at-pin}
 use Rattle.causes.proofs.Clocks.{at-clock, at-polarity, never-clock}
 
 at-event : (s : Source) (c : Chip) (e : Decoded) → InRange e → flag s (next c e) ≡ after s c e
-unfolding next clears
+unfolding next coreAfter clears
 at-event s c (Read a) h = rw (never-read s c a)
 at-event s c (Write a b) h = at-write s c a b h
 at-event s c (Pin p level) h = at-pin s c p level
@@ -36,7 +36,7 @@ sets-exactly s c e h f = causes s c e h ∙ rw f (or-false (raises s c e))
 
 -- ---- nothing sets a flag and clears it at once
 
-apart-pin : (s : Source) (c : Chip) (p : ℕ) (level found : Bool) → eqb p 28 ≡ found → (raises s c (Pin p level) && (found && (c .reset && not level))) ≡ false
+apart-pin : (s : Source) (c : Chip) (p : ℕ) (level found : Bool) → eqb p 28 ≡ found → (raises s c (Pin p level) && (found && (c .core .reset && not level))) ≡ false
 apart-pin s c p level true e = rw (eqb-true p 28 e, never-reset s c level)
 apart-pin s c p level false e = and-false (raises s c (Pin p level))
 

@@ -13,14 +13,15 @@ use Rattle.registers.specs.Names.{BTCON}
 use Rattle.registers.specs.Table.{rowOf, resetValue}
 use Rattle.events.specs.declared.Decoded.the-variants.{Clock, Polarity}
 use Rattle.counters.specs.Count.{timerOverflows, watchdogFires}
+use Rattle.chip.specs.declared.Core.{Core}
 use Rattle.chip.specs.declared.Chip.{Chip}
-use Rattle.chip.specs.State.{resetAt, resetChip, registerAt, withWatchdog, withPolarity}
+use Rattle.chip.specs.State.{resetAt, resetCore, registerAt, withWatchdog, withPolarity}
 use Rattle.clocks.specs.Clocks.{periodClock, timerRuns, timerStep, timerClock, watchdogClock, clockedAs, clocked, polarityFound}
-use Rattle.outcome.specs.Outcome.{next}
+use Rattle.outcome.specs.Outcome.{coreAfter, next}
 use Rattle.causes.specs.Causes.{Source, place, flag, raises, clears}
 use Rattle.causes.specs.Causes.Source.{SclFall, DataByte, AddressMatch, TimerOverflow, ExternalRise, VsyncRise}
 use Rattle.causes.proofs.Bools.{always, at-six}
-use Rattle.causes.proofs.Flags.{after, never-polarity, set-bit, zero-bit}
+use Rattle.causes.proofs.Flags.{after, flagIn, never-polarity, set-bit, zero-bit}
 
 -- not below the last value is above the one before it
 last-by : (n last : ℕ) (below : Bool) → ltb n (suc last) ≡ below → not below ≡ ltb last n
@@ -37,7 +38,7 @@ watchdog-last n = last-by n 62 (ltb n 63) refl
 
 -- ---- base clocks
 
-timer-irqx : (reset runs : Bool) (c : Chip) → (pick reset (pick runs (timerStep c) c) c) .irqx ≡ bitOr (c .irqx) (pick (reset && (runs && ltb 0xfe (c .bt))) 0x04 0)
+timer-irqx : (reset runs : Bool) (c : Core) → (pick reset (pick runs (timerStep c) c) c) .irqx ≡ bitOr (c .irqx) (pick (reset && (runs && ltb 0xfe (c .bt))) 0x04 0)
 unfolding timerStep
 timer-irqx true true c = rw (timer-last (c .bt))
 timer-irqx true false c = sym (or-zero-r (c .irqx))
@@ -55,23 +56,23 @@ selected false k = refl
 module _ (c : Chip) (k : ℕ) where
   at-timer-levels : (f : Bool → Bool → Bool → Bool → Bool → Bool → Bool) →
       T (always (λ a. always (λ b. always (λ c. always (λ d. always (λ e. always (f a b c d e)))))))
-      → T (f (c .reset) (bit 0 (registerAt c BTCON)) (bit 1 (registerAt c BTCON)) (eqb k 2) (eqb k 1) (ltb 0xfe (c .bt)))
-  at-timer-levels f t = at-six f t (c .reset) (bit 0 (registerAt c BTCON)) (bit 1 (registerAt c BTCON)) (eqb k 2) (eqb k 1) (ltb 0xfe (c .bt))
+      → T (f (c .core .reset) (bit 0 (registerAt (c .registers) BTCON)) (bit 1 (registerAt (c .registers) BTCON)) (eqb k 2) (eqb k 1) (ltb 0xfe (c .core .bt)))
+  at-timer-levels f t = at-six f t (c .core .reset) (bit 0 (registerAt (c .registers) BTCON)) (bit 1 (registerAt (c .registers) BTCON)) (eqb k 2) (eqb k 1) (ltb 0xfe (c .core .bt))
 
-  timer-bit : (s : Source) → bit (place s) (pick (c .reset && (timerRuns (registerAt c BTCON) k && ltb 0xfe (c .bt))) 0x04 0) ≡ raises s c (Clock k)
+  timer-bit : (s : Source) → bit (place s) (pick (c .core .reset && (timerRuns (registerAt (c .registers) BTCON) k && ltb 0xfe (c .core .bt))) 0x04 0) ≡ raises s c (Clock k)
   unfolding bit raises timerRuns
   timer-bit SclFall = beq-eq _ _ (at-timer-levels (λ r e t two one o. Bool·beq (bit (place SclFall) (pick (r && (runsBy e t two one && o)) 0x04 0)) false) tt)
   timer-bit DataByte = beq-eq _ _ (at-timer-levels (λ r e t two one o. Bool·beq (bit (place DataByte) (pick (r && (runsBy e t two one && o)) 0x04 0)) false) tt)
   timer-bit AddressMatch = beq-eq _ _ (at-timer-levels (λ r e t two one o. Bool·beq (bit (place AddressMatch) (pick (r && (runsBy e t two one && o)) 0x04 0)) false) tt)
   timer-bit TimerOverflow =
-      rw (selected (bit 1 (registerAt c BTCON)) k)
+      rw (selected (bit 1 (registerAt (c .registers) BTCON)) k)
       (beq-eq _ _ (at-timer-levels (λ r e t two one o. Bool·beq (bit (place TimerOverflow) (pick (r && (runsBy e t two one && o)) 0x04 0)) (pick t two one && (r && (not e && o)))) tt))
   timer-bit ExternalRise = beq-eq _ _ (at-timer-levels (λ r e t two one o. Bool·beq (bit (place ExternalRise) (pick (r && (runsBy e t two one && o)) 0x04 0)) false) tt)
   timer-bit VsyncRise = beq-eq _ _ (at-timer-levels (λ r e t two one o. Bool·beq (bit (place VsyncRise) (pick (r && (runsBy e t two one && o)) 0x04 0)) false) tt)
 
-  at-timer : (s : Source) → flag s (pick (c .reset) (timerClock c k) c) ≡ (raises s c (Clock k) || flag s c)
+  at-timer : (s : Source) → flagIn s (pick (c .core .reset) (timerClock (registerAt (c .registers) BTCON) (c .core) k) (c .core)) ≡ (raises s c (Clock k) || flag s c)
   unfolding timerClock
-  at-timer s = rw (timer-irqx (c .reset) (timerRuns (registerAt c BTCON) k) c) (set-bit s (c .irqx) _ _ (timer-bit s))
+  at-timer s = rw (timer-irqx (c .core .reset) (timerRuns (registerAt (c .registers) BTCON) k) (c .core)) (set-bit s (c .core .irqx) _ _ (timer-bit s))
 
 -- ---- the other clocks
 
@@ -81,7 +82,7 @@ unfolding raises
 never-clock SclFall c k two one = refl
 never-clock DataByte c k two one = refl
 never-clock AddressMatch c k two one = refl
-never-clock TimerOverflow c k two one = rw (selected (bit 1 (registerAt c BTCON)) k, two, one) (neither (bit 1 (registerAt c BTCON)) _)
+never-clock TimerOverflow c k two one = rw (selected (bit 1 (registerAt (c .registers) BTCON)) k, two, one) (neither (bit 1 (registerAt (c .registers) BTCON)) _)
   where
     neither : (b x : Bool) → (pick b false false && x) ≡ false
     neither true x = refl
@@ -89,14 +90,14 @@ never-clock TimerOverflow c k two one = rw (selected (bit 1 (registerAt c BTCON)
 never-clock ExternalRise c k two one = refl
 never-clock VsyncRise c k two one = refl
 
-period-by : (reset : Bool) (c : Chip) → (pick reset (periodClock c) c) .irqx ≡ c .irqx
+period-by : (reset : Bool) (c : Core) → (pick reset (periodClock c) c) .irqx ≡ c .irqx
 unfolding periodClock
 period-by true c = refl
 period-by false c = refl
 
-watchdog-by : (reset fires : Bool) (s : Source) (c : Chip) (n : ℕ) →
-    flag s (pick reset (pick fires (resetChip c) (withWatchdog c n)) c) ≡ (not (reset && fires) && flag s c)
-unfolding resetChip resetAt resetValue rowOf
+watchdog-by : (reset fires : Bool) (s : Source) (c : Core) (n : ℕ) →
+    flagIn s (pick reset (pick fires (resetCore c) (withWatchdog c n)) c) ≡ (not (reset && fires) && flagIn s c)
+unfolding resetCore resetAt resetValue rowOf
 watchdog-by true true s c n = zero-bit s
 watchdog-by true false s c n = refl
 watchdog-by false fires s c n = refl
@@ -104,20 +105,20 @@ watchdog-by false fires s c n = refl
 -- ---- all clocks
 
 clock-by : (s : Source) (c : Chip) (k : ℕ) (period watchdog : Bool) → eqb k 0 ≡ period → eqb k 3 ≡ watchdog → flag s (next c (Clock k)) ≡ after s c (Clock k)
-unfolding next clocked clockedAs clears watchdogClock
-clock-by s c k true watchdog e f = rw (eqb-true k 0 e, never-clock s c 0 refl refl, period-by (c .reset) c)
+unfolding next coreAfter clocked clockedAs clears watchdogClock
+clock-by s c k true watchdog e f = rw (eqb-true k 0 e, never-clock s c 0 refl refl, period-by (c .core .reset) (c .core))
 clock-by s c k false true e f =
     rw (eqb-true k 3 f)
-    (watchdog-by (c .reset) (watchdogFires (c .watchdog)) s c _ ∙ rw (never-clock s c 3 refl refl, watchdog-last (c .watchdog)))
+    (watchdog-by (c .core .reset) (watchdogFires (c .core .watchdog)) s (c .core) _ ∙ rw (never-clock s c 3 refl refl, watchdog-last (c .core .watchdog)))
 clock-by s c k false false e f = rw (e, f) (at-timer c k s)
 
 pub at-clock : (s : Source) (c : Chip) (k : ℕ) → flag s (next c (Clock k)) ≡ after s c (Clock k)
 at-clock s c k = clock-by s c k _ _ refl refl
 
-polarity-by : (reset : Bool) (c : Chip) (n : ℕ) → (pick reset (withPolarity c n) c) .irqx ≡ c .irqx
+polarity-by : (reset : Bool) (c : Core) (n : ℕ) → (pick reset (withPolarity c n) c) .irqx ≡ c .irqx
 polarity-by true c n = refl
 polarity-by false c n = refl
 
 pub at-polarity : (s : Source) (c : Chip) (vertical level : Bool) → flag s (next c (Polarity vertical level)) ≡ after s c (Polarity vertical level)
-unfolding next polarityFound clears
-at-polarity s c vertical level = rw (never-polarity s c vertical level, polarity-by (c .reset) c)
+unfolding next coreAfter polarityFound clears
+at-polarity s c vertical level = rw (never-polarity s c vertical level, polarity-by (c .core .reset) (c .core))

@@ -9,6 +9,7 @@ use Rattle.bits.specs.Byte.{pick, bit}
 use Rattle.bits.proofs.Bitwise.{bit-or, bit-and, bit-not}
 use Rattle.events.specs.declared.Decoded.{Decoded}
 use Rattle.events.specs.declared.Decoded.the-variants.{Read, Write, Pin, Polarity, Refused}
+use Rattle.chip.specs.declared.Core.{Core}
 use Rattle.chip.specs.declared.Chip.{Chip}
 use Rattle.causes.specs.Causes.{Source, place, flag, raises, clears}
 use Rattle.causes.specs.Causes.Source.{SclFall, DataByte, AddressMatch, TimerOverflow, ExternalRise, VsyncRise}
@@ -16,6 +17,10 @@ use Rattle.causes.specs.Causes.Source.{SclFall, DataByte, AddressMatch, 
 -- the flag of a source after an event: set, or not cleared and set before
 abbrev pub after : Source → Chip → Decoded → Bool
 after s c e = raises s c e || (not (clears s c e) && flag s c)
+
+-- the flag in a core
+abbrev pub flagIn : Source → Core → Bool
+flagIn s x = bit (place s) (x .irqx)
 
 -- what holds at each source
 by-source : (P : Source → Type 0) → P SclFall → P DataByte → P AddressMatch → P TimerOverflow → P ExternalRise → P VsyncRise → (s : Source) → P s

@@ -3,7 +3,7 @@
 use mathlib.Core.Path.{_≡_, refl, sym}
 use mathlib.Core.Bool.{Bool, true, false, not, _&&_, _||_, Bool·beq}
 use Prim.Native.Nat.{ℕ}
-use lib.Dec.{T, eqb}
+use lib.Dec.{T, eqb, ltb}
 use lib.Bits.{bitOr, or-zero-r}
 use Rattle.bits.specs.Byte.{pick, bit}
 use Rattle.bits.proofs.Finite.{beq-eq}
@@ -14,31 +14,32 @@ use Rattle.bus.specs.declared.Mode.the-variants.{Off, Ddc1, Ddc2b}
 use Rattle.bus.specs.declared.Edge.{Edge}
 use Rattle.bus.specs.declared.Edge.the-variants.{Flat, Rise, Fall}
 use Rattle.bus.specs.declared.Phase.{Phase}
-use Rattle.bus.specs.declared.Phase.the-variants.{Idle, Address, Ignoring, Receive, Transmit, Held}
+use Rattle.bus.specs.declared.Phase.the-variants.{Idle, Address, Addressed, Ignoring, Receive, Transmit, Held}
 use Rattle.bus.specs.declared.Shifter.{Shifter}
-use Rattle.bus.specs.Lines.{edge, line, mode, modeBy, pullsSda, pullsScl, sclPulled}
+use Rattle.bus.specs.Bus.{edge, line, mode, modeBy, pullsSda, pullsScl, sclPulled}
 use Rattle.bus.specs.Ddc1.{loadsAtRise}
 use Rattle.ddc2b.specs.Ddc2b.{matches, gathered, matchesAtRise, holdsAtFall}
+use Rattle.chip.specs.declared.Core.{Core}
 use Rattle.chip.specs.declared.Chip.{Chip}
-use Rattle.chip.specs.State.{resetAt, resetChip, modeOf, withReset, withSda}
-use Rattle.lines.specs.Bus.{activeMode, onScl, onSclDdc1, onSclDdc2b, sclRise, sclFall, leaveDdc1, sclMoved, onSda, onSdaDdc2b, started, stopped, sdaMoved, loadsAtVsync}
+use Rattle.chip.specs.State.{resetAt, resetCore, modeOf, withReset, withSda}
+use Rattle.edges.specs.Edges.{activeMode, onScl, onSclDdc1, onSclDdc2b, sclRise, sclFall, leaveDdc1, sclMoved, onSda, onSdaDdc2b, started, stopped, sdaMoved, loadsAtVsync}
 use Rattle.pins.specs.declared.PinKind.{PinKind}
 use Rattle.pins.specs.Pins.{rises, port0Moved, port1Moved, port2Moved, p16Moved, hsyncMoved, vsyncLevel, vsyncMoved, vsyncRise, onReset, resetMoved, pinMovedAs, pinMoved}
 use Rattle.pins.proofs.Numbers.{Unnamed, Numbered, p16-pin, sda-pin, scl-pin, hsynci-pin, vsynci-pin, reset-pin, port0-pin, port1-pin, port2-pin, no-pin, numbered}
-use Rattle.outcome.specs.Outcome.{next}
+use Rattle.outcome.specs.Outcome.{coreAfter, next}
 use Rattle.causes.specs.Causes.{Source, place, flag, raises, clears, completesMatch, inNinthClock}
 use Rattle.causes.specs.Causes.Source.{SclFall, DataByte, AddressMatch, TimerOverflow, ExternalRise, VsyncRise}
 use Rattle.causes.proofs.Bools.{always, at-three, at-six, at-eight}
-use Rattle.causes.proofs.Flags.{after, never-reset, set-bit, zero-bit}
+use Rattle.causes.proofs.Flags.{after, flagIn, never-reset, set-bit, zero-bit}
 
 -- ---- P16
 
 module _ (c : Chip) (level : Bool) where
   -- a law of the Bools that it depends on
-  at-p16-levels : (f : Bool → Bool → Bool → Bool) → T (always (λ a. always (λ b. always (f a b)))) → T (f (c .reset) (bit 6 (c .pins .port1)) level)
-  at-p16-levels f t = at-three f t (c .reset) (bit 6 (c .pins .port1)) level
+  at-p16-levels : (f : Bool → Bool → Bool → Bool) → T (always (λ a. always (λ b. always (f a b)))) → T (f (c .core .reset) (bit 6 (c .core .pins .port1)) level)
+  at-p16-levels f t = at-three f t (c .core .reset) (bit 6 (c .core .pins .port1)) level
 
-  p16-bit : (s : Source) → bit (place s) (pick (rises (c .reset) (bit 6 (c .pins .port1)) level) 0x02 0) ≡ raises s c (Pin 14 level)
+  p16-bit : (s : Source) → bit (place s) (pick (rises (c .core .reset) (bit 6 (c .core .pins .port1)) level) 0x02 0) ≡ raises s c (Pin 14 level)
   unfolding bit raises
   p16-bit SclFall = beq-eq _ _ (at-p16-levels (λ r o l. Bool·beq (bit (place SclFall) (pick (rises r o l) 0x02 0)) false) tt)
   p16-bit DataByte = beq-eq _ _ (at-p16-levels (λ r o l. Bool·beq (bit (place DataByte) (pick (rises r o l) 0x02 0)) false) tt)
@@ -47,9 +48,9 @@ module _ (c : Chip) (level : Bool) where
   p16-bit ExternalRise = beq-eq _ _ (at-p16-levels (λ r o l. Bool·beq (bit (place ExternalRise) (pick (rises r o l) 0x02 0)) (l && (r && not o))) tt)
   p16-bit VsyncRise = beq-eq _ _ (at-p16-levels (λ r o l. Bool·beq (bit (place VsyncRise) (pick (rises r o l) 0x02 0)) false) tt)
 
-  at-p16 : (s : Source) → flag s (p16Moved c level) ≡ after s c (Pin 14 level)
+  at-p16 : (s : Source) → flagIn s (p16Moved (c .core) level) ≡ after s c (Pin 14 level)
   unfolding p16Moved port1Moved clears
-  at-p16 s = set-bit s (c .irqx) _ _ (p16-bit s)
+  at-p16 s = set-bit s (c .core .irqx) _ _ (p16-bit s)
 
 -- ---- SCL
 
@@ -66,29 +67,31 @@ sclFlags Ddc2b Fall hit ninth = bitOr 0x20 (pick ninth 0x10 0)
 hit-is : (own : ℕ) (sda : Bool) (p : Phase) → matchesAtRise own sda p ≡ completesMatch own sda p
 unfolding matchesAtRise
 hit-is own sda Idle = refl
-hit-is own sda (Address count bits acknowledged) = pick-and (eqb count 7) (matches own (gathered bits sda))
+hit-is own sda (Address count bits) = pick-and (ltb count 7) (matches own (gathered bits sda))
   where
-    pick-and : (a b : Bool) → pick a b false ≡ (a && b)
+    pick-and : (a b : Bool) → pick a false b ≡ (not a && b)
     pick-and true b = refl
     pick-and false b = refl
+hit-is own sda (Addressed bits ninth) = refl
 hit-is own sda Ignoring = refl
-hit-is own sda (Receive count bits acknowledged) = refl
+hit-is own sda (Receive count bits) = refl
 hit-is own sda (Transmit count byte) = refl
-hit-is own sda Held = refl
+hit-is own sda (Held clocks) = refl
 
 ninth-is : (p : Phase) → holdsAtFall p ≡ inNinthClock p
 unfolding holdsAtFall
 ninth-is Idle = refl
-ninth-is (Address count bits acknowledged) = refl
+ninth-is (Address count bits) = refl
+ninth-is (Addressed bits ninth) = refl
 ninth-is Ignoring = refl
-ninth-is (Receive count bits acknowledged) = refl
+ninth-is (Receive count bits) = refl
 ninth-is (Transmit count byte) = refl
-ninth-is Held = refl
+ninth-is (Held clocks) = refl
 
-abbrev hits : Chip → Bool
+abbrev hits : Core → Bool
 hits c = completesMatch (c .bus .iiadr) (line (pullsSda (c .bus .phase)) (c .sda)) (c .bus .phase)
 
-scl-irqx : (m : Mode) (e : Edge) (c : Chip) → onScl m e c .irqx ≡ bitOr (c .irqx) (sclFlags m e (hits c) (inNinthClock (c .bus .phase)))
+scl-irqx : (m : Mode) (e : Edge) (c : Core) → onScl m e c .irqx ≡ bitOr (c .irqx) (sclFlags m e (hits c) (inNinthClock (c .bus .phase)))
 unfolding onScl onSclDdc1 onSclDdc2b sclRise sclFall leaveDdc1
 scl-irqx Off e c = sym (or-zero-r (c .irqx))
 scl-irqx Ddc1 Flat c = sym (or-zero-r (c .irqx))
@@ -118,11 +121,11 @@ sclFlagsBy reset enddc md held old new hit ninth =
 module _ (c : Chip) (level : Bool) where
   at-scl-levels : (f : Bool → Bool → Bool → Bool → Bool → Bool → Bool → Bool → Bool) →
       T (always (λ a. always (λ b. always (λ c. always (λ d. always (λ e. always (λ g. always (λ h. always (f a b c d e g h)))))))))
-      → T (f (c .reset) (bit 3 (c .bus .iists)) (bit 0 (c .mdcon)) (pullsScl (c .bus .phase)) (c .scl) level (hits c) (inNinthClock (c .bus .phase)))
-  at-scl-levels f t = at-eight f t (c .reset) (bit 3 (c .bus .iists)) (bit 0 (c .mdcon)) (pullsScl (c .bus .phase)) (c .scl) level (hits c) (inNinthClock (c .bus .phase))
+      → T (f (c .core .reset) (bit 3 (c .core .bus .iists)) (bit 0 (c .core .mdcon)) (pullsScl (c .core .bus .phase)) (c .core .scl) level (hits (c .core)) (inNinthClock (c .core .bus .phase)))
+  at-scl-levels f t = at-eight f t (c .core .reset) (bit 3 (c .core .bus .iists)) (bit 0 (c .core .mdcon)) (pullsScl (c .core .bus .phase)) (c .core .scl) level (hits (c .core)) (inNinthClock (c .core .bus .phase))
 
   scl-bit : (s : Source) →
-      bit (place s) (sclFlagsBy (c .reset) (bit 3 (c .bus .iists)) (bit 0 (c .mdcon)) (pullsScl (c .bus .phase)) (c .scl) level (hits c) (inNinthClock (c .bus .phase)))
+      bit (place s) (sclFlagsBy (c .core .reset) (bit 3 (c .core .bus .iists)) (bit 0 (c .core .mdcon)) (pullsScl (c .core .bus .phase)) (c .core .scl) level (hits (c .core)) (inNinthClock (c .core .bus .phase)))
       ≡ raises s c (Pin 25 level)
   unfolding bit raises
   scl-bit SclFall = beq-eq _ _ (at-scl-levels (λ r e m h o l a n. Bool·beq (bit (place SclFall) (sclFlagsBy r e m h o l a n)) ((not l && (r && (o && not ((not e && not m) && h)))) && not e)) tt)
@@ -132,9 +135,9 @@ module _ (c : Chip) (level : Bool) where
   scl-bit ExternalRise = beq-eq _ _ (at-scl-levels (λ r e m h o l a n. Bool·beq (bit (place ExternalRise) (sclFlagsBy r e m h o l a n)) false) tt)
   scl-bit VsyncRise = beq-eq _ _ (at-scl-levels (λ r e m h o l a n. Bool·beq (bit (place VsyncRise) (sclFlagsBy r e m h o l a n)) false) tt)
 
-  at-scl : (s : Source) → flag s (sclMoved c level) ≡ after s c (Pin 25 level)
+  at-scl : (s : Source) → flagIn s (sclMoved (c .core) level) ≡ after s c (Pin 25 level)
   unfolding sclMoved mode clears
-  at-scl s = rw (pulled-is (activeMode c) (c .bus .phase), scl-irqx) (set-bit s (c .irqx) _ _ (scl-bit s))
+  at-scl s = rw (pulled-is (activeMode (c .core)) (c .core .bus .phase), scl-irqx) (set-bit s (c .core .irqx) _ _ (scl-bit s))
 
 -- ---- VSYNCI
 
@@ -153,7 +156,7 @@ vsync-irqx true Off s x = refl
 vsync-irqx true Ddc1 s x = refl
 vsync-irqx true Ddc2b s x = refl
 
-vsync-moved : (rise : Bool) (c : Chip) (level : Bool) →
+vsync-moved : (rise : Bool) (c : Core) (level : Bool) →
     (pick rise (vsyncRise (vsyncLevel c level)) (vsyncLevel c level)) .irqx
     ≡ pick rise (bitOr (c .irqx) (bitOr 0x01 (pick (loadsAtVsync (modeOf c) (c .bus .shifter)) 0x10 0))) (c .irqx)
 unfolding vsyncRise
@@ -163,11 +166,11 @@ vsync-moved false c level = refl
 module _ (c : Chip) (level : Bool) where
   at-vsync-levels : (f : Bool → Bool → Bool → Bool → Bool → Bool → Bool) →
       T (always (λ a. always (λ b. always (λ c. always (λ d. always (λ e. always (f a b c d e)))))))
-      → T (f (c .reset) (c .pins .vsynci) level (bit 3 (c .bus .iists)) (bit 0 (c .mdcon)) (eqb (c .bus .shifter .edges) 0))
-  at-vsync-levels f t = at-six f t (c .reset) (c .pins .vsynci) level (bit 3 (c .bus .iists)) (bit 0 (c .mdcon)) (eqb (c .bus .shifter .edges) 0)
+      → T (f (c .core .reset) (c .core .pins .vsynci) level (bit 3 (c .core .bus .iists)) (bit 0 (c .core .mdcon)) (eqb (c .core .bus .shifter .edges) 0))
+  at-vsync-levels f t = at-six f t (c .core .reset) (c .core .pins .vsynci) level (bit 3 (c .core .bus .iists)) (bit 0 (c .core .mdcon)) (eqb (c .core .bus .shifter .edges) 0)
 
   vsync-bit : (s : Source) →
-      bit (place s) (vsyncFlags (rises (c .reset) (c .pins .vsynci) level) (modeBy (bit 3 (c .bus .iists)) (bit 0 (c .mdcon))) (eqb (c .bus .shifter .edges) 0))
+      bit (place s) (vsyncFlags (rises (c .core .reset) (c .core .pins .vsynci) level) (modeBy (bit 3 (c .core .bus .iists)) (bit 0 (c .core .mdcon))) (eqb (c .core .bus .shifter .edges) 0))
       ≡ raises s c (Pin 27 level)
   unfolding bit raises
   vsync-bit SclFall = beq-eq _ _ (at-vsync-levels (λ r o l e m n. Bool·beq (bit (place SclFall) (vsyncFlags (rises r o l) (modeBy e m) n)) false) tt)
@@ -177,24 +180,24 @@ module _ (c : Chip) (level : Bool) where
   vsync-bit ExternalRise = beq-eq _ _ (at-vsync-levels (λ r o l e m n. Bool·beq (bit (place ExternalRise) (vsyncFlags (rises r o l) (modeBy e m) n)) false) tt)
   vsync-bit VsyncRise = beq-eq _ _ (at-vsync-levels (λ r o l e m n. Bool·beq (bit (place VsyncRise) (vsyncFlags (rises r o l) (modeBy e m) n)) (l && (r && not o))) tt)
 
-  at-vsync : (s : Source) → flag s (vsyncMoved c level) ≡ after s c (Pin 27 level)
+  at-vsync : (s : Source) → flagIn s (vsyncMoved (c .core) level) ≡ after s c (Pin 27 level)
   unfolding vsyncMoved mode clears
   at-vsync s =
-      rw (vsync-moved (rises (c .reset) (c .pins .vsynci) level) c level, vsync-irqx (rises (c .reset) (c .pins .vsynci) level) (modeOf c) (c .bus .shifter) (c .irqx))
-      (set-bit s (c .irqx) _ _ (vsync-bit s))
+      rw (vsync-moved (rises (c .core .reset) (c .core .pins .vsynci) level) (c .core) level, vsync-irqx (rises (c .core .reset) (c .core .pins .vsynci) level) (modeOf (c .core)) (c .core .bus .shifter) (c .core .irqx))
+      (set-bit s (c .core .irqx) _ _ (vsync-bit s))
 
 -- ---- RESET
 
-reset-by : (s : Source) (c : Chip) (old level : Bool) → flag s (onReset (edge old level) (withReset c level)) ≡ (not (old && not level) && flag s c)
-unfolding onReset resetChip resetAt resetValue rowOf
+reset-by : (s : Source) (c : Core) (old level : Bool) → flagIn s (onReset (edge old level) (withReset c level)) ≡ (not (old && not level) && flagIn s c)
+unfolding onReset resetCore resetAt resetValue rowOf
 reset-by s c true true = refl
 reset-by s c true false = zero-bit s
 reset-by s c false true = refl
 reset-by s c false false = refl
 
-at-reset : (s : Source) (c : Chip) (level : Bool) → flag s (resetMoved c level) ≡ after s c (Pin 28 level)
+at-reset : (s : Source) (c : Chip) (level : Bool) → flagIn s (resetMoved (c .core) level) ≡ after s c (Pin 28 level)
 unfolding resetMoved clears
-at-reset s c level = rw (never-reset s c level) (reset-by s c (c .reset) level)
+at-reset s c level = rw (never-reset s c level) (reset-by s (c .core) (c .core .reset) level)
 
 -- ---- every other pin
 
@@ -216,7 +219,7 @@ module _ (c : Chip) (p : ℕ) (level : Bool) (p16 : eqb p 14 ≡ false) (scl : e
 at-unnamed : (c : Chip) {p : ℕ} (level : Bool) → Unnamed p → (s : Source) → flag s c ≡ after s c (Pin p level)
 at-unnamed c {p} level u s = at-plain c p level (u .p16) (u .scl) (u .vsynci) (u .reset) s
 
-sda-irqx : (m : Mode) (high : Bool) (e : Edge) (c : Chip) → onSda m high e c .irqx ≡ c .irqx
+sda-irqx : (m : Mode) (high : Bool) (e : Edge) (c : Core) → onSda m high e c .irqx ≡ c .irqx
 unfolding onSda onSdaDdc2b started stopped
 sda-irqx Off high e c = refl
 sda-irqx Ddc1 high e c = refl
@@ -226,25 +229,25 @@ sda-irqx Ddc2b false Rise c = refl
 sda-irqx Ddc2b true Fall c = refl
 sda-irqx Ddc2b false Fall c = refl
 
-sda-moved : (c : Chip) (level : Bool) → sdaMoved c level .irqx ≡ c .irqx
+sda-moved : (c : Core) (level : Bool) → sdaMoved c level .irqx ≡ c .irqx
 unfolding sdaMoved
 sda-moved c level = sda-irqx _ _ _ (withSda c level)
 
 -- ---- all pins
 
-at-kind : {k : PinKind} {p : ℕ} → Numbered k p → (s : Source) (c : Chip) (level : Bool) → flag s (pinMovedAs k c p level) ≡ after s c (Pin p level)
+at-kind : {k : PinKind} {p : ℕ} → Numbered k p → (s : Source) (c : Chip) (level : Bool) → flagIn s (pinMovedAs k (c .core) p level) ≡ after s c (Pin p level)
 unfolding pinMovedAs port0Moved port1Moved port2Moved hsyncMoved
 at-kind (port0-pin u high) s c level = at-unnamed c level u s
 at-kind (port1-pin u low high) s c level = at-unnamed c level u s
 at-kind (port2-pin u low high) s c level = at-unnamed c level u s
 at-kind (no-pin u none) s c level = at-unnamed c level u s
 at-kind p16-pin s c level = at-p16 c level s
-at-kind sda-pin s c level = rw (sda-moved c level) (at-plain c 24 level refl refl refl refl s)
+at-kind sda-pin s c level = rw (sda-moved (c .core) level) (at-plain c 24 level refl refl refl refl s)
 at-kind scl-pin s c level = at-scl c level s
 at-kind hsynci-pin s c level = at-plain c 26 level refl refl refl refl s
 at-kind vsynci-pin s c level = at-vsync c level s
 at-kind reset-pin s c level = at-reset s c level
 
 pub at-pin : (s : Source) (c : Chip) (p : ℕ) (level : Bool) → flag s (next c (Pin p level)) ≡ after s c (Pin p level)
-unfolding next pinMoved
+unfolding next coreAfter pinMoved
 at-pin s c p level = at-kind (numbered p) s c level

@@ -11,8 +11,8 @@ use Rattle.events.specs.declared.Decoded.{Decoded}
 use Rattle.events.specs.Word.{decode}
 use Rattle.answers.specs.Answer.{answerWord}
 use Rattle.chip.specs.declared.Chip.{Chip}
-use Rattle.chip.specs.State.{requests as requestsOf, registerAt}
-use Rattle.form.specs.Form.{wellFormed}
+use Rattle.chip.specs.State.{requested, requests as requestsOf, registerAt}
+use Rattle.well_formed.specs.WellFormed.{wellFormed}
 use Rattle.step.specs.declared.Stepped.{Stepped}
 use Rattle.outcome.proofs.Byte.{byte-lt}
 use Rattle.step.specs.Step.{answered, advance, step}
@@ -23,8 +23,8 @@ use Rattle.causes.specs.Causes.Source.{SclFall, DataByte, AddressMatch, 
 -- ---- a request is a flag that is enabled
 
 pub requests : (s : Source) (c : Chip) → bit (place s) (requestsOf c) ≡ (flag s c && enabled s c)
-unfolding requestsOf
-requests s c = bit-and (place s) (c .irqx) (registerAt c IEX)
+unfolding requested
+requests s c = bit-and (place s) (c .core .irqx) (registerAt (c .registers) IEX)
 
 -- ---- the same on the answer word
 

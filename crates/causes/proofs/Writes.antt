@@ -29,5 +29,5 @@ pub at-write : (s : Source) (c : Chip) (a b : ℕ) → InRange (Write a b) → f
 unfolding clears
 at-write s c a b h =
     by-write (λ (x : Chip). flag s x ≡ after s c (Write a b)) c a b
-    (λ r _. rw (never-write s c a b, r) (clear-bit s (c .irqx) b (eqb a CLRFLG) (h .1)))
-    (λ n. rw (never-write s c a b, unclear a (eqb a CLRFLG) (c .reset) _ refl n))
+    (λ r _. rw (never-write s c a b, r) (clear-bit s (c .core .irqx) b (eqb a CLRFLG) (h .1)))
+    (λ n. rw (never-write s c a b, unclear a (eqb a CLRFLG) (c .core .reset) _ refl n))

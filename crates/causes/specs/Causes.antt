@@ -10,8 +10,8 @@ use Rattle.events.specs.Clocks as clock
 use Rattle.events.specs.declared.Decoded.{Decoded}
 use Rattle.events.specs.declared.Decoded.the-variants.{Read, Write, Pin, Clock, Polarity, Refused}
 use Rattle.bus.specs.declared.Phase.{Phase}
-use Rattle.bus.specs.declared.Phase.the-variants.{Idle, Address, Ignoring, Receive, Transmit, Held}
-use Rattle.bus.specs.Lines.{line, pullsSda, pullsScl}
+use Rattle.bus.specs.declared.Phase.the-variants.{Idle, Address, Addressed, Ignoring, Receive, Transmit, Held}
+use Rattle.bus.specs.Bus.{line, pullsSda, pullsScl}
 use Rattle.ddc2b.specs.Ddc2b.{matches, gathered}
 use Rattle.chip.specs.declared.Chip.{Chip}
 use Rattle.chip.specs.State.{registerAt}
@@ -31,11 +31,11 @@ place VsyncRise = INTV
 
 -- the source's flag in IRQX
 abbrev pub flag : Source → Chip → Bool
-flag s c = bit (place s) (c .irqx)
+flag s c = bit (place s) (c .core .irqx)
 
 -- its enable bit in IEX
 abbrev pub enabled : Source → Chip → Bool
-enabled s c = bit (place s) (registerAt c IEX)
+enabled s c = bit (place s) (registerAt (c .registers) IEX)
 
 -- ---- events, by what they put
 
@@ -70,53 +70,55 @@ isClock k (Refused n) = false
 
 -- ENDDC of II STS is 0
 abbrev pub ddcOn : Chip → Bool
-ddcOn c = not (bit ENDDC (c .bus .iists))
+ddcOn c = not (bit ENDDC (c .core .bus .iists))
 
 -- on, with MD1/2 of MDCON at 1
 abbrev pub inDdc1 : Chip → Bool
-inDdc1 c = ddcOn c && bit MD12 (c .mdcon)
+inDdc1 c = ddcOn c && bit MD12 (c .core .mdcon)
 
 -- on, with MD1/2 at 0
 abbrev pub inDdc2b : Chip → Bool
-inDdc2b c = ddcOn c && not (bit MD12 (c .mdcon))
+inDdc2b c = ddcOn c && not (bit MD12 (c .core .mdcon))
 
 -- ---- edges that the chip acts on: none while RESET is low, none where the level is there already
 
 abbrev pub risesP16 : Chip → Decoded → Bool
-risesP16 c e = putHigh pin.P16 e && (c .reset && not (bit (pin.P16 % 8) (c .pins .port1)))
+risesP16 c e = putHigh pin.P16 e && (c .core .reset && not (bit (pin.P16 % 8) (c .core .pins .port1)))
 
 abbrev pub risesVsynci : Chip → Decoded → Bool
-risesVsynci c e = putHigh pin.VSYNCI e && (c .reset && not (c .pins .vsynci))
+risesVsynci c e = putHigh pin.VSYNCI e && (c .core .reset && not (c .core .pins .vsynci))
 
 -- the SCL line follows its outside level unless the chip holds it low, in DDC2B
 abbrev pub sclFree : Chip → Bool
-sclFree c = not (inDdc2b c && pullsScl (c .bus .phase))
+sclFree c = not (inDdc2b c && pullsScl (c .core .bus .phase))
 
 abbrev pub risesScl : Chip → Decoded → Bool
-risesScl c e = putHigh pin.SCL e && (c .reset && (not (c .scl) && sclFree c))
+risesScl c e = putHigh pin.SCL e && (c .core .reset && (not (c .core .scl) && sclFree c))
 
 abbrev pub fallsScl : Chip → Decoded → Bool
-fallsScl c e = putLow pin.SCL e && (c .reset && (c .scl && sclFree c))
+fallsScl c e = putLow pin.SCL e && (c .core .reset && (c .core .scl && sclFree c))
 
 -- ---- where a byte on the bus stands
 
 -- seven bits of an address are gathered, and with the SDA line as the eighth it matches A0H or II ADR
 abbrev pub completesMatch : ℕ → Bool → Phase → Bool
 completesMatch own sda Idle = false
-completesMatch own sda (Address count bits acknowledged) = eqb count 7 && matches own (gathered bits sda)
+completesMatch own sda (Address count bits) = not (ltb count 7) && matches own (gathered bits sda)
+completesMatch own sda (Addressed bits ninth) = false
 completesMatch own sda Ignoring = false
-completesMatch own sda (Receive count bits acknowledged) = false
+completesMatch own sda (Receive count bits) = false
 completesMatch own sda (Transmit count byte) = false
-completesMatch own sda Held = false
+completesMatch own sda (Held clocks) = false
 
--- the acknowledge of a byte was given, or taken at the end of a transmit: the next fall ends the ninth clock
+-- the ninth clock of a byte runs, acknowledged or not, or the acknowledge of a transmit was taken: the next fall ends it
 abbrev pub inNinthClock : Phase → Bool
 inNinthClock Idle = false
-inNinthClock (Address count bits acknowledged) = acknowledged
+inNinthClock (Address count bits) = false
+inNinthClock (Addressed bits ninth) = ninth
 inNinthClock Ignoring = false
-inNinthClock (Receive count bits acknowledged) = acknowledged
+inNinthClock (Receive count bits) = ltb 8 count
 inNinthClock (Transmit count byte) = eqb count 10
-inNinthClock Held = false
+inNinthClock (Held clocks) = false
 
 -- ---- causes
 
@@ -130,21 +132,21 @@ inNinthClock Held = false
 unfoldable pub raises : Source → Chip → Decoded → Bool
 raises SclFall c e = fallsScl c e && ddcOn c
 raises DataByte c e =
-    (risesVsynci c e && (inDdc1 c && eqb (c .bus .shifter .edges) 0))
-    || (fallsScl c e && (inDdc2b c && inNinthClock (c .bus .phase)))
+    (risesVsynci c e && (inDdc1 c && eqb (c .core .bus .shifter .edges) 0))
+    || (fallsScl c e && (inDdc2b c && inNinthClock (c .core .bus .phase)))
 raises AddressMatch c e =
-    risesScl c e && (inDdc2b c && completesMatch (c .bus .iiadr) (line (pullsSda (c .bus .phase)) (c .sda)) (c .bus .phase))
+    risesScl c e && (inDdc2b c && completesMatch (c .core .bus .iiadr) (line (pullsSda (c .core .bus .phase)) (c .core .sda)) (c .core .bus .phase))
 raises TimerOverflow c e =
-    isClock (pick (bit TBS (registerAt c BTCON)) clock.base1 clock.base0) e
-    && (c .reset && (not (bit ENBT (registerAt c BTCON)) && ltb 0xfe (c .bt)))
+    isClock (pick (bit TBS (registerAt (c .registers) BTCON)) clock.base1 clock.base0) e
+    && (c .core .reset && (not (bit ENBT (registerAt (c .registers) BTCON)) && ltb 0xfe (c .core .bt)))
 raises ExternalRise c e = risesP16 c e
 raises VsyncRise c e = risesVsynci c e
 
 -- what clears a flag: a 1 in its bit of CLRFLG, RESET going low, and the 64th watchdog clock, which finds 63 counted
 unfoldable pub clears : Source → Chip → Decoded → Bool
 clears s c (Read a) = false
-clears s c (Write a b) = eqb a CLRFLG && (c .reset && bit (place s) b)
-clears s c (Pin p level) = eqb p pin.RESET && (c .reset && not level)
-clears s c (Clock k) = eqb k clock.watchdog && (c .reset && ltb 62 (c .watchdog))
+clears s c (Write a b) = eqb a CLRFLG && (c .core .reset && bit (place s) b)
+clears s c (Pin p level) = eqb p pin.RESET && (c .core .reset && not level)
+clears s c (Clock k) = eqb k clock.watchdog && (c .core .reset && ltb 62 (c .core .watchdog))
 clears s c (Polarity vertical level) = false
 clears s c (Refused n) = false

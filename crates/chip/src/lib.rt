@@ -1,6 +1,7 @@
 // The chip: its state, a fresh one and a reset one, and what other parts ask of a state.
 ghost use mathlib.Core.Path.{_≡_};
-ghost use Rattle.chip.specs.State.{idleBus, released as releasedOf, requests as requestsOf, resetAt, resetChip, fresh as freshOf, modeOf, hselOf, registerAt};
+ghost use Rattle.chip.specs.State.{idleBus, released as releasedOf, requested as requestedOf, requests as requestsOf, resetAt, resetCore, fresh as freshOf, modeOf, hselOf, registerAt, keep as keepOf, raised as raisedOf, withIrqx, withMdcon, withPolarity, withBt, withWatchdog, withSync, withBus, withPins, withSda, withScl, withReset};
+ghost use lib.ListN.{set};
 use bus::Mode;
 use bus::Phase;
 use bus::Shifter;
@@ -15,10 +16,11 @@ use registers::IRQX;
 use registers::MDCON;
 use sync::Sync;
 
-// The registers of the bus, the phase of a transfer, and the shift register of DDC1.
+// The registers of the bus, the phase of a transfer, and the shift register of DDC1. II ADR stands first: with the two that an edge
+// moves side by side behind it, the compiler keeps each in a machine register (docs/PERFORMANCE.md).
 pub struct Bus {
-    pub iists: u8,
     pub iiadr: u8,
+    pub iists: u8,
     pub iidat: u8,
     pub phase: Phase,
     pub shifter: Shifter,
@@ -33,10 +35,11 @@ pub struct Pins {
     pub vsynci: bool,
 }
 
-// The whole state. `registers` holds what writes store; registers that the chip itself moves, and II ADR, stand apart: IRQX, MDCON, the
-// polarity bits of HVCON, BT, and those of the bus. `sda`, `scl` and `reset` are outside levels.
-pub struct Chip {
-    pub registers: [u8; 38],
+// What edges, clocks, pins and the bus move, and what steers them: numbers and small enums, no array. IRQX, MDCON, the polarity
+// bits of HVCON and BT stand here, since the chip itself moves them. `sda`, `scl` and `reset` are outside levels; they stand
+// apart from `pins` since the bus looks at SDA and SCL and everything at RESET, and since of two states that differ in SDA
+// alone all of `pins` is then the same.
+pub struct Core {
     pub irqx: u8,
     pub mdcon: u8,
     pub polarity: u8,
@@ -48,6 +51,20 @@ pub struct Chip {
     pub sda: bool,
     pub scl: bool,
     pub reset: bool,
+}
+
+// The whole state. `registers` holds what writes store and only reads, writes and resets look at; its places for registers that
+// stand in the core are not used.
+pub struct Chip {
+    pub registers: [u8; 38],
+    pub core: Core,
+}
+
+// What an event leaves in the array of stored registers: all as it was, one register stored, or every one at its reset value.
+pub enum Kept {
+    Same,
+    Stored(u8, u8),
+    Reset,
 }
 
 // A bus with no transfer, ones in the shift register and nine edges left.
@@ -74,17 +91,268 @@ pub fn released(b: Bus) -> Bus
     idle_bus(b.iists, b.iiadr, b.iidat)
 }
 
-// The mode of DDC at a chip.
+// ---- one part of the core put anew, the others kept
+
+// Wrong answers: IRQX as it was; MDCON put too.
+pub fn with_irqx(c: Core, irqx: u8) -> Core
+    ensures { λ r. ⌜ r ≡ withIrqx c irqx ⌝ }
+{
+    let sync = c.sync;
+    let bus = c.bus;
+    let pins = c.pins;
+    Core {
+        irqx: irqx,
+        mdcon: c.mdcon,
+        polarity: c.polarity,
+        bt: c.bt,
+        watchdog: c.watchdog,
+        sync: sync,
+        bus: bus,
+        pins: pins,
+        sda: c.sda,
+        scl: c.scl,
+        reset: c.reset,
+    }
+}
+
+// Wrong answers: MDCON as it was; BT put too.
+pub fn with_mdcon(c: Core, mdcon: u8) -> Core
+    ensures { λ r. ⌜ r ≡ withMdcon c mdcon ⌝ }
+{
+    let sync = c.sync;
+    let bus = c.bus;
+    let pins = c.pins;
+    Core {
+        irqx: c.irqx,
+        mdcon: mdcon,
+        polarity: c.polarity,
+        bt: c.bt,
+        watchdog: c.watchdog,
+        sync: sync,
+        bus: bus,
+        pins: pins,
+        sda: c.sda,
+        scl: c.scl,
+        reset: c.reset,
+    }
+}
+
+// Wrong answers: the polarities as they were; BT put too.
+pub fn with_polarity(c: Core, polarity: u8) -> Core
+    ensures { λ r. ⌜ r ≡ withPolarity c polarity ⌝ }
+{
+    let sync = c.sync;
+    let bus = c.bus;
+    let pins = c.pins;
+    Core {
+        irqx: c.irqx,
+        mdcon: c.mdcon,
+        polarity: polarity,
+        bt: c.bt,
+        watchdog: c.watchdog,
+        sync: sync,
+        bus: bus,
+        pins: pins,
+        sda: c.sda,
+        scl: c.scl,
+        reset: c.reset,
+    }
+}
+
+// Wrong answers: BT as it was; the watchdog put too.
+pub fn with_bt(c: Core, bt: u8) -> Core
+    ensures { λ r. ⌜ r ≡ withBt c bt ⌝ }
+{
+    let sync = c.sync;
+    let bus = c.bus;
+    let pins = c.pins;
+    Core {
+        irqx: c.irqx,
+        mdcon: c.mdcon,
+        polarity: c.polarity,
+        bt: bt,
+        watchdog: c.watchdog,
+        sync: sync,
+        bus: bus,
+        pins: pins,
+        sda: c.sda,
+        scl: c.scl,
+        reset: c.reset,
+    }
+}
+
+// Wrong answers: the count as it was; BT put too.
+pub fn with_watchdog(c: Core, watchdog: u8) -> Core
+    ensures { λ r. ⌜ r ≡ withWatchdog c watchdog ⌝ }
+{
+    let sync = c.sync;
+    let bus = c.bus;
+    let pins = c.pins;
+    Core {
+        irqx: c.irqx,
+        mdcon: c.mdcon,
+        polarity: c.polarity,
+        bt: c.bt,
+        watchdog: watchdog,
+        sync: sync,
+        bus: bus,
+        pins: pins,
+        sda: c.sda,
+        scl: c.scl,
+        reset: c.reset,
+    }
+}
+
+// Wrong answers: the counters as they were; IRQX cleared.
+pub fn with_sync(c: Core, sync: Sync) -> Core
+    ensures { λ r. ⌜ r ≡ withSync c sync ⌝ }
+{
+    let bus = c.bus;
+    let pins = c.pins;
+    Core {
+        irqx: c.irqx,
+        mdcon: c.mdcon,
+        polarity: c.polarity,
+        bt: c.bt,
+        watchdog: c.watchdog,
+        sync: sync,
+        bus: bus,
+        pins: pins,
+        sda: c.sda,
+        scl: c.scl,
+        reset: c.reset,
+    }
+}
+
+// Wrong answers: the bus as it was; the watchdog cleared.
+pub fn with_bus(c: Core, bus: Bus) -> Core
+    ensures { λ r. ⌜ r ≡ withBus c bus ⌝ }
+{
+    let sync = c.sync;
+    let pins = c.pins;
+    Core {
+        irqx: c.irqx,
+        mdcon: c.mdcon,
+        polarity: c.polarity,
+        bt: c.bt,
+        watchdog: c.watchdog,
+        sync: sync,
+        bus: bus,
+        pins: pins,
+        sda: c.sda,
+        scl: c.scl,
+        reset: c.reset,
+    }
+}
+
+// Wrong answers: the levels as they were; the watchdog cleared.
+pub fn with_pins(c: Core, pins: Pins) -> Core
+    ensures { λ r. ⌜ r ≡ withPins c pins ⌝ }
+{
+    let sync = c.sync;
+    let bus = c.bus;
+    Core {
+        irqx: c.irqx,
+        mdcon: c.mdcon,
+        polarity: c.polarity,
+        bt: c.bt,
+        watchdog: c.watchdog,
+        sync: sync,
+        bus: bus,
+        pins: pins,
+        sda: c.sda,
+        scl: c.scl,
+        reset: c.reset,
+    }
+}
+
+// Wrong answers: SDA as it was; SCL put too.
+pub fn with_sda(c: Core, sda: bool) -> Core
+    ensures { λ r. ⌜ r ≡ withSda c sda ⌝ }
+{
+    let sync = c.sync;
+    let bus = c.bus;
+    let pins = c.pins;
+    Core {
+        irqx: c.irqx,
+        mdcon: c.mdcon,
+        polarity: c.polarity,
+        bt: c.bt,
+        watchdog: c.watchdog,
+        sync: sync,
+        bus: bus,
+        pins: pins,
+        sda: sda,
+        scl: c.scl,
+        reset: c.reset,
+    }
+}
+
+// Wrong answers: SCL as it was; SDA put too.
+pub fn with_scl(c: Core, scl: bool) -> Core
+    ensures { λ r. ⌜ r ≡ withScl c scl ⌝ }
+{
+    let sync = c.sync;
+    let bus = c.bus;
+    let pins = c.pins;
+    Core {
+        irqx: c.irqx,
+        mdcon: c.mdcon,
+        polarity: c.polarity,
+        bt: c.bt,
+        watchdog: c.watchdog,
+        sync: sync,
+        bus: bus,
+        pins: pins,
+        sda: c.sda,
+        scl: scl,
+        reset: c.reset,
+    }
+}
+
+// Wrong answers: RESET as it was; SCL put too.
+pub fn with_reset(c: Core, reset: bool) -> Core
+    ensures { λ r. ⌜ r ≡ withReset c reset ⌝ }
+{
+    let sync = c.sync;
+    let bus = c.bus;
+    let pins = c.pins;
+    Core {
+        irqx: c.irqx,
+        mdcon: c.mdcon,
+        polarity: c.polarity,
+        bt: c.bt,
+        watchdog: c.watchdog,
+        sync: sync,
+        bus: bus,
+        pins: pins,
+        sda: c.sda,
+        scl: c.scl,
+        reset: reset,
+    }
+}
+
+// The core with these flags of IRQX set, whether enabled or not; the others stay.
+// Wrong answers: the other flags cleared; only flags that stand already.
+pub fn raised(c: Core, flags: u8) -> Core
+    ensures { λ r. ⌜ r ≡ raisedOf c flags ⌝ }
+{
+    with_irqx(c, c.irqx | flags)
+}
+
+// ---- what other parts ask of a state
+
+// The mode of DDC.
 // Wrong answers: DDC on where ENDDC is 1; S/C read for MD1/2.
-pub fn mode_of(c: Chip) -> Mode
+pub fn mode_of(c: Core) -> Mode
     ensures { λ r. ⌜ r ≡ modeOf c ⌝ }
 {
     bus::mode_of(c.bus.iists, c.mdcon)
 }
 
-// HSEL of a chip, in MDCON.
+// HSEL, in MDCON.
 // Wrong answers: S/C, the bit below; HSEL inverted.
-pub fn hsel(c: Chip) -> bool
+pub fn hsel(c: Core) -> bool
     ensures { λ r. ⌜ r ≡ hselOf c ⌝ }
 {
     bits::bit(HSEL, c.mdcon)
@@ -92,20 +360,30 @@ pub fn hsel(c: Chip) -> bool
 
 // The request lines: the flags of IRQX that IEX enables.
 // Wrong answers: a request where flag or enable is set; all flags, enabled or not.
+pub fn requested(irqx: u8, iex: u8) -> u8
+    ensures { λ r. ⌜ r ≡ requestedOf irqx iex ⌝ }
+{
+    irqx & iex
+}
+
+// The request lines of a chip.
+// Wrong answers: IRQX under the register behind IEX; IEX under itself.
 pub fn requests(c: Chip) -> u8
     ensures { λ r. ⌜ r ≡ requestsOf c ⌝ }
 {
     let registers = c.registers;
-    c.irqx & registers[IEX as usize]
+    let core = c.core;
+    requested(core.irqx, register_at(&registers, IEX))
 }
 
-// Every part at its reset value, at these outside levels.
+// ---- reset
+
+// Every part of the core at its reset value, at these outside levels.
 // Wrong answers: the sync pins of HVCON, 20H of 2FH, stored with its polarities; zeros in the shift register.
-pub fn reset_at(pins: Pins, sda: bool, scl: bool, reset: bool) -> Chip
+pub fn reset_at(pins: Pins, sda: bool, scl: bool, reset: bool) -> Core
     ensures { λ r. ⌜ r ≡ resetAt pins sda scl reset ⌝ }
 {
-    Chip {
-        registers: registers::resets(),
+    Core {
         irqx: registers::reset_value(IRQX),
         mdcon: registers::reset_value(MDCON),
         polarity: registers::reset_value(HVCON) & 0x0f,
@@ -126,8 +404,8 @@ pub fn reset_at(pins: Pins, sda: bool, scl: bool, reset: bool) -> Chip
 
 // A reset keeps the outside levels.
 // Wrong answers: all outside levels put to 1; the counts and their latches kept.
-pub fn reset_chip(c: Chip) -> Chip
-    ensures { λ r. ⌜ r ≡ resetChip c ⌝ }
+pub fn reset_core(c: Core) -> Core
+    ensures { λ r. ⌜ r ≡ resetCore c ⌝ }
 {
     let pins = c.pins;
     reset_at(pins, c.sda, c.scl, c.reset)
@@ -145,15 +423,45 @@ pub fn fresh() -> Chip
         hsynci: true,
         vsynci: true,
     };
-    reset_at(pins, true, true, true)
+    Chip {
+        registers: registers::resets(),
+        core: reset_at(pins, true, true, true),
+    }
 }
 
+// ---- the array of stored registers
+
 // The byte in a place of the array, 0 past it.
-// Wrong answers: 0 at the last place; the byte under the read mask.
-pub fn register_at(c: Chip, a: u8) -> u8
-    ensures { λ r. ⌜ r ≡ registerAt c a ⌝ }
+// Wrong answers: 1 past the array; the byte under the read mask.
+pub fn register_at(registers: &[u8], a: u8) -> u8
+    ensures { λ r. ⌜ r ≡ registerAt (now (registers .entry)) a ⌝ }
 {
-    let registers = c.registers;
     let i = a as usize;
-    if i < 38 { registers[i] } else { 0 }
+    if i < registers.len() { registers[i] } else { 0 }
+}
+
+// A byte put in a place of the array; past it nothing is written.
+fn store(registers: &mut [u8], a: u8, b: u8)
+    ensures { λ r. ⌜ now (registers .exit) ≡ set (now (registers .entry)) a b ⌝ }
+{
+    let i = a as usize;
+    if i < registers.len() {
+        registers[i] = b;
+    }
+}
+
+// The array after an event.
+// Wrong answers: a register stored where all is kept; the array kept at a reset.
+pub fn keep(registers: &mut [u8; 38], kept: Kept)
+    ensures { λ r. ⌜ now (registers .exit) ≡ keepOf kept (now (registers .entry)) ⌝ }
+{
+    match kept {
+        Kept::Same => {}
+        Kept::Stored(a, b) => {
+            store(registers, a, b);
+        }
+        Kept::Reset => {
+            *registers = registers::resets();
+        }
+    }
 }

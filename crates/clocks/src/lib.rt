@@ -3,28 +3,27 @@ ghost use mathlib.Core.Path.{_≡_};
 ghost use Rattle.bits.specs.Byte.{pick};
 ghost use Rattle.registers.specs.Names.{HPOLI, VPOLI};
 ghost use Rattle.clocks.specs.Clocks.{periodClock, timerRuns, timerStep, timerClock, watchdogClock, clockedAs, clocked as clockedOf, polarityFound};
-use chip::Chip;
+use chip::Core;
 use events::BASE0;
 use events::BASE1;
 use events::PERIOD;
 use events::WATCHDOG;
-use registers::BTCON;
 use registers::ENBT;
 use registers::HPOLI;
 use registers::INTR;
 use registers::TBS;
 use registers::VPOLI;
 
-// A clock of 8 µs: VCNT steps, and with HSEL 0 the interval runs.
+// A clock of 8 µs: VCNT steps, with HSEL 0 the interval runs, and a hold of SCL has lasted one clock more.
 // Wrong answers: HSEL taken inverted; the base timer stepped too.
-pub fn period_clock(c: Chip) -> Chip
+pub fn period_clock(c: Core) -> Core
     ensures { λ r. ⌜ r ≡ periodClock c ⌝ }
 {
     let counters = c.sync;
-    let after = sync::on_period(chip::hsel(c), counters);
-    let mut n = c;
-    n.sync = after;
-    n
+    let b = c.bus;
+    let phase = b.phase;
+    let n = chip::with_sync(c, sync::on_period(chip::hsel(c), counters));
+    chip::with_bus(n, edges::with_phase(b, ddc2b::phase_at_period(phase)))
 }
 
 fn timer_runs(btcon: u8, k: u8) -> bool
@@ -40,54 +39,50 @@ fn timer_runs(btcon: u8, k: u8) -> bool
     }
 }
 
-fn timer_step(c: Chip) -> Chip
+fn timer_step(c: Core) -> Core
     ensures { λ r. ⌜ r ≡ timerStep c ⌝ }
 {
     let flags = bits::weight_if(counters::timer_overflows(c.bt), INTR);
-    let mut n = lines::raised(c, flags);
-    n.bt = counters::timer_next(c.bt);
-    n
+    chip::with_bt(chip::raised(c, flags), counters::timer_next(c.bt))
 }
 
-fn timer_clock(c: Chip, k: u8) -> Chip
-    ensures { λ r. ⌜ r ≡ timerClock c k ⌝ }
+fn timer_clock(btcon: u8, c: Core, k: u8) -> Core
+    ensures { λ r. ⌜ r ≡ timerClock btcon c k ⌝ }
 {
-    let registers = c.registers;
-    if timer_runs(registers[BTCON as usize], k) {
+    if timer_runs(btcon, k) {
         timer_step(c)
     } else {
         c
     }
 }
 
-fn watchdog_clock(c: Chip) -> Chip
+fn watchdog_clock(c: Core) -> Core
     ensures { λ r. ⌜ r ≡ watchdogClock c ⌝ }
 {
     if counters::watchdog_fires(c.watchdog) {
-        chip::reset_chip(c)
+        chip::reset_core(c)
     } else {
-        let mut n = c;
-        n.watchdog = counters::watchdog_next(c.watchdog);
-        n
+        chip::with_watchdog(c, counters::watchdog_next(c.watchdog))
     }
 }
 
-fn clocked_as(c: Chip, k: u8) -> Chip
-    ensures { λ r. ⌜ r ≡ clockedAs c k ⌝ }
+fn clocked_as(btcon: u8, c: Core, k: u8) -> Core
+    ensures { λ r. ⌜ r ≡ clockedAs btcon c k ⌝ }
 {
     match k {
         PERIOD => period_clock(c),
         WATCHDOG => watchdog_clock(c),
-        _ => timer_clock(c, k),
+        _ => timer_clock(btcon, c, k),
     }
 }
 
-// The chip after clock k: 0 of 8 µs, 3 of the watchdog, the others of the base timer; none runs while RESET is low.
+// The core after clock k: 0 of 8 µs, 3 of the watchdog, the others of the base timer, which BTCON steers; none runs while
+// RESET is low.
 // Wrong answers: base clock 2 where TBS is 0; the base timer run while ENBT is 1.
-pub fn clocked(c: Chip, k: u8) -> Chip
-    ensures { λ r. ⌜ r ≡ clockedOf c k ⌝ }
+pub fn clocked(btcon: u8, c: Core, k: u8) -> Core
+    ensures { λ r. ⌜ r ≡ clockedOf btcon c k ⌝ }
 {
-    if c.reset { clocked_as(c, k) } else { c }
+    if c.reset { clocked_as(btcon, c, k) } else { c }
 }
 
 // The bit of HVCON that a polarity goes to.
@@ -99,13 +94,11 @@ fn polarity_bit(vertical: bool) -> u8
 
 // A polarity is found: VPOLI or HPOLI takes it, except while RESET is low.
 // Wrong answers: HPOLI and VPOLI exchanged; a polarity taken while RESET is low.
-pub fn polarity_found(c: Chip, vertical: bool, level: bool) -> Chip
+pub fn polarity_found(c: Core, vertical: bool, level: bool) -> Core
     ensures { λ r. ⌜ r ≡ polarityFound c vertical level ⌝ }
 {
     if c.reset {
-        let mut n = c;
-        n.polarity = bits::with_bit(n.polarity, polarity_bit(vertical), level);
-        n
+        chip::with_polarity(c, bits::with_bit(c.polarity, polarity_bit(vertical), level))
     } else {
         c
     }

@@ -52,7 +52,7 @@ periods-more false n p = rw (zero-add n)
 
 -- HCNT, its latch and its overflow bit: a step for each rise of HSYNCI
 pub lines-stepped : (c : Chip) (ws : List ℕ) → never zeroesLines c ws ≡ true →
-    advanced c ws .sync .lines ≡ stepsLines (hsyncRises (c .reset) (c .pins .hsynci) ws) (c .sync .lines)
+    advanced c ws .core .sync .lines ≡ stepsLines (hsyncRises (c .core .reset) (c .core .pins .hsynci) ws) (c .core .sync .lines)
 unfolding stepsLines advance
 lines-stepped c [] q = refl
 lines-stepped c (w ∷ ws) q =
@@ -60,11 +60,11 @@ lines-stepped c (w ∷ ws) q =
     let h = both (zeroesLines c e) _ q in
     let f = effect c e in
     lines-stepped (next c e) ws (h .1)
-    ∙ rw (f .reset, f .hsynci, f .lines (h .0)) (lines-more (putHigh 26 e && (c .reset && not (c .pins .hsynci))) _ (c .sync .lines))
+    ∙ rw (f .reset, f .hsynci, f .lines (h .0)) (lines-more (putHigh 26 e && (c .core .reset && not (c .core .pins .hsynci))) _ (c .core .sync .lines))
 
 -- VCNT likewise: a step for each 8 µs clock
 pub periods-stepped : (c : Chip) (ws : List ℕ) → never zeroesPeriods c ws ≡ true →
-    advanced c ws .sync .periods ≡ stepsPeriods (periodClocks (c .reset) ws) (c .sync .periods)
+    advanced c ws .core .sync .periods ≡ stepsPeriods (periodClocks (c .core .reset) ws) (c .core .sync .periods)
 unfolding stepsPeriods advance
 periods-stepped c [] q = refl
 periods-stepped c (w ∷ ws) q =
@@ -72,7 +72,7 @@ periods-stepped c (w ∷ ws) q =
     let h = both (zeroesPeriods c e) _ q in
     let f = effect c e in
     periods-stepped (next c e) ws (h .1)
-    ∙ rw (f .reset, f .periods (h .0)) (periods-more (isClock 0 e && c .reset) _ (c .sync .periods))
+    ∙ rw (f .reset, f .periods (h .0)) (periods-more (isClock 0 e && c .core .reset) _ (c .core .sync .periods))
 
 -- ---- without an overflow
 
@@ -97,11 +97,11 @@ periods-add (suc n) p h =
     s .1 ∙ rw (periods-add n p (s .0)) (omega arith)
 
 -- HCNT has grown by the rises of HSYNCI
-pub lines-counted : (c : Chip) (ws : List ℕ) → never zeroesLines c ws ≡ true → advanced c ws .sync .lines .overflow ≡ false →
-    advanced c ws .sync .lines .count .0 ≡ c .sync .lines .count .0 + hsyncRises (c .reset) (c .pins .hsynci) ws
-lines-counted c ws q o = let e = lines-stepped c ws q in ap (λ (l : LineCounter). l .count .0) e ∙ lines-add _ (c .sync .lines) (sym (ap (λ (l : LineCounter). l .overflow) e) ∙ o)
+pub lines-counted : (c : Chip) (ws : List ℕ) → never zeroesLines c ws ≡ true → advanced c ws .core .sync .lines .overflow ≡ false →
+    advanced c ws .core .sync .lines .count .0 ≡ c .core .sync .lines .count .0 + hsyncRises (c .core .reset) (c .core .pins .hsynci) ws
+lines-counted c ws q o = let e = lines-stepped c ws q in ap (λ (l : LineCounter). l .count .0) e ∙ lines-add _ (c .core .sync .lines) (sym (ap (λ (l : LineCounter). l .overflow) e) ∙ o)
 
 -- VCNT has grown by the 8 µs clocks
-pub periods-counted : (c : Chip) (ws : List ℕ) → never zeroesPeriods c ws ≡ true → advanced c ws .sync .periods .overflow ≡ false →
-    advanced c ws .sync .periods .count .0 ≡ c .sync .periods .count .0 + periodClocks (c .reset) ws
-periods-counted c ws q o = let e = periods-stepped c ws q in ap (λ (p : PeriodCounter). p .count .0) e ∙ periods-add _ (c .sync .periods) (sym (ap (λ (p : PeriodCounter). p .overflow) e) ∙ o)
+pub periods-counted : (c : Chip) (ws : List ℕ) → never zeroesPeriods c ws ≡ true → advanced c ws .core .sync .periods .overflow ≡ false →
+    advanced c ws .core .sync .periods .count .0 ≡ c .core .sync .periods .count .0 + periodClocks (c .core .reset) ws
+periods-counted c ws q o = let e = periods-stepped c ws q in ap (λ (p : PeriodCounter). p .count .0) e ∙ periods-add _ (c .core .sync .periods) (sym (ap (λ (p : PeriodCounter). p .overflow) e) ∙ o)

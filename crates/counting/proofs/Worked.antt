@@ -12,7 +12,7 @@ use Rattle.sync.specs.Sync.{stepLines, stepPeriods, onHsync, linesOnPeriod, int
 use Rattle.chip.specs.State.{resetAt, fresh}
 use Rattle.pins.specs.Pins.{pinKind, hsyncMoved, pinMovedAs, pinMoved}
 use Rattle.clocks.specs.Clocks.{periodClock, clockedAs, clocked}
-use Rattle.outcome.specs.Outcome.{next}
+use Rattle.outcome.specs.Outcome.{coreAfter, wasReset, keptAfter, next}
 use Rattle.step.specs.Step.{advance}
 use Rattle.run.specs.Run.{advanced}
 use Rattle.counting.specs.Counting.{hsyncRises, periodClocks, zeroesLines, zeroesPeriods, never}
@@ -26,9 +26,9 @@ pub counted-at : _≡_ {A = Bool × Bool × ℕ × ℕ × ℕ × ℕ} (
   never zeroesPeriods fresh words,
   hsyncRises true true words,
   periodClocks true words,
-  advanced fresh words .sync .lines .count .0,
-  advanced fresh words .sync .periods .count .0,
+  advanced fresh words .core .sync .lines .count .0,
+  advanced fresh words .core .sync .periods .count .0,
 )
     (true, true, 2, 1, 2, 1)
-unfolding bit withBit resets resetValue rowOf event noEvent noPlace badByte decode counted overflowed stepLines stepPeriods onHsync linesOnPeriod intervalNext onPeriod zeroSync resetAt fresh pinKind hsyncMoved pinMovedAs pinMoved periodClock clockedAs clocked next advance zeroesLines zeroesPeriods
+unfolding bit withBit resets resetValue rowOf event noEvent noPlace badByte decode counted overflowed stepLines stepPeriods onHsync linesOnPeriod intervalNext onPeriod zeroSync resetAt fresh pinKind hsyncMoved pinMovedAs pinMoved periodClock clockedAs clocked coreAfter wasReset keptAfter next advance zeroesLines zeroesPeriods
 counted-at = refl

@@ -20,14 +20,15 @@ use Rattle.sync.specs.declared.PeriodCounter.{PeriodCounter}
 use Rattle.counters.specs.Count.{zeroed}
 use Rattle.sync.specs.Sync.{clearLines, clearPeriods, zeroLines, latchLines, latchPeriods, linesOnVsync, linesOnPeriod, onVsync, onPeriod, hselCleared, clearOverflow, zeroSync}
 use Rattle.counters.specs.Count.{watchdogFires}
-use Rattle.bus.specs.Lines.{edge}
+use Rattle.bus.specs.Bus.{edge}
+use Rattle.chip.specs.declared.Core.{Core}
 use Rattle.chip.specs.declared.Chip.{Chip}
-use Rattle.chip.specs.State.{hselOf, resetAt, resetChip, withReset}
+use Rattle.chip.specs.State.{hselOf, resetAt, resetCore, withReset}
 use Rattle.writes.specs.Writes.{target, clrflgWritten, writtenTo, written, writeRegister}
 use Rattle.ddc_writes.specs.DdcWrites.{syncAtHsel, mdconWritten}
 use Rattle.pins.specs.Pins.{pinKind, rises, onReset, resetMoved, vsyncMoved, pinMovedAs, pinMoved}
 use Rattle.clocks.specs.Clocks.{watchdogClock, clockedAs, clocked}
-use Rattle.outcome.specs.Outcome.{next}
+use Rattle.outcome.specs.Outcome.{coreAfter, next}
 use Rattle.causes.specs.Causes.{risesVsynci}
 use Rattle.causes.proofs.Clocks.{watchdog-last}
 use Rattle.counting.specs.Counting.{zeroesLines, zeroesPeriods}
@@ -44,25 +45,25 @@ clash t h k = absurd (let z : _≡_ {A = ℕ} 0 1 = cc in omega arith)
 
 -- ---- a reset zeroes both
 
-at-reset-pin : (c : Chip) (old level : Bool) → (old && not level) ≡ true → onReset (edge old level) (withReset c level) .sync ≡ zeroSync
-unfolding onReset resetChip resetAt
+at-reset-pin : (c : Core) (old level : Bool) → (old && not level) ≡ true → onReset (edge old level) (withReset c level) .sync ≡ zeroSync
+unfolding onReset resetCore resetAt
 at-reset-pin c true true h = cc
 at-reset-pin c true false h = refl
 at-reset-pin c false level h = cc
 
-pub reset-pin : (c : Chip) (p : ℕ) (level : Bool) → (eqb p 28 && (c .reset && not level)) ≡ true → next c (Pin p level) .sync ≡ zeroSync
-unfolding next pinMoved pinMovedAs pinKind resetMoved
+pub reset-pin : (c : Chip) (p : ℕ) (level : Bool) → (eqb p 28 && (c .core .reset && not level)) ≡ true → next c (Pin p level) .core .sync ≡ zeroSync
+unfolding next coreAfter pinMoved pinMovedAs pinKind resetMoved
 reset-pin c p level h =
-    let k = both (eqb p 28) (c .reset && not level) h in
-    rw (eqb-true p 28 (k .0)) (at-reset-pin c (c .reset) level (k .1))
+    let k = both (eqb p 28) (c .core .reset && not level) h in
+    rw (eqb-true p 28 (k .0)) (at-reset-pin (c .core) (c .core .reset) level (k .1))
 
-pub reset-clock : (c : Chip) (k : ℕ) → (eqb k 3 && (c .reset && ltb 62 (c .watchdog))) ≡ true → next c (Clock k) .sync ≡ zeroSync
-unfolding next clocked clockedAs watchdogClock resetChip resetAt
+pub reset-clock : (c : Chip) (k : ℕ) → (eqb k 3 && (c .core .reset && ltb 62 (c .core .watchdog))) ≡ true → next c (Clock k) .core .sync ≡ zeroSync
+unfolding next coreAfter clocked clockedAs watchdogClock resetCore resetAt
 reset-clock c k h =
-    let e = both (eqb k 3) (c .reset && ltb 62 (c .watchdog)) h in
-    let d = both (c .reset) (ltb 62 (c .watchdog)) (e .1) in
-    let P : Chip → Type 0 = λ (x : Chip). x .sync ≡ zeroSync in
-    rw (eqb-true k 3 (e .0)) (pick-by P (c .reset) (λ _. pick-by P (watchdogFires (c .watchdog)) (λ _. refl) (clash _ (watchdog-last (c .watchdog) ∙ d .1))) (clash _ (d .0)))
+    let e = both (eqb k 3) (c .core .reset && ltb 62 (c .core .watchdog)) h in
+    let d = both (c .core .reset) (ltb 62 (c .core .watchdog)) (e .1) in
+    let P : Core → Type 0 = λ (x : Core). x .sync ≡ zeroSync in
+    rw (eqb-true k 3 (e .0)) (pick-by P (c .core .reset) (λ _. pick-by P (watchdogFires (c .core .watchdog)) (λ _. refl) (clash _ (watchdog-last (c .core .watchdog) ∙ d .1))) (clash _ (d .0)))
 
 -- ---- writes
 
@@ -78,29 +79,29 @@ hsel-zero : (old new : Bool) (s : Sync) → old ≡ true → new ≡ false → s
 unfolding syncAtHsel hselCleared zeroLines
 hsel-zero old new s h k = rw (h, k)
 
-pub clrflg-lines : (c : Chip) (a b : ℕ) → (eqb a CLRFLG && (c .reset && bit 7 b)) ≡ true → next c (Write a b) .sync .lines .count .0 ≡ 0
-unfolding next writeRegister isWritable rowOf written target writtenTo clrflgWritten clearOverflow
+pub clrflg-lines : (c : Chip) (a b : ℕ) → (eqb a CLRFLG && (c .core .reset && bit 7 b)) ≡ true → next c (Write a b) .core .sync .lines .count .0 ≡ 0
+unfolding next coreAfter writeRegister isWritable rowOf written target writtenTo clrflgWritten clearOverflow
 clrflg-lines c a b h =
-    let k = both (eqb a CLRFLG) (c .reset && bit 7 b) h in
-    let d = both (c .reset) (bit 7 b) (k .1) in
-    rw (eqb-true a CLRFLG (k .0)) (pick-by (λ (x : Chip). x .sync .lines .count .0 ≡ 0) (c .reset) (λ _. clear-lines (bit 7 b) (c .sync .lines) (d .1)) (clash _ (d .0)))
+    let k = both (eqb a CLRFLG) (c .core .reset && bit 7 b) h in
+    let d = both (c .core .reset) (bit 7 b) (k .1) in
+    rw (eqb-true a CLRFLG (k .0)) (pick-by (λ (x : Core). x .sync .lines .count .0 ≡ 0) (c .core .reset) (λ _. clear-lines (bit 7 b) (c .core .sync .lines) (d .1)) (clash _ (d .0)))
 
-pub clrflg-periods : (c : Chip) (a b : ℕ) → (eqb a CLRFLG && (c .reset && bit 6 b)) ≡ true → next c (Write a b) .sync .periods .count .0 ≡ 0
-unfolding next writeRegister isWritable rowOf written target writtenTo clrflgWritten clearOverflow
+pub clrflg-periods : (c : Chip) (a b : ℕ) → (eqb a CLRFLG && (c .core .reset && bit 6 b)) ≡ true → next c (Write a b) .core .sync .periods .count .0 ≡ 0
+unfolding next coreAfter writeRegister isWritable rowOf written target writtenTo clrflgWritten clearOverflow
 clrflg-periods c a b h =
-    let k = both (eqb a CLRFLG) (c .reset && bit 6 b) h in
-    let d = both (c .reset) (bit 6 b) (k .1) in
-    rw (eqb-true a CLRFLG (k .0)) (pick-by (λ (x : Chip). x .sync .periods .count .0 ≡ 0) (c .reset) (λ _. clear-periods (bit 6 b) (c .sync .periods) (d .1)) (clash _ (d .0)))
+    let k = both (eqb a CLRFLG) (c .core .reset && bit 6 b) h in
+    let d = both (c .core .reset) (bit 6 b) (k .1) in
+    rw (eqb-true a CLRFLG (k .0)) (pick-by (λ (x : Core). x .sync .periods .count .0 ≡ 0) (c .core .reset) (λ _. clear-periods (bit 6 b) (c .core .sync .periods) (d .1)) (clash _ (d .0)))
 
-pub mdcon-lines : (c : Chip) (a b : ℕ) → ((eqb a MDCON && (c .reset && not (bit 2 b))) && hselOf c) ≡ true → next c (Write a b) .sync .lines .count .0 ≡ 0
-unfolding next writeRegister isWritable rowOf written target writtenTo mdconWritten
+pub mdcon-lines : (c : Chip) (a b : ℕ) → ((eqb a MDCON && (c .core .reset && not (bit 2 b))) && hselOf (c .core)) ≡ true → next c (Write a b) .core .sync .lines .count .0 ≡ 0
+unfolding next coreAfter writeRegister isWritable rowOf written target writtenTo mdconWritten
 mdcon-lines c a b h =
-    let j = both (eqb a MDCON && (c .reset && not (bit 2 b))) (hselOf c) h in
-    let k = both (eqb a MDCON) (c .reset && not (bit 2 b)) (j .0) in
-    let d = both (c .reset) (not (bit 2 b)) (k .1) in
+    let j = both (eqb a MDCON && (c .core .reset && not (bit 2 b))) (hselOf (c .core)) h in
+    let k = both (eqb a MDCON) (c .core .reset && not (bit 2 b)) (j .0) in
+    let d = both (c .core .reset) (not (bit 2 b)) (k .1) in
     rw (eqb-true a MDCON (k .0))
-    (pick-by (λ (x : Chip). x .sync .lines .count .0 ≡ 0) (c .reset)
-    (λ _. hsel-zero (hselOf c) _ (c .sync) (j .1) (hsel-written (c .mdcon) b ∙ not-true (bit 2 b) (d .1)))
+    (pick-by (λ (x : Core). x .sync .lines .count .0 ≡ 0) (c .core .reset)
+    (λ _. hsel-zero (hselOf (c .core)) _ (c .core .sync) (j .1) (hsel-written (c .core .mdcon) b ∙ not-true (bit 2 b) (d .1)))
     (clash _ (d .0)))
 
 -- ---- latching
@@ -113,41 +114,41 @@ latch-periods : (p : PeriodCounter) → p .overflow ≡ false → latchPeriods p
 unfolding latchPeriods zeroed
 latch-periods p o = rw o
 
-vsync-sync : (c : Chip) (p : ℕ) (level : Bool) → risesVsynci c (Pin p level) ≡ true → next c (Pin p level) .sync ≡ onVsync (hselOf c) (c .sync)
-unfolding next pinMoved pinMovedAs pinKind vsyncMoved
+vsync-sync : (c : Chip) (p : ℕ) (level : Bool) → risesVsynci c (Pin p level) ≡ true → next c (Pin p level) .core .sync ≡ onVsync (hselOf (c .core)) (c .core .sync)
+unfolding next coreAfter pinMoved pinMovedAs pinKind vsyncMoved
 vsync-sync c p level h =
-    let k = both (eqb p 27 && level) (c .reset && not (c .pins .vsynci)) h in
+    let k = both (eqb p 27 && level) (c .core .reset && not (c .core .pins .vsynci)) h in
     let e = both (eqb p 27) level (k .0) in
-    let rise : rises (c .reset) (c .pins .vsynci) level ≡ true = rise-is (c .reset) (c .pins .vsynci) level ∙ rw (e .1) (k .1) in
+    let rise : rises (c .core .reset) (c .core .pins .vsynci) level ≡ true = rise-is (c .core .reset) (c .core .pins .vsynci) level ∙ rw (e .1) (k .1) in
     rw (eqb-true p 27 (e .0))
-    (vsync-moves (rises (c .reset) (c .pins .vsynci) level) c level .sync ∙ pick-by (λ (s : Sync). s ≡ onVsync (hselOf c) (c .sync)) (rises (c .reset) (c .pins .vsynci) level) (λ _. refl) (clash _ rise))
+    (vsync-moves (rises (c .core .reset) (c .core .pins .vsynci) level) (c .core) level .sync ∙ pick-by (λ (s : Sync). s ≡ onVsync (hselOf (c .core)) (c .core .sync)) (rises (c .core .reset) (c .core .pins .vsynci) level) (λ _. refl) (clash _ rise))
 
-vsync-lines : (c : Chip) (p : ℕ) (level : Bool) → (risesVsynci c (Pin p level) && (hselOf c && not (c .sync .lines .overflow))) ≡ true → next c (Pin p level) .sync .lines .count .0 ≡ 0
+vsync-lines : (c : Chip) (p : ℕ) (level : Bool) → (risesVsynci c (Pin p level) && (hselOf (c .core) && not (c .core .sync .lines .overflow))) ≡ true → next c (Pin p level) .core .sync .lines .count .0 ≡ 0
 unfolding onVsync linesOnVsync
 vsync-lines c p level h =
-    let k = both (risesVsynci c (Pin p level)) (hselOf c && not (c .sync .lines .overflow)) h in
-    let d = both (hselOf c) (not (c .sync .lines .overflow)) (k .1) in
+    let k = both (risesVsynci c (Pin p level)) (hselOf (c .core) && not (c .core .sync .lines .overflow)) h in
+    let d = both (hselOf (c .core)) (not (c .core .sync .lines .overflow)) (k .1) in
     rw (vsync-sync c p level (k .0))
-    (pick-by (λ (l : LineCounter). l .count .0 ≡ 0) (hselOf c) (λ _. latch-lines (c .sync .lines) (not-true (c .sync .lines .overflow) (d .1))) (clash _ (d .0)))
+    (pick-by (λ (l : LineCounter). l .count .0 ≡ 0) (hselOf (c .core)) (λ _. latch-lines (c .core .sync .lines) (not-true (c .core .sync .lines .overflow) (d .1))) (clash _ (d .0)))
 
-vsync-periods : (c : Chip) (p : ℕ) (level : Bool) → (risesVsynci c (Pin p level) && not (c .sync .periods .overflow)) ≡ true → next c (Pin p level) .sync .periods .count .0 ≡ 0
+vsync-periods : (c : Chip) (p : ℕ) (level : Bool) → (risesVsynci c (Pin p level) && not (c .core .sync .periods .overflow)) ≡ true → next c (Pin p level) .core .sync .periods .count .0 ≡ 0
 unfolding onVsync
 vsync-periods c p level h =
-    let k = both (risesVsynci c (Pin p level)) (not (c .sync .periods .overflow)) h in
-    rw (vsync-sync c p level (k .0)) (latch-periods (c .sync .periods) (not-true (c .sync .periods .overflow) (k .1)))
+    let k = both (risesVsynci c (Pin p level)) (not (c .core .sync .periods .overflow)) h in
+    rw (vsync-sync c p level (k .0)) (latch-periods (c .core .sync .periods) (not-true (c .core .sync .periods .overflow) (k .1)))
 
 period-lines : (c : Chip) (k : ℕ) →
-    (eqb k 0 && (c .reset && (not (hselOf c) && (ltb 1022 (c .sync .interval) && not (c .sync .lines .overflow))))) ≡ true → next c (Clock k) .sync .lines .count .0 ≡ 0
-unfolding next clocked clockedAs onPeriod linesOnPeriod
+    (eqb k 0 && (c .core .reset && (not (hselOf (c .core)) && (ltb 1022 (c .core .sync .interval) && not (c .core .sync .lines .overflow))))) ≡ true → next c (Clock k) .core .sync .lines .count .0 ≡ 0
+unfolding next coreAfter clocked clockedAs onPeriod linesOnPeriod
 period-lines c k h =
-    let e = both (eqb k 0) (c .reset && (not (hselOf c) && (ltb 1022 (c .sync .interval) && not (c .sync .lines .overflow)))) h in
-    let d = both (c .reset) (not (hselOf c) && (ltb 1022 (c .sync .interval) && not (c .sync .lines .overflow))) (e .1) in
-    let f = both (not (hselOf c)) (ltb 1022 (c .sync .interval) && not (c .sync .lines .overflow)) (d .1) in
-    let g = both (ltb 1022 (c .sync .interval)) (not (c .sync .lines .overflow)) (f .1) in
-    let most : ltb (c .sync .interval) 1023 ≡ false = le-ltb (c .sync .interval) 1023 (omega (arith, ltb-true 1022 (c .sync .interval) (g .0))) in
-    rw (eqb-true k 0 (e .0), period-moves (c .reset) c .sync)
-    (pick-by (λ (s : Sync). s .lines .count .0 ≡ 0) (c .reset)
-    (λ _. rw (not-true (hselOf c) (f .0), most) (latch-lines (c .sync .lines) (not-true (c .sync .lines .overflow) (g .1))))
+    let e = both (eqb k 0) (c .core .reset && (not (hselOf (c .core)) && (ltb 1022 (c .core .sync .interval) && not (c .core .sync .lines .overflow)))) h in
+    let d = both (c .core .reset) (not (hselOf (c .core)) && (ltb 1022 (c .core .sync .interval) && not (c .core .sync .lines .overflow))) (e .1) in
+    let f = both (not (hselOf (c .core))) (ltb 1022 (c .core .sync .interval) && not (c .core .sync .lines .overflow)) (d .1) in
+    let g = both (ltb 1022 (c .core .sync .interval)) (not (c .core .sync .lines .overflow)) (f .1) in
+    let most : ltb (c .core .sync .interval) 1023 ≡ false = le-ltb (c .core .sync .interval) 1023 (omega (arith, ltb-true 1022 (c .core .sync .interval) (g .0))) in
+    rw (eqb-true k 0 (e .0), period-moves (c .core .reset) (c .core) .sync)
+    (pick-by (λ (s : Sync). s .lines .count .0 ≡ 0) (c .core .reset)
+    (λ _. rw (not-true (hselOf (c .core)) (f .0), most) (latch-lines (c .core .sync .lines) (not-true (c .core .sync .lines .overflow) (g .1))))
     (clash _ (d .0)))
 
 -- ---- the theorems
@@ -155,29 +156,29 @@ period-lines c k h =
 impossible : {A : Type 0} → false ≡ true → A
 impossible h = clash false h refl
 
-pub lines-zeroed : (c : Chip) (e : Decoded) → zeroesLines c e ≡ true → next c e .sync .lines .count .0 ≡ 0
+pub lines-zeroed : (c : Chip) (e : Decoded) → zeroesLines c e ≡ true → next c e .core .sync .lines .count .0 ≡ 0
 unfolding zeroesLines zeroSync
 lines-zeroed c (Read a) h = impossible h
 lines-zeroed c (Write a b) h =
     ⊎-elim (clrflg-lines c a b)
-    (λ k. ⊎-elim (mdcon-lines c a b) impossible (either ((eqb a MDCON && (c .reset && not (bit 2 b))) && hselOf c) false k))
-    (either (eqb a CLRFLG && (c .reset && bit 7 b)) _ h)
+    (λ k. ⊎-elim (mdcon-lines c a b) impossible (either ((eqb a MDCON && (c .core .reset && not (bit 2 b))) && hselOf (c .core)) false k))
+    (either (eqb a CLRFLG && (c .core .reset && bit 7 b)) _ h)
 lines-zeroed c (Pin p level) h =
     ⊎-elim (λ k. rw (reset-pin c p level k))
-    (λ k. ⊎-elim (vsync-lines c p level) impossible (either (risesVsynci c (Pin p level) && (hselOf c && not (c .sync .lines .overflow))) false k))
-    (either (eqb p 28 && (c .reset && not level)) _ h)
+    (λ k. ⊎-elim (vsync-lines c p level) impossible (either (risesVsynci c (Pin p level) && (hselOf (c .core) && not (c .core .sync .lines .overflow))) false k))
+    (either (eqb p 28 && (c .core .reset && not level)) _ h)
 lines-zeroed c (Clock k) h =
-    ⊎-elim (λ e. rw (reset-clock c k e)) (period-lines c k) (either (eqb k 3 && (c .reset && ltb 62 (c .watchdog))) _ h)
+    ⊎-elim (λ e. rw (reset-clock c k e)) (period-lines c k) (either (eqb k 3 && (c .core .reset && ltb 62 (c .core .watchdog))) _ h)
 lines-zeroed c (Polarity vertical level) h = impossible h
 lines-zeroed c (Refused n) h = impossible h
 
-pub periods-zeroed : (c : Chip) (e : Decoded) → zeroesPeriods c e ≡ true → next c e .sync .periods .count .0 ≡ 0
+pub periods-zeroed : (c : Chip) (e : Decoded) → zeroesPeriods c e ≡ true → next c e .core .sync .periods .count .0 ≡ 0
 unfolding zeroesPeriods zeroSync
 periods-zeroed c (Read a) h = impossible h
-periods-zeroed c (Write a b) h = ⊎-elim (clrflg-periods c a b) impossible (either (eqb a CLRFLG && (c .reset && bit 6 b)) false h)
+periods-zeroed c (Write a b) h = ⊎-elim (clrflg-periods c a b) impossible (either (eqb a CLRFLG && (c .core .reset && bit 6 b)) false h)
 periods-zeroed c (Pin p level) h =
     ⊎-elim (λ k. rw (reset-pin c p level k)) (vsync-periods c p level)
-    (either (eqb p 28 && (c .reset && not level)) _ h)
-periods-zeroed c (Clock k) h = ⊎-elim (λ e. rw (reset-clock c k e)) impossible (either (eqb k 3 && (c .reset && ltb 62 (c .watchdog))) false h)
+    (either (eqb p 28 && (c .core .reset && not level)) _ h)
+periods-zeroed c (Clock k) h = ⊎-elim (λ e. rw (reset-clock c k e)) impossible (either (eqb k 3 && (c .core .reset && ltb 62 (c .core .watchdog))) false h)
 periods-zeroed c (Polarity vertical level) h = impossible h
 periods-zeroed c (Refused n) h = impossible h

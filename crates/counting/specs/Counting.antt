@@ -45,15 +45,15 @@ periodClocks reset (w ∷ ws) = num (isClock clock.period (decode w) && reset) +
 abbrev pub resets : Chip → Decoded → Bool
 resets c (Read a) = false
 resets c (Write a b) = false
-resets c (Pin p level) = eqb p pin.RESET && (c .reset && not level)
-resets c (Clock k) = eqb k clock.watchdog && (c .reset && ltb 62 (c .watchdog))
+resets c (Pin p level) = eqb p pin.RESET && (c .core .reset && not level)
+resets c (Clock k) = eqb k clock.watchdog && (c .core .reset && ltb 62 (c .core .watchdog))
 resets c (Polarity vertical level) = false
 resets c (Refused n) = false
 
 -- a register is written while RESET is high, with this byte's bit as given
 abbrev pub writes : ℕ → ℕ → Bool → Chip → Decoded → Bool
 writes register k value c (Read a) = false
-writes register k value c (Write a b) = eqb a register && (c .reset && pick value (bit k b) (not (bit k b)))
+writes register k value c (Write a b) = eqb a register && (c .core .reset && pick value (bit k b) (not (bit k b)))
 writes register k value c (Pin p level) = false
 writes register k value c (Clock j) = false
 writes register k value c (Polarity vertical level) = false
@@ -65,13 +65,13 @@ unfoldable pub zeroesLines : Chip → Decoded → Bool
 zeroesLines c e =
     resets c e
     || (writes CLRFLG CLRHOV true c e
-    || ((writes MDCON HSEL false c e && hselOf c)
-    || ((risesVsynci c e && (hselOf c && not (c .sync .lines .overflow)))
-    || (isClock clock.period e && (c .reset && (not (hselOf c) && (ltb (intervalLast - 1) (c .sync .interval) && not (c .sync .lines .overflow))))))))
+    || ((writes MDCON HSEL false c e && hselOf (c .core))
+    || ((risesVsynci c e && (hselOf (c .core) && not (c .core .sync .lines .overflow)))
+    || (isClock clock.period e && (c .core .reset && (not (hselOf (c .core)) && (ltb (intervalLast - 1) (c .core .sync .interval) && not (c .core .sync .lines .overflow))))))))
 
 -- VCNT: a reset, a 1 in CLRVOV of CLRFLG, and, not in overflow, a rise of VSYNCI
 unfoldable pub zeroesPeriods : Chip → Decoded → Bool
-zeroesPeriods c e = resets c e || (writes CLRFLG CLRVOV true c e || (risesVsynci c e && not (c .sync .periods .overflow)))
+zeroesPeriods c e = resets c e || (writes CLRFLG CLRVOV true c e || (risesVsynci c e && not (c .core .sync .periods .overflow)))
 
 -- no word of the list zeroes the count
 abbrev pub never : (Chip → Decoded → Bool) → Chip → List ℕ → Bool

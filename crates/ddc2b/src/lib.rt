@@ -1,9 +1,10 @@
 // DDC2B: the phases of a transfer. What each edge of the SCL line does to the phase, to II DAT, to RXAK and to the flags.
 ghost use mathlib.Core.Path.{_≡_};
 ghost use Rattle.bus.specs.declared.Phase.{Phase};
-ghost use Rattle.ddc2b.specs.Ddc2b.{matches as matchesOf, gathered as gatheredBits, addressed as addressedOf, phaseAtRise, dataAtRise, matchesAtRise, statusAtRise, holdsAtFall, acknowledges as acknowledgesOf, phaseAtFall, phaseLetGo};
+ghost use Rattle.ddc2b.specs.Ddc2b.{matches as matchesOf, gathered as gatheredBits, addressed as addressedOf, phaseAtRise, dataAtRise, matchesAtRise, statusAtRise, holdsAtFall, acknowledges as acknowledgesOf, ninthClock, phaseAtFall, heldLonger, phaseAtPeriod, phaseLetGo};
 use bus::Phase;
 use registers::RXAK;
+use registers::TXAK;
 
 // An address is the chip's own by A0H or by II ADR, the direction bit left aside.
 // Wrong answers: A2H taken for A0H; the direction bit compared.
@@ -26,51 +27,40 @@ fn addressed(own: u8, byte: u8) -> Phase
     ensures { λ r. ⌜ r ≡ addressedOf own byte ⌝ }
 {
     if matches(own, byte) {
-        Phase::Address {
-            count: 8,
+        Phase::Addressed {
             bits: byte,
-            acknowledged: false,
+            ninth: false,
         }
     } else {
         Phase::Ignoring
     }
 }
 
-fn address_at_rise(own: u8, sda: bool, count: u8, bits: u8, acknowledged: bool) -> Phase
-    ensures { λ r. ⌜ r ≡ phaseAtRise own sda (Phase.Address count bits acknowledged) ⌝ }
+fn address_at_rise(own: u8, sda: bool, count: u8, bits: u8) -> Phase
+    ensures { λ r. ⌜ r ≡ phaseAtRise own sda (Phase.Address count bits) ⌝ }
 {
     if count < 7 {
-        return Phase::Address {
+        Phase::Address {
             count: count + 1,
             bits: gathered(bits, sda),
-            acknowledged: acknowledged,
-        };
-    }
-    if count < 8 {
-        addressed(own, gathered(bits, sda))
-    } else {
-        Phase::Address {
-            count: count,
-            bits: bits,
-            acknowledged: acknowledged,
         }
+    } else {
+        addressed(own, gathered(bits, sda))
     }
 }
 
-fn receive_at_rise(own: u8, sda: bool, count: u8, bits: u8, acknowledged: bool) -> Phase
-    ensures { λ r. ⌜ r ≡ phaseAtRise own sda (Phase.Receive count bits acknowledged) ⌝ }
+fn receive_at_rise(own: u8, sda: bool, count: u8, bits: u8) -> Phase
+    ensures { λ r. ⌜ r ≡ phaseAtRise own sda (Phase.Receive count bits) ⌝ }
 {
     if count < 8 {
         Phase::Receive {
             count: count + 1,
             bits: gathered(bits, sda),
-            acknowledged: acknowledged,
         }
     } else {
         Phase::Receive {
             count: count,
             bits: bits,
-            acknowledged: acknowledged,
         }
     }
 }
@@ -98,19 +88,12 @@ pub fn phase_at_rise(own: u8, sda: bool, phase: Phase) -> Phase
 {
     match phase {
         Phase::Idle => phase,
-        Phase::Address {
-            count,
-            bits,
-            acknowledged,
-        } => address_at_rise(own, sda, count, bits, acknowledged),
+        Phase::Address { count, bits } => address_at_rise(own, sda, count, bits),
+        Phase::Addressed { bits: _, ninth: _ } => phase,
         Phase::Ignoring => phase,
-        Phase::Receive {
-            count,
-            bits,
-            acknowledged,
-        } => receive_at_rise(own, sda, count, bits, acknowledged),
+        Phase::Receive { count, bits } => receive_at_rise(own, sda, count, bits),
         Phase::Transmit { count, byte } => transmit_at_rise(own, sda, count, byte),
-        Phase::Held => phase,
+        Phase::Held { clocks: _ } => phase,
     }
 }
 
@@ -121,31 +104,12 @@ pub fn data_at_rise(sda: bool, phase: Phase, byte: u8) -> u8
 {
     match phase {
         Phase::Idle => byte,
-        Phase::Address {
-            count,
-            bits,
-            acknowledged: _,
-        } => {
-            if count == 7 {
-                gathered(bits, sda)
-            } else {
-                byte
-            }
-        }
+        Phase::Address { count, bits } => { if count < 7 { byte } else { gathered(bits, sda) } }
+        Phase::Addressed { bits: _, ninth: _ } => byte,
         Phase::Ignoring => byte,
-        Phase::Receive {
-            count,
-            bits,
-            acknowledged: _,
-        } => {
-            if count == 7 {
-                gathered(bits, sda)
-            } else {
-                byte
-            }
-        }
+        Phase::Receive { count, bits } => { if count == 7 { gathered(bits, sda) } else { byte } }
         Phase::Transmit { count: _, byte: _ } => byte,
-        Phase::Held => byte,
+        Phase::Held { clocks: _ } => byte,
     }
 }
 
@@ -156,25 +120,18 @@ pub fn matches_at_rise(own: u8, sda: bool, phase: Phase) -> bool
 {
     match phase {
         Phase::Idle => false,
-        Phase::Address {
-            count,
-            bits,
-            acknowledged: _,
-        } => {
-            if count == 7 {
-                matches(own, gathered(bits, sda))
-            } else {
+        Phase::Address { count, bits } => {
+            if count < 7 {
                 false
+            } else {
+                matches(own, gathered(bits, sda))
             }
         }
+        Phase::Addressed { bits: _, ninth: _ } => false,
         Phase::Ignoring => false,
-        Phase::Receive {
-            count: _,
-            bits: _,
-            acknowledged: _,
-        } => false,
+        Phase::Receive { count: _, bits: _ } => false,
         Phase::Transmit { count: _, byte: _ } => false,
-        Phase::Held => false,
+        Phase::Held { clocks: _ } => false,
     }
 }
 
@@ -185,17 +142,10 @@ pub fn status_at_rise(sda: bool, phase: Phase, status: u8) -> u8
 {
     match phase {
         Phase::Idle => status,
-        Phase::Address {
-            count: _,
-            bits: _,
-            acknowledged: _,
-        } => status,
+        Phase::Address { count: _, bits: _ } => status,
+        Phase::Addressed { bits: _, ninth: _ } => status,
         Phase::Ignoring => status,
-        Phase::Receive {
-            count: _,
-            bits: _,
-            acknowledged: _,
-        } => status,
+        Phase::Receive { count: _, bits: _ } => status,
         Phase::Transmit { count, byte: _ } => {
             if count == 9 {
                 bits::with_bit(status, RXAK, sda)
@@ -203,7 +153,7 @@ pub fn status_at_rise(sda: bool, phase: Phase, status: u8) -> u8
                 status
             }
         }
-        Phase::Held => status,
+        Phase::Held { clocks: _ } => status,
     }
 }
 
@@ -214,60 +164,63 @@ pub fn holds_at_fall(phase: Phase) -> bool
 {
     match phase {
         Phase::Idle => false,
-        Phase::Address {
-            count: _,
-            bits: _,
-            acknowledged,
-        } => acknowledged,
+        Phase::Address { count: _, bits: _ } => false,
+        Phase::Addressed { bits: _, ninth } => ninth,
         Phase::Ignoring => false,
-        Phase::Receive {
-            count: _,
-            bits: _,
-            acknowledged,
-        } => acknowledged,
+        Phase::Receive { count, bits: _ } => 8 < count,
         Phase::Transmit { count, byte: _ } => count == 10,
-        Phase::Held => false,
+        Phase::Held { clocks: _ } => false,
     }
 }
 
-// The fall after eight bits pulls SDA for the acknowledge.
-// Wrong answers: true after seven bits; true at each fall.
-pub fn acknowledges(count: u8) -> bool
-    ensures { λ r. ⌜ r ≡ acknowledgesOf count ⌝ }
+// A received byte is acknowledged: TXAK of II STS is 0.
+// Wrong answers: acknowledged where TXAK is 1; RXAK looked at for TXAK.
+pub fn acknowledges(status: u8) -> bool
+    ensures { λ r. ⌜ r ≡ acknowledgesOf status ⌝ }
 {
-    count == 8
+    !bits::bit(TXAK, status)
 }
 
-fn address_at_fall(count: u8, bits: u8, acknowledged: bool) -> Phase
-    ensures { λ r. ⌜ r ≡ phaseAtFall (Phase.Address count bits acknowledged) ⌝ }
+fn addressed_at_fall(status: u8, bits: u8, ninth: bool) -> Phase
+    ensures { λ r. ⌜ r ≡ phaseAtFall status (Phase.Addressed bits ninth) ⌝ }
 {
-    if acknowledged {
-        Phase::Held
+    if ninth {
+        Phase::Held { clocks: 0 }
     } else {
-        Phase::Address {
-            count: count,
+        Phase::Addressed {
             bits: bits,
-            acknowledged: acknowledges(count),
+            ninth: true,
         }
     }
 }
 
-fn receive_at_fall(count: u8, bits: u8, acknowledged: bool) -> Phase
-    ensures { λ r. ⌜ r ≡ phaseAtFall (Phase.Receive count bits acknowledged) ⌝ }
+fn ninth_clock(status: u8) -> u8
+    ensures { λ r. ⌜ r ≡ ninthClock status ⌝ }
 {
-    if acknowledged {
-        Phase::Held
+    if acknowledges(status) { 9 } else { 10 }
+}
+
+fn receive_at_fall(status: u8, count: u8, bits: u8) -> Phase
+    ensures { λ r. ⌜ r ≡ phaseAtFall status (Phase.Receive count bits) ⌝ }
+{
+    if 8 < count {
+        return Phase::Held { clocks: 0 };
+    }
+    if count == 8 {
+        Phase::Receive {
+            count: ninth_clock(status),
+            bits: bits,
+        }
     } else {
         Phase::Receive {
             count: count,
             bits: bits,
-            acknowledged: acknowledges(count),
         }
     }
 }
 
-fn transmit_at_fall(count: u8, byte: u8) -> Phase
-    ensures { λ r. ⌜ r ≡ phaseAtFall (Phase.Transmit count byte) ⌝ }
+fn transmit_at_fall(status: u8, count: u8, byte: u8) -> Phase
+    ensures { λ r. ⌜ r ≡ phaseAtFall status (Phase.Transmit count byte) ⌝ }
 {
     if count < 9 {
         return Phase::Transmit {
@@ -276,7 +229,7 @@ fn transmit_at_fall(count: u8, byte: u8) -> Phase
         };
     }
     if count == 10 {
-        Phase::Held
+        Phase::Held { clocks: 0 }
     } else {
         Phase::Transmit {
             count: count,
@@ -285,26 +238,42 @@ fn transmit_at_fall(count: u8, byte: u8) -> Phase
     }
 }
 
-// The phase after a fall of the SCL line.
+// The phase after a fall of the SCL line, at this II STS.
 // Wrong answers: SDA pulled at the seventh fall; a transmit held while its acknowledge is awaited.
-pub fn phase_at_fall(phase: Phase) -> Phase
-    ensures { λ r. ⌜ r ≡ phaseAtFall phase ⌝ }
+pub fn phase_at_fall(status: u8, phase: Phase) -> Phase
+    ensures { λ r. ⌜ r ≡ phaseAtFall status phase ⌝ }
 {
     match phase {
         Phase::Idle => phase,
-        Phase::Address {
-            count,
-            bits,
-            acknowledged,
-        } => address_at_fall(count, bits, acknowledged),
+        Phase::Address { count: _, bits: _ } => phase,
+        Phase::Addressed { bits, ninth } => addressed_at_fall(status, bits, ninth),
         Phase::Ignoring => phase,
-        Phase::Receive {
-            count,
-            bits,
-            acknowledged,
-        } => receive_at_fall(count, bits, acknowledged),
-        Phase::Transmit { count, byte } => transmit_at_fall(count, byte),
-        Phase::Held => phase,
+        Phase::Receive { count, bits } => receive_at_fall(status, count, bits),
+        Phase::Transmit { count, byte } => transmit_at_fall(status, count, byte),
+        Phase::Held { clocks: _ } => phase,
+    }
+}
+
+// One clock of 8 µs more, up to 65,535.
+fn held_longer(clocks: u16) -> u16
+    ensures { λ r. ⌜ r ≡ heldLonger clocks ⌝ }
+{
+    if clocks < 65535 { clocks + 1 } else { clocks }
+}
+
+// The phase after a clock of 8 µs: a hold has lasted one more.
+// Wrong answers: the count begun anew at 65,535; the count as it was.
+pub fn phase_at_period(phase: Phase) -> Phase
+    ensures { λ r. ⌜ r ≡ phaseAtPeriod phase ⌝ }
+{
+    match phase {
+        Phase::Idle => phase,
+        Phase::Address { count: _, bits: _ } => phase,
+        Phase::Addressed { bits: _, ninth: _ } => phase,
+        Phase::Ignoring => phase,
+        Phase::Receive { count: _, bits: _ } => phase,
+        Phase::Transmit { count: _, byte: _ } => phase,
+        Phase::Held { clocks } => Phase::Held { clocks: held_longer(clocks) },
     }
 }
 
@@ -319,10 +288,6 @@ pub fn phase_let_go(trx: bool, byte: u8) -> Phase
             byte: byte,
         }
     } else {
-        Phase::Receive {
-            count: 0,
-            bits: 0,
-            acknowledged: false,
-        }
+        Phase::Receive { count: 0, bits: 0 }
     }
 }

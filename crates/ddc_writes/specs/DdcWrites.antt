@@ -7,32 +7,32 @@ use Rattle.registers.specs.Names.{MDCON, IIADR, IIDAT, IISTS, HSEL, TRX}
 use Rattle.registers.specs.Table.{updated}
 use Rattle.sync.specs.declared.Sync.{Sync}
 use Rattle.sync.specs.Sync.{hselCleared}
-use Rattle.bus.specs.Lines.{mode, pullsScl}
+use Rattle.bus.specs.Bus.{mode, pullsScl}
 use Rattle.ddc2b.specs.Ddc2b.{phaseLetGo}
 use Rattle.chip.specs.declared.Bus.{Bus}
-use Rattle.chip.specs.declared.Chip.{Chip}
+use Rattle.chip.specs.declared.Core.{Core}
 use Rattle.chip.specs.State.{busOf, withMdcon, withSync, withBus}
-use Rattle.lines.specs.Bus.{busAtMode, busAtRise, sdaLine}
+use Rattle.edges.specs.Edges.{busAtMode, busAtRise, sdaLine}
 
 -- a cleared HSEL starts the count of lines and the interval anew
 unfoldable pub syncAtHsel : Bool → Bool → Sync → Sync
 syncAtHsel old new s = pick old (pick new s (hselCleared s)) s
 
 -- MDCON: HSEL and MD1/2 have effects of their own
-unfoldable pub mdconWritten : Chip → ℕ → Chip
+unfoldable pub mdconWritten : Core → ℕ → Core
 mdconWritten c b =
     let new : ℕ = updated MDCON (c .mdcon) b in
     withBus (withSync (withMdcon c new) (syncAtHsel (bit HSEL (c .mdcon)) (bit HSEL new) (c .sync)))
     (busAtMode (mode (c .bus .iists) (c .mdcon)) (mode (c .bus .iists) new) (c .bus))
 
-unfoldable pub iiadrWritten : Chip → ℕ → Chip
+unfoldable pub iiadrWritten : Core → ℕ → Core
 iiadrWritten c b = withBus c (busOf (c .bus .iists) (updated IIADR (c .bus .iiadr) b) (c .bus .iidat) (c .bus .phase) (c .bus .shifter))
 
 -- II STS: ENDDC, TRX and TXAK are stored; a 0 in bit 5 or 4 clears START or STOP, a 1 keeps it; RXAK stays
 unfoldable pub statusWritten : ℕ → ℕ → ℕ
 statusWritten old b = bitAnd (updated IISTS old b) (bitOr b 0xcf)
 
-unfoldable pub iistsWritten : Chip → ℕ → Chip
+unfoldable pub iistsWritten : Core → ℕ → Core
 iistsWritten c b =
     let new : ℕ = statusWritten (c .bus .iists) b in
     withBus c
@@ -55,5 +55,5 @@ busRisen scl sda bus = pick scl (busAtRise (sdaLine bus sda) bus) bus
 unfoldable pub busAtIidat : Bool → Bool → ℕ → Bus → Bus
 busAtIidat scl sda b bus = pick (pullsScl (bus .phase)) (busRisen scl sda (busLetGo b bus)) (withIidat b bus)
 
-unfoldable pub iidatWritten : Chip → ℕ → Chip
+unfoldable pub iidatWritten : Core → ℕ → Core
 iidatWritten c b = withBus c (busAtIidat (c .scl) (c .sda) b (c .bus))

@@ -2,7 +2,7 @@
 ghost use mathlib.Core.Path.{_≡_};
 ghost use Rattle.ddc_writes.specs.DdcWrites.{syncAtHsel, mdconWritten, iiadrWritten, statusWritten, iistsWritten, withIidat, busLetGo, busRisen, busAtIidat, iidatWritten};
 use chip::Bus;
-use chip::Chip;
+use chip::Core;
 use registers::HSEL;
 use registers::IIADR;
 use registers::IIDAT;
@@ -23,7 +23,7 @@ fn sync_at_hsel(old: bool, new: bool, s: Sync) -> Sync
 
 // MDCON: HSEL cleared starts the count of lines anew, MD1/2 changed while DDC is on releases the bus.
 // Wrong answers: the count of lines started anew where HSEL is set; the bus kept where MD1/2 changes.
-pub fn mdcon_written(c: Chip, b: u8) -> Chip
+pub fn mdcon_written(c: Core, b: u8) -> Core
     ensures { λ r. ⌜ r ≡ mdconWritten c b ⌝ }
 {
     let old = c.mdcon;
@@ -31,27 +31,30 @@ pub fn mdcon_written(c: Chip, b: u8) -> Chip
     let counters = c.sync;
     let wires = c.bus;
     let after = sync_at_hsel(bits::bit(HSEL, old), bits::bit(HSEL, new), counters);
-    let moved = lines::bus_at_mode(
+    let moved = edges::bus_at_mode(
         bus::mode_of(wires.iists, old),
         bus::mode_of(wires.iists, new),
         wires,
     );
-    let mut n = c;
-    n.mdcon = new;
-    n.sync = after;
-    n.bus = moved;
-    n
+    chip::with_bus(chip::with_sync(chip::with_mdcon(c, new), after), moved)
 }
 
 // II ADR: bits 7 to 1 are stored.
 // Wrong answers: bit 0 stored with them; the phase of a transfer given up.
-pub fn iiadr_written(c: Chip, b: u8) -> Chip
+pub fn iiadr_written(c: Core, b: u8) -> Core
     ensures { λ r. ⌜ r ≡ iiadrWritten c b ⌝ }
 {
-    let value = registers::updated(IIADR, c.bus.iiadr, b);
-    let mut n = c;
-    n.bus.iiadr = value;
-    n
+    let wires = c.bus;
+    let phase = wires.phase;
+    let shifter = wires.shifter;
+    let after = Bus {
+        iiadr: registers::updated(IIADR, wires.iiadr, b),
+        iists: wires.iists,
+        iidat: wires.iidat,
+        phase: phase,
+        shifter: shifter,
+    };
+    chip::with_bus(c, after)
 }
 
 fn status_written(old: u8, b: u8) -> u8
@@ -62,29 +65,41 @@ fn status_written(old: u8, b: u8) -> u8
 
 // II STS: ENDDC, TRX and TXAK are stored, START and STOP cleared by a 0; ENDDC changed releases the bus.
 // Wrong answers: STOP kept where a 0 is written; RXAK stored.
-pub fn iists_written(c: Chip, b: u8) -> Chip
+pub fn iists_written(c: Core, b: u8) -> Core
     ensures { λ r. ⌜ r ≡ iistsWritten c b ⌝ }
 {
-    let mut wires = c.bus;
+    let wires = c.bus;
+    let phase = wires.phase;
+    let shifter = wires.shifter;
     let old = wires.iists;
     let new = status_written(old, b);
-    wires.iists = new;
-    let after = lines::bus_at_mode(
+    let stored = Bus {
+        iiadr: wires.iiadr,
+        iists: new,
+        iidat: wires.iidat,
+        phase: phase,
+        shifter: shifter,
+    };
+    let after = edges::bus_at_mode(
         bus::mode_of(old, c.mdcon),
         bus::mode_of(new, c.mdcon),
-        wires,
+        stored,
     );
-    let mut n = c;
-    n.bus = after;
-    n
+    chip::with_bus(c, after)
 }
 
 fn with_iidat(b: u8, wires: Bus) -> Bus
     ensures { λ r. ⌜ r ≡ withIidat b wires ⌝ }
 {
-    let mut n = wires;
-    n.iidat = registers::updated(IIDAT, n.iidat, b);
-    n
+    let phase = wires.phase;
+    let shifter = wires.shifter;
+    Bus {
+        iiadr: wires.iiadr,
+        iists: wires.iists,
+        iidat: registers::updated(IIDAT, wires.iidat, b),
+        phase: phase,
+        shifter: shifter,
+    }
 }
 
 fn bus_let_go(b: u8, wires: Bus) -> Bus
@@ -104,7 +119,7 @@ fn bus_risen(scl: bool, sda: bool, wires: Bus) -> Bus
     ensures { λ r. ⌜ r ≡ busRisen scl sda wires ⌝ }
 {
     if scl {
-        lines::bus_at_rise(lines::sda_line(wires, sda), wires)
+        edges::bus_at_rise(edges::sda_line(wires, sda), wires)
     } else {
         wires
     }
@@ -123,12 +138,9 @@ fn bus_at_iidat(scl: bool, sda: bool, b: u8, wires: Bus) -> Bus
 
 // II DAT: stored; while SCL is held, it is let go too.
 // Wrong answers: the way of the next byte told by TXAK; the rise left out where the outside level of SCL is 1.
-pub fn iidat_written(c: Chip, b: u8) -> Chip
+pub fn iidat_written(c: Core, b: u8) -> Core
     ensures { λ r. ⌜ r ≡ iidatWritten c b ⌝ }
 {
     let wires = c.bus;
-    let after = bus_at_iidat(c.scl, c.sda, b, wires);
-    let mut n = c;
-    n.bus = after;
-    n
+    chip::with_bus(c, bus_at_iidat(c.scl, c.sda, b, wires))
 }

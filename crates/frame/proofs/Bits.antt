@@ -19,12 +19,12 @@ use Rattle.registers.specs.Table.{rowOf, writeMask, isWritable}
 use Rattle.registers.proofs.Rules.{writeMask-lt}
 use Rattle.events.specs.declared.Decoded.the-variants.{Write}
 use Rattle.bits.proofs.Level.{pick-by}
-use Rattle.bus.specs.Lines.{pullsScl}
+use Rattle.bus.specs.Bus.{pullsScl}
 use Rattle.ddc2b.specs.Ddc2b.{dataAtRise, phaseLetGo}
 use Rattle.chip.specs.declared.Bus.{Bus}
 use Rattle.chip.specs.declared.Chip.{Chip}
 use Rattle.chip.specs.State.{registerAt}
-use Rattle.lines.specs.Bus.{busAtRise}
+use Rattle.edges.specs.Edges.{busAtRise}
 use Rattle.writes.specs.declared.Target.{Target}
 use Rattle.ddc_writes.specs.DdcWrites.{busLetGo, busRisen, withIidat, busAtIidat, statusWritten}
 use Rattle.registers.specs.Table.{updated}
@@ -78,26 +78,26 @@ kept-by true m x y v w p q = p
 kept-by false m x y v w p q = q
 
 module _ (c : Chip) (b : ℕ) where
-  place-kept : (a : ℕ) → bitAnd (getD (set (c .registers) a (updated a (registerAt c a) b)) a 0) (255 - writeMask a) ≡ bitAnd (registerAt c a) (255 - writeMask a)
+  place-kept : (a : ℕ) → bitAnd (getD (set (c .registers) a (updated a (registerAt (c .registers) a) b)) a 0) (255 - writeMask a) ≡ bitAnd (registerAt (c .registers) a) (255 - writeMask a)
   place-kept a =
       ⊎-elim
-      (λ (h : a < length (c .registers)). rw (getD-set-same (c .registers) a (updated a (registerAt c a) b) 0 h) (outside (writeMask a) (registerAt c a) b (writeMask-lt a)))
-      (λ (h : length (c .registers) ≤ a). rw (set-out (c .registers) a (updated a (registerAt c a) b) h))
+      (λ (h : a < length (c .registers)). rw (getD-set-same (c .registers) a (updated a (registerAt (c .registers) a) b) 0 h) (outside (writeMask a) (registerAt (c .registers) a) b (writeMask-lt a)))
+      (λ (h : length (c .registers) ≤ a). rw (set-out (c .registers) a (updated a (registerAt (c .registers) a) b) h))
       (lt-or-le a (length (c .registers)))
 
   kept-to : {t : Target} {a : ℕ} → Addressed t a → b < 256 → bitAnd (keptByte (fields c a b) a) (255 - changeable a) ≡ bitAnd (keptByte c a) (255 - changeable a)
   unfolding keptByte changeable
-  kept-to at-mdcon h = outside (writeMask MDCON) (c .mdcon) b (writeMask-lt MDCON)
-  kept-to at-hvcon h = outside (writeMask HVCON) (c .polarity) b (writeMask-lt HVCON)
+  kept-to at-mdcon h = outside (writeMask MDCON) (c .core .mdcon) b (writeMask-lt MDCON)
+  kept-to at-hvcon h = outside (writeMask HVCON) (c .core .polarity) b (writeMask-lt HVCON)
   kept-to at-clrflg h = refl
   kept-to at-clrwdt h = refl
-  kept-to at-iiadr h = outside (writeMask IIADR) (c .bus .iiadr) b (writeMask-lt IIADR)
-  kept-to at-iidat h = rw (data-stored (c .scl) (c .sda) b (c .bus)) (outside (writeMask IIDAT) (c .bus .iidat) b (writeMask-lt IIDAT))
-  kept-to at-iists h = rw (mode-keeps _ _ _ .iists) (status-outside (c .bus .iists) b h)
-  kept-to at-bt h = outside (writeMask BT) (c .bt) b (writeMask-lt BT)
+  kept-to at-iiadr h = outside (writeMask IIADR) (c .core .bus .iiadr) b (writeMask-lt IIADR)
+  kept-to at-iidat h = rw (data-stored (c .core .scl) (c .core .sda) b (c .core .bus)) (outside (writeMask IIDAT) (c .core .bus .iidat) b (writeMask-lt IIDAT))
+  kept-to at-iists h = rw (mode-keeps _ _ _ .iists) (status-outside (c .core .bus .iists) b h)
+  kept-to at-bt h = outside (writeMask BT) (c .core .bt) b (writeMask-lt BT)
   kept-to {a = a} (at-plain p) h =
       rw (p .mdcon, p .hvcon, p .clrflg, p .clrwdt, p .iiadr, p .iidat, p .iists, p .bt)
-      (kept-by (eqb a IRQX) (255 - writeMask a) (c .irqx) _ (c .irqx) (registerAt c a) refl (place-kept a))
+      (kept-by (eqb a IRQX) (255 - writeMask a) (c .core .irqx) _ (c .core .irqx) (registerAt (c .registers) a) refl (place-kept a))
 
 -- a write to any register, taken or refused
 pub kept-bits : (c : Chip) (a b : ℕ) → b < 256 → bitAnd (keptByte (next c (Write a b)) a) (255 - changeable a) ≡ bitAnd (keptByte c a) (255 - changeable a)
@@ -109,10 +109,10 @@ kept-bits c a b h =
 -- ---- the bits that are taken
 
 module _ (c : Chip) (b : ℕ) (size : length (c .registers) ≡ 38) where
-  place-taken : (a : ℕ) → a < 38 → bitAnd (getD (set (c .registers) a (updated a (registerAt c a) b)) a 0) (writeMask a) ≡ bitAnd b (writeMask a)
+  place-taken : (a : ℕ) → a < 38 → bitAnd (getD (set (c .registers) a (updated a (registerAt (c .registers) a) b)) a 0) (writeMask a) ≡ bitAnd b (writeMask a)
   place-taken a h =
       let h : a < length (c .registers) = omega arith in
-      rw (getD-set-same (c .registers) a (updated a (registerAt c a) b) 0 h) (merge-mask (writeMask a) (registerAt c a) b (writeMask-lt a))
+      rw (getD-set-same (c .registers) a (updated a (registerAt (c .registers) a) b) 0 h) (merge-mask (writeMask a) (registerAt (c .registers) a) b (writeMask-lt a))
 
   plain-taken : {a : ℕ} → Plain a → a < 38 → isWritable a ≡ true → bitAnd (keptByte (fields c a b) a) (writeMask a) ≡ bitAnd b (writeMask a)
   unfolding keptByte isWritable rowOf
@@ -124,18 +124,18 @@ module _ (c : Chip) (b : ℕ) (size : length (c .registers) ≡ 38) where
 
   taken-to : {t : Target} {a : ℕ} → Addressed t a → b < 256 → a < 38 → isWritable a ≡ true → bitAnd (keptByte (fields c a b) a) (writeMask a) ≡ bitAnd b (writeMask a)
   unfolding keptByte writeMask rowOf
-  taken-to at-mdcon h ha w = merge-mask (writeMask MDCON) (c .mdcon) b (writeMask-lt MDCON)
-  taken-to at-hvcon h ha w = merge-mask (writeMask HVCON) (c .polarity) b (writeMask-lt HVCON)
-  taken-to at-clrflg h ha w = and-zero-r (registerAt c CLRFLG) ∙ sym (and-zero-r b)
-  taken-to at-clrwdt h ha w = and-zero-r (registerAt c CLRWDT) ∙ sym (and-zero-r b)
-  taken-to at-iiadr h ha w = merge-mask (writeMask IIADR) (c .bus .iiadr) b (writeMask-lt IIADR)
-  taken-to at-iidat h ha w = rw (data-stored (c .scl) (c .sda) b (c .bus)) (merge-mask (writeMask IIDAT) (c .bus .iidat) b (writeMask-lt IIDAT))
-  taken-to at-iists h ha w = rw (mode-keeps _ _ _ .iists) (status-inside (c .bus .iists) b h)
-  taken-to at-bt h ha w = merge-mask (writeMask BT) (c .bt) b (writeMask-lt BT)
+  taken-to at-mdcon h ha w = merge-mask (writeMask MDCON) (c .core .mdcon) b (writeMask-lt MDCON)
+  taken-to at-hvcon h ha w = merge-mask (writeMask HVCON) (c .core .polarity) b (writeMask-lt HVCON)
+  taken-to at-clrflg h ha w = and-zero-r (registerAt (c .registers) CLRFLG) ∙ sym (and-zero-r b)
+  taken-to at-clrwdt h ha w = and-zero-r (registerAt (c .registers) CLRWDT) ∙ sym (and-zero-r b)
+  taken-to at-iiadr h ha w = merge-mask (writeMask IIADR) (c .core .bus .iiadr) b (writeMask-lt IIADR)
+  taken-to at-iidat h ha w = rw (data-stored (c .core .scl) (c .core .sda) b (c .core .bus)) (merge-mask (writeMask IIDAT) (c .core .bus .iidat) b (writeMask-lt IIDAT))
+  taken-to at-iists h ha w = rw (mode-keeps _ _ _ .iists) (status-inside (c .core .bus .iists) b h)
+  taken-to at-bt h ha w = merge-mask (writeMask BT) (c .core .bt) b (writeMask-lt BT)
   taken-to (at-plain p) h ha w = plain-taken p ha w
 
 -- a write that is taken, at a state whose array has its 38 places, as all of the code's have
-pub taken-bits : (c : Chip) (a b : ℕ) → b < 256 → length (c .registers) ≡ 38 → a < 38 → c .reset ≡ true → isWritable a ≡ true →
+pub taken-bits : (c : Chip) (a b : ℕ) → b < 256 → length (c .registers) ≡ 38 → a < 38 → c .core .reset ≡ true → isWritable a ≡ true →
     bitAnd (keptByte (next c (Write a b)) a) (writeMask a) ≡ bitAnd b (writeMask a)
 taken-bits c a b h size ha r w =
     by-write (λ (x : Chip). bitAnd (keptByte x a) (writeMask a) ≡ bitAnd b (writeMask a)) c a b

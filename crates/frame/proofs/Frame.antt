@@ -17,14 +17,14 @@ use Rattle.bits.proofs.Level.{pick-by}
 use Rattle.sync.specs.declared.Sync.{Sync}
 use Rattle.sync.specs.Sync.{clearLines, clearPeriods, zeroLines, hselCleared, clearOverflow}
 use Rattle.bus.specs.declared.Mode.{Mode}
-use Rattle.bus.specs.Lines.{changesMode, pullsScl}
+use Rattle.bus.specs.Bus.{changesMode, pullsScl}
 use Rattle.ddc2b.specs.Ddc2b.{statusAtRise, phaseLetGo}
 use Rattle.chip.specs.declared.Bus.{Bus}
 use Rattle.chip.specs.declared.Chip.{Chip}
 use Rattle.chip.specs.State.{released, registerAt}
-use Rattle.lines.specs.Bus.{busAtMode, busAtRise}
+use Rattle.edges.specs.Edges.{busAtMode, busAtRise}
 use Rattle.ddc_writes.specs.DdcWrites.{syncAtHsel, busLetGo, busRisen, busAtIidat, withIidat}
-use Rattle.outcome.specs.Outcome.{next}
+use Rattle.outcome.specs.Outcome.{coreAfter, keptAfter, next}
 use Rattle.frame.specs.Frame.{Part, SameAt, actsElsewhere, alters}
 use Rattle.frame.specs.Frame.Part.{Place, Irqx, Mdcon, Polarity, Bt, Watchdog, LineCount, LineLatch, LineOverflow, PeriodCount, PeriodLatch, PeriodOverflow, Interval, Iists, Iiadr, Iidat, BusPhase, ShiftRegister, PinLevels, SdaLevel, SclLevel, ResetLevel}
 use Rattle.frame.proofs.Fields.{fields, by-write}
@@ -102,7 +102,7 @@ module _ (c : Chip) (a b : ℕ) where
   at-fields : (p : Part) → alters a p ≡ false → SameAt p (fields c a b) c
   unfolding alters
   at-fields (Place n) h =
-      pick-by (λ (l : List ℕ). getD l n 0 ≡ registerAt c n) (actsElsewhere a)
+      pick-by (λ (l : List ℕ). getD l n 0 ≡ registerAt (c .registers) n) (actsElsewhere a)
       (λ _. refl)
       (λ e. getD-set-other (c .registers) a n _ 0 (other n a (actsElsewhere a) e h))
   at-fields Irqx h = rw h
@@ -112,38 +112,38 @@ module _ (c : Chip) (a b : ℕ) where
   at-fields Watchdog h = rw h
   at-fields LineCount h = let k = neither (eqb a MDCON) (eqb a CLRFLG) h in rw (k .0, k .1)
   at-fields LineLatch h =
-      pick-by (λ (s : Sync). s .lines .latch ≡ c .sync .lines .latch) (eqb a MDCON) (λ _. hsel-keeps _ _ (c .sync) .latch)
-      (λ _. pick-by (λ (s : Sync). s .lines .latch ≡ c .sync .lines .latch) (eqb a CLRFLG) (λ _. clear-keeps _ _ (c .sync) .lines) (λ _. refl))
-  at-fields LineOverflow h = rw h (pick-by (λ (s : Sync). s .lines .overflow ≡ c .sync .lines .overflow) (eqb a MDCON) (λ _. hsel-keeps _ _ (c .sync) .overflow) (λ _. refl))
-  at-fields PeriodCount h = rw h (pick-by (λ (s : Sync). s .periods .count ≡ c .sync .periods .count) (eqb a MDCON) (λ _. rw (hsel-keeps _ _ (c .sync) .periods)) (λ _. refl))
+      pick-by (λ (s : Sync). s .lines .latch ≡ c .core .sync .lines .latch) (eqb a MDCON) (λ _. hsel-keeps _ _ (c .core .sync) .latch)
+      (λ _. pick-by (λ (s : Sync). s .lines .latch ≡ c .core .sync .lines .latch) (eqb a CLRFLG) (λ _. clear-keeps _ _ (c .core .sync) .lines) (λ _. refl))
+  at-fields LineOverflow h = rw h (pick-by (λ (s : Sync). s .lines .overflow ≡ c .core .sync .lines .overflow) (eqb a MDCON) (λ _. hsel-keeps _ _ (c .core .sync) .overflow) (λ _. refl))
+  at-fields PeriodCount h = rw h (pick-by (λ (s : Sync). s .periods .count ≡ c .core .sync .periods .count) (eqb a MDCON) (λ _. rw (hsel-keeps _ _ (c .core .sync) .periods)) (λ _. refl))
   at-fields PeriodLatch h =
-      pick-by (λ (s : Sync). s .periods .latch ≡ c .sync .periods .latch) (eqb a MDCON) (λ _. rw (hsel-keeps _ _ (c .sync) .periods))
-      (λ _. pick-by (λ (s : Sync). s .periods .latch ≡ c .sync .periods .latch) (eqb a CLRFLG) (λ _. clear-keeps _ _ (c .sync) .periods) (λ _. refl))
-  at-fields PeriodOverflow h = rw h (pick-by (λ (s : Sync). s .periods .overflow ≡ c .sync .periods .overflow) (eqb a MDCON) (λ _. rw (hsel-keeps _ _ (c .sync) .periods)) (λ _. refl))
-  at-fields Interval h = rw h (pick-by (λ (s : Sync). s .interval ≡ c .sync .interval) (eqb a CLRFLG) (λ _. clear-keeps _ _ (c .sync) .interval) (λ _. refl))
+      pick-by (λ (s : Sync). s .periods .latch ≡ c .core .sync .periods .latch) (eqb a MDCON) (λ _. rw (hsel-keeps _ _ (c .core .sync) .periods))
+      (λ _. pick-by (λ (s : Sync). s .periods .latch ≡ c .core .sync .periods .latch) (eqb a CLRFLG) (λ _. clear-keeps _ _ (c .core .sync) .periods) (λ _. refl))
+  at-fields PeriodOverflow h = rw h (pick-by (λ (s : Sync). s .periods .overflow ≡ c .core .sync .periods .overflow) (eqb a MDCON) (λ _. rw (hsel-keeps _ _ (c .core .sync) .periods)) (λ _. refl))
+  at-fields Interval h = rw h (pick-by (λ (s : Sync). s .interval ≡ c .core .sync .interval) (eqb a CLRFLG) (λ _. clear-keeps _ _ (c .core .sync) .interval) (λ _. refl))
   at-fields Iists h =
-      let P : Bus → Type 0 = λ (x : Bus). x .iists ≡ c .bus .iists in
-      rw h (pick-by P (eqb a MDCON) (λ _. mode-keeps _ _ (c .bus) .iists)
+      let P : Bus → Type 0 = λ (x : Bus). x .iists ≡ c .core .bus .iists in
+      rw h (pick-by P (eqb a MDCON) (λ _. mode-keeps _ _ (c .core .bus) .iists)
       (λ _. pick-by P (eqb a IIADR) (λ _. refl)
-      (λ _. pick-by P (eqb a IIDAT) (λ _. data-keeps (c .scl) (c .sda) b (c .bus) .iists) (λ _. refl))))
+      (λ _. pick-by P (eqb a IIDAT) (λ _. data-keeps (c .core .scl) (c .core .sda) b (c .core .bus) .iists) (λ _. refl))))
   at-fields Iiadr h =
-      let P : Bus → Type 0 = λ (x : Bus). x .iiadr ≡ c .bus .iiadr in
-      rw h (pick-by P (eqb a MDCON) (λ _. mode-keeps _ _ (c .bus) .iiadr)
-      (λ _. pick-by P (eqb a IIDAT) (λ _. data-keeps (c .scl) (c .sda) b (c .bus) .iiadr)
+      let P : Bus → Type 0 = λ (x : Bus). x .iiadr ≡ c .core .bus .iiadr in
+      rw h (pick-by P (eqb a MDCON) (λ _. mode-keeps _ _ (c .core .bus) .iiadr)
+      (λ _. pick-by P (eqb a IIDAT) (λ _. data-keeps (c .core .scl) (c .core .sda) b (c .core .bus) .iiadr)
       (λ _. pick-by P (eqb a IISTS) (λ _. mode-keeps _ _ _ .iiadr) (λ _. refl))))
   at-fields Iidat h =
-      let P : Bus → Type 0 = λ (x : Bus). x .iidat ≡ c .bus .iidat in
-      rw h (pick-by P (eqb a MDCON) (λ _. mode-keeps _ _ (c .bus) .iidat)
+      let P : Bus → Type 0 = λ (x : Bus). x .iidat ≡ c .core .bus .iidat in
+      rw h (pick-by P (eqb a MDCON) (λ _. mode-keeps _ _ (c .core .bus) .iidat)
       (λ _. pick-by P (eqb a IIADR) (λ _. refl)
       (λ _. pick-by P (eqb a IISTS) (λ _. mode-keeps _ _ _ .iidat) (λ _. refl))))
   at-fields BusPhase h =
       let j = neither (eqb a MDCON) (eqb a IIDAT || eqb a IISTS) h in
       let k = neither (eqb a IIDAT) (eqb a IISTS) (j .1) in
-      rw (j .0, k .0, k .1) (pick-by (λ (x : Bus). x .phase ≡ c .bus .phase) (eqb a IIADR) (λ _. refl) (λ _. refl))
+      rw (j .0, k .0, k .1) (pick-by (λ (x : Bus). x .phase ≡ c .core .bus .phase) (eqb a IIADR) (λ _. refl) (λ _. refl))
   at-fields ShiftRegister h =
       let k = neither (eqb a MDCON) (eqb a IISTS) h in
-      let P : Bus → Type 0 = λ (x : Bus). x .shifter ≡ c .bus .shifter in
-      rw (k .0, k .1) (pick-by P (eqb a IIADR) (λ _. refl) (λ _. pick-by P (eqb a IIDAT) (λ _. data-keeps (c .scl) (c .sda) b (c .bus) .shifter) (λ _. refl)))
+      let P : Bus → Type 0 = λ (x : Bus). x .shifter ≡ c .core .bus .shifter in
+      rw (k .0, k .1) (pick-by P (eqb a IIADR) (λ _. refl) (λ _. pick-by P (eqb a IIDAT) (λ _. data-keeps (c .core .scl) (c .core .sda) b (c .core .bus) .shifter) (λ _. refl)))
   at-fields PinLevels h = refl
   at-fields SdaLevel h = refl
   at-fields SclLevel h = refl
@@ -181,7 +181,7 @@ frame c a b p k = by-write (λ (x : Chip). SameAt p x c) c a b (λ _ _. at-field
 
 -- a read leaves the state as it was
 pub read-frame : (c : Chip) (a : ℕ) → next c (Read a) ≡ c
-unfolding next
+unfolding next coreAfter keptAfter
 read-frame c a = refl
 
 -- ---- the parts are the whole state
@@ -202,19 +202,22 @@ same-bus x y s a d p r = λ k. record { iists = s k; iiadr = a k; iidat = d k; p
 pub whole : (x y : Chip) → length (x .registers) ≡ length (y .registers) → ((p : Part) → SameAt p x y) → x ≡ y
 whole x y l h =
     let registers = ext-getD 0 (x .registers) (y .registers) l (λ i _. h (Place i)) in
-    let sync = same-sync (x .sync) (y .sync) (h LineCount) (h LineLatch) (h LineOverflow) (h PeriodCount) (h PeriodLatch) (h PeriodOverflow) (h Interval) in
-    let bus = same-bus (x .bus) (y .bus) (h Iists) (h Iiadr) (h Iidat) (h BusPhase) (h ShiftRegister) in
+    let sync = same-sync (x .core .sync) (y .core .sync) (h LineCount) (h LineLatch) (h LineOverflow) (h PeriodCount) (h PeriodLatch) (h PeriodOverflow) (h Interval) in
+    let bus = same-bus (x .core .bus) (y .core .bus) (h Iists) (h Iiadr) (h Iidat) (h BusPhase) (h ShiftRegister) in
     λ k. record {
       registers = registers k;
-      irqx = h Irqx k;
-      mdcon = h Mdcon k;
-      polarity = h Polarity k;
-      bt = h Bt k;
-      watchdog = h Watchdog k;
-      sync = sync k;
-      bus = bus k;
-      pins = h PinLevels k;
-      sda = h SdaLevel k;
-      scl = h SclLevel k;
-      reset = h ResetLevel k;
+      core =
+          record {
+            irqx = h Irqx k;
+            mdcon = h Mdcon k;
+            polarity = h Polarity k;
+            bt = h Bt k;
+            watchdog = h Watchdog k;
+            sync = sync k;
+            bus = bus k;
+            pins = h PinLevels k;
+            sda = h SdaLevel k;
+            scl = h SclLevel k;
+            reset = h ResetLevel k;
+          };
     }

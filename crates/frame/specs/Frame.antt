@@ -22,28 +22,28 @@ pub data Part : Type 0 where
 
 -- two states have the same part
 abbrev pub SameAt : Part → Chip → Chip → Type 0
-SameAt (Place n) x y = registerAt x n ≡ registerAt y n
-SameAt Irqx x y = x .irqx ≡ y .irqx
-SameAt Mdcon x y = x .mdcon ≡ y .mdcon
-SameAt Polarity x y = x .polarity ≡ y .polarity
-SameAt Bt x y = x .bt ≡ y .bt
-SameAt Watchdog x y = x .watchdog ≡ y .watchdog
-SameAt LineCount x y = x .sync .lines .count ≡ y .sync .lines .count
-SameAt LineLatch x y = x .sync .lines .latch ≡ y .sync .lines .latch
-SameAt LineOverflow x y = x .sync .lines .overflow ≡ y .sync .lines .overflow
-SameAt PeriodCount x y = x .sync .periods .count ≡ y .sync .periods .count
-SameAt PeriodLatch x y = x .sync .periods .latch ≡ y .sync .periods .latch
-SameAt PeriodOverflow x y = x .sync .periods .overflow ≡ y .sync .periods .overflow
-SameAt Interval x y = x .sync .interval ≡ y .sync .interval
-SameAt Iists x y = x .bus .iists ≡ y .bus .iists
-SameAt Iiadr x y = x .bus .iiadr ≡ y .bus .iiadr
-SameAt Iidat x y = x .bus .iidat ≡ y .bus .iidat
-SameAt BusPhase x y = x .bus .phase ≡ y .bus .phase
-SameAt ShiftRegister x y = x .bus .shifter ≡ y .bus .shifter
-SameAt PinLevels x y = x .pins ≡ y .pins
-SameAt SdaLevel x y = x .sda ≡ y .sda
-SameAt SclLevel x y = x .scl ≡ y .scl
-SameAt ResetLevel x y = x .reset ≡ y .reset
+SameAt (Place n) x y = registerAt (x .registers) n ≡ registerAt (y .registers) n
+SameAt Irqx x y = x .core .irqx ≡ y .core .irqx
+SameAt Mdcon x y = x .core .mdcon ≡ y .core .mdcon
+SameAt Polarity x y = x .core .polarity ≡ y .core .polarity
+SameAt Bt x y = x .core .bt ≡ y .core .bt
+SameAt Watchdog x y = x .core .watchdog ≡ y .core .watchdog
+SameAt LineCount x y = x .core .sync .lines .count ≡ y .core .sync .lines .count
+SameAt LineLatch x y = x .core .sync .lines .latch ≡ y .core .sync .lines .latch
+SameAt LineOverflow x y = x .core .sync .lines .overflow ≡ y .core .sync .lines .overflow
+SameAt PeriodCount x y = x .core .sync .periods .count ≡ y .core .sync .periods .count
+SameAt PeriodLatch x y = x .core .sync .periods .latch ≡ y .core .sync .periods .latch
+SameAt PeriodOverflow x y = x .core .sync .periods .overflow ≡ y .core .sync .periods .overflow
+SameAt Interval x y = x .core .sync .interval ≡ y .core .sync .interval
+SameAt Iists x y = x .core .bus .iists ≡ y .core .bus .iists
+SameAt Iiadr x y = x .core .bus .iiadr ≡ y .core .bus .iiadr
+SameAt Iidat x y = x .core .bus .iidat ≡ y .core .bus .iidat
+SameAt BusPhase x y = x .core .bus .phase ≡ y .core .bus .phase
+SameAt ShiftRegister x y = x .core .bus .shifter ≡ y .core .bus .shifter
+SameAt PinLevels x y = x .core .pins ≡ y .core .pins
+SameAt SdaLevel x y = x .core .sda ≡ y .core .sda
+SameAt SclLevel x y = x .core .scl ≡ y .core .scl
+SameAt ResetLevel x y = x .core .reset ≡ y .core .reset
 
 -- registers whose write acts elsewhere than at their place in the array
 abbrev pub actsElsewhere : ℕ → Bool
@@ -82,14 +82,14 @@ alters a ResetLevel = false
 -- the byte that the state keeps for a register
 unfoldable pub keptByte : Chip → ℕ → ℕ
 keptByte c a =
-    pick (eqb a MDCON) (c .mdcon)
-    (pick (eqb a HVCON) (c .polarity)
-    (pick (eqb a IRQX) (c .irqx)
-    (pick (eqb a IIADR) (c .bus .iiadr)
-    (pick (eqb a IIDAT) (c .bus .iidat)
-    (pick (eqb a IISTS) (c .bus .iists)
-    (pick (eqb a BT) (c .bt)
-    (registerAt c a)))))))
+    pick (eqb a MDCON) (c .core .mdcon)
+    (pick (eqb a HVCON) (c .core .polarity)
+    (pick (eqb a IRQX) (c .core .irqx)
+    (pick (eqb a IIADR) (c .core .bus .iiadr)
+    (pick (eqb a IIDAT) (c .core .bus .iidat)
+    (pick (eqb a IISTS) (c .core .bus .iists)
+    (pick (eqb a BT) (c .core .bt)
+    (registerAt (c .registers) a)))))))
 
 -- the bits of it that a write to the register may change: those of its write mask, and in II STS also START and STOP
 unfoldable pub changeable : ℕ → ℕ

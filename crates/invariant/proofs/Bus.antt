@@ -8,7 +8,7 @@ use native.Mathlib.Numerals.{add-one}
 use native.Mathlib.Omega.{arith}
 use lib.Bits.{or-lt}
 use lib.Dec.{eqb, ltb}
-use borrow.Author.Tests.{ltb-true, lt-ltb, eqb-true, eqb-false, eq-eqb}
+use borrow.Author.Tests.{ltb-true, lt-ltb, eqb-true, eqb-false}
 use Rattle.bits.specs.Byte.{pick, bit, withBit}
 use Rattle.bits.proofs.Mask.{num-lt}
 use Rattle.bits.proofs.Bitwise.{bit-or, bit-withBit}
@@ -17,46 +17,28 @@ use Rattle.bits.proofs.Level.{pick-by}
 use Rattle.bus.specs.declared.Mode.{Mode}
 use Rattle.bus.specs.declared.Mode.the-variants.{Off, Ddc1, Ddc2b}
 use Rattle.bus.specs.declared.Phase.{Phase}
-use Rattle.bus.specs.declared.Phase.the-variants.{Idle, Address, Ignoring, Receive, Transmit, Held}
+use Rattle.bus.specs.declared.Phase.the-variants.{Idle, Address, Addressed, Ignoring, Receive, Transmit, Held}
 use Rattle.bus.specs.declared.Shifter.{Shifter}
-use Rattle.bus.specs.Lines.{mode, modeBy, changesMode, pullsScl}
+use Rattle.bus.specs.Bus.{mode, modeBy, changesMode, pullsScl}
 use Rattle.bus.specs.Ddc1.{shifter, unusedShifter, shifterAtRise}
-use Rattle.ddc2b.specs.Ddc2b.{matches, gathered, startStatus, startPhase, stopStatus, addressed, phaseAtRise, statusAtRise, acknowledges, phaseAtFall, phaseLetGo}
+use Rattle.ddc2b.specs.Ddc2b.{matches, gathered, startStatus, startPhase, stopStatus, addressed, phaseAtRise, statusAtRise, acknowledges, ninthClock, phaseAtFall, phaseAtPeriod, phaseLetGo}
 use Rattle.chip.specs.declared.Bus.{Bus}
 use Rattle.chip.specs.State.{busOf, released}
-use Rattle.form.specs.Form.{gatheredFits, phaseFits, isIdle, isUnused, busFits}
-use Rattle.lines.specs.Bus.{busAtMode, busAtRise, busAtVsync, withPhase}
+use Rattle.well_formed.specs.WellFormed.{gatheredFits, phaseFits, isIdle, isUnused, busFits}
+use Rattle.edges.specs.Edges.{busAtMode, busAtRise, busAtVsync, withPhase}
 use Rattle.invariant.proofs.Formed.{and-both, impossible, BusFormed}
 use Rattle.invariant.proofs.Ranges.{with-bit-below, pick-below}
 
 -- ---- bits gathered
 
-record Gathered (count bits : ℕ) (acknowledged : Bool) : Type 0 where
-  pub count-lt : count < 9
-  pub bits-lt : bits < 2 ^ count
-  pub eight : acknowledged ≡ true → count ≡ 8
-
-fits-by : (short small acknowledged eight : Bool) → pick short (pick small (pick acknowledged eight true) false) false ≡ true →
-    (short ≡ true) × (small ≡ true) × (acknowledged ≡ true → eight ≡ true)
-fits-by true true true eight h = (refl, refl, λ _. h)
-fits-by true true false eight h = (refl, refl, λ e. absurd (impossible e))
-fits-by true false acknowledged eight h = absurd (impossible h)
-fits-by false small acknowledged eight h = absurd (impossible h)
-
-by-fits : (acknowledged eight : Bool) → (acknowledged ≡ true → eight ≡ true) → pick acknowledged eight true ≡ true
-by-fits true eight h = h refl
-by-fits false eight h = refl
-
-gathered-in : (count bits : ℕ) (acknowledged : Bool) → gatheredFits count bits acknowledged ≡ true → Gathered count bits acknowledged
+-- up to eight bits, as many as counted
+fits-in : (count bits : ℕ) → count < 9 → gatheredFits count bits ≡ true → bits < 2 ^ count
 unfolding gatheredFits
-gathered-in count bits acknowledged h =
-    let three = fits-by (ltb count 9) (ltb bits (2 ^ count)) acknowledged (eqb count 8) h in
-    record { count-lt = ltb-true _ _ (three .0); bits-lt = ltb-true _ _ (three .1); eight = λ e. eqb-true _ _ (three .2 e) }
+fits-in count bits h t = ltb-true _ _ (rw (lt-ltb count 9 h) at t)
 
-in-gathered : (count bits : ℕ) (acknowledged : Bool) → Gathered count bits acknowledged → gatheredFits count bits acknowledged ≡ true
+in-fits : (count bits : ℕ) → count < 9 → bits < 2 ^ count → gatheredFits count bits ≡ true
 unfolding gatheredFits
-in-gathered count bits acknowledged g =
-    rw (lt-ltb _ _ (g .count-lt), lt-ltb _ _ (g .bits-lt)) (by-fits acknowledged (eqb count 8) (λ e. eq-eqb _ _ (g .eight e)))
+in-fits count bits h k = rw (lt-ltb count 9 h) (lt-ltb _ _ k)
 
 -- one bit more
 gathered-lt : (count bits : ℕ) (sda : Bool) → bits < 2 ^ count → gathered bits sda < 2 ^ (count + 1)
@@ -67,20 +49,8 @@ gathered-byte : (bits : ℕ) (sda : Bool) → gathered bits sda < 2 ^ 8
 unfolding gathered
 gathered-byte bits sda = omega (arith, num-lt sda)
 
-gathers : (count bits : ℕ) (acknowledged sda : Bool) → count < 8 → gatheredFits count bits acknowledged ≡ true →
-    gatheredFits (count + 1) (gathered bits sda) acknowledged ≡ true
-gathers count bits acknowledged sda h t =
-    let g = gathered-in count bits acknowledged t in
-    in-gathered _ _ _
-    (record { count-lt = omega arith; bits-lt = gathered-lt count bits sda (g .bits-lt); eight = λ e. let k = g .eight e in absurd (omega arith) })
-
--- a fall after eight bits is acknowledged
-acknowledged-fits : (count bits : ℕ) (acknowledged : Bool) → gatheredFits count bits acknowledged ≡ true →
-    gatheredFits count bits (acknowledges count) ≡ true
-unfolding acknowledges
-acknowledged-fits count bits acknowledged t =
-    let g = gathered-in count bits acknowledged t in
-    in-gathered _ _ _ (record { count-lt = g .count-lt; bits-lt = g .bits-lt; eight = λ e. eqb-true _ _ e })
+gathers : (count bits : ℕ) (sda : Bool) → count < 8 → gatheredFits count bits ≡ true → gatheredFits (count + 1) (gathered bits sda) ≡ true
+gathers count bits sda h t = in-fits _ _ (omega arith) (gathered-lt count bits sda (fits-in count bits (omega arith) t))
 
 -- ---- the phase
 
@@ -89,37 +59,44 @@ Fits p = phaseFits p ≡ true
 
 addressed-fits : (own byte : ℕ) → byte < 2 ^ 8 → Fits (addressed own byte)
 unfolding phaseFits
-addressed-fits own byte h =
-    pick-by Fits (matches own byte)
-    (λ _. in-gathered 8 byte false (record { count-lt = omega arith; bits-lt = h; eight = λ e. absurd (impossible e) }))
-    (λ _. refl)
+addressed-fits own byte h = pick-by Fits (matches own byte) (λ _. in-fits 8 byte (omega arith) h) (λ _. refl)
+
+-- the ninth clock keeps the eight bits, whether SDA is pulled or released
+ninth-fits : (status bits : ℕ) → gatheredFits 8 bits ≡ true → Fits (Receive (ninthClock status) bits)
+unfolding phaseFits gatheredFits
+ninth-fits status bits t = pick-by (λ (n : ℕ). Fits (Receive n bits)) (acknowledges status) (λ _. t) (λ _. t)
 
 phase-at-rise : (own : ℕ) (sda : Bool) (p : Phase) → Fits p → Fits (phaseAtRise own sda p)
 unfolding phaseAtRise phaseFits
 phase-at-rise own sda Idle t = refl
-phase-at-rise own sda (Address count bits acknowledged) t =
+phase-at-rise own sda (Address count bits) t =
     pick-by Fits (ltb count 7)
-    (λ e. gathers count bits acknowledged sda (omega (arith, ltb-true count 7 e)) t)
-    (λ _. pick-by Fits (ltb count 8) (λ _. addressed-fits own (gathered bits sda) (gathered-byte bits sda)) (λ _. t))
+    (λ e. let few = ltb-true count 7 e in and-both _ _ (lt-ltb (count + 1) 8 (omega arith)) (gathers count bits sda (omega arith) (both (ltb count 8) (gatheredFits count bits) t .1)))
+    (λ _. addressed-fits own (gathered bits sda) (gathered-byte bits sda))
+phase-at-rise own sda (Addressed bits ninth) t = t
 phase-at-rise own sda Ignoring t = refl
-phase-at-rise own sda (Receive count bits acknowledged) t =
-    pick-by Fits (ltb count 8) (λ e. gathers count bits acknowledged sda (ltb-true count 8 e) t) (λ _. t)
+phase-at-rise own sda (Receive count bits) t =
+    pick-by Fits (ltb count 8)
+    (λ e. let few = ltb-true count 8 e in and-both _ _ (lt-ltb (count + 1) 11 (omega arith)) (gathers count bits sda few (both (ltb count 11) (gatheredFits count bits) t .1)))
+    (λ _. t)
 phase-at-rise own sda (Transmit count byte) t = pick-by Fits (eqb count 9) (λ _. refl) (λ _. t)
-phase-at-rise own sda Held t = refl
+phase-at-rise own sda (Held clocks) t = refl
 
-phase-at-fall : (p : Phase) → Fits p → Fits (phaseAtFall p)
+phase-at-fall : (status : ℕ) (p : Phase) → Fits p → Fits (phaseAtFall status p)
 unfolding phaseAtFall phaseFits
-phase-at-fall Idle t = refl
-phase-at-fall (Address count bits acknowledged) t =
-    pick-by Fits acknowledged (λ _. refl) (λ _. acknowledged-fits count bits acknowledged t)
-phase-at-fall Ignoring t = refl
-phase-at-fall (Receive count bits acknowledged) t =
-    pick-by Fits acknowledged (λ _. refl) (λ _. acknowledged-fits count bits acknowledged t)
-phase-at-fall (Transmit count byte) t =
+phase-at-fall status Idle t = refl
+phase-at-fall status (Address count bits) t = t
+phase-at-fall status (Addressed bits ninth) t = pick-by Fits ninth (λ _. refl) (λ _. t)
+phase-at-fall status Ignoring t = refl
+phase-at-fall status (Receive count bits) t =
+    pick-by Fits (ltb 8 count)
+    (λ _. refl)
+    (λ _. pick-by Fits (eqb count 8) (λ e. let eight = both (ltb count 11) (gatheredFits count bits) t .1 in ninth-fits status bits (rw (eqb-true count 8 e) at eight)) (λ _. t))
+phase-at-fall status (Transmit count byte) t =
     pick-by Fits (ltb count 9)
     (λ e. and-both _ _ (lt-ltb 0 (count + 1) (omega arith)) (lt-ltb (count + 1) 11 (omega (arith, ltb-true count 9 e))))
     (λ _. pick-by Fits (eqb count 10) (λ _. refl) (λ _. t))
-phase-at-fall Held t = refl
+phase-at-fall status (Held clocks) t = refl
 
 phase-let-go : (trx : Bool) (byte : ℕ) → Fits (phaseLetGo trx byte)
 unfolding phaseFits gatheredFits
@@ -147,20 +124,22 @@ rxak-bit status sda = bit-withBit 3 1 status sda (omega arith) (omega arith)
 status-bit : (sda : Bool) (p : Phase) (status : ℕ) → bit 3 (statusAtRise sda p status) ≡ bit 3 status
 unfolding statusAtRise
 status-bit sda Idle status = refl
-status-bit sda (Address count bits acknowledged) status = refl
+status-bit sda (Address count bits) status = refl
+status-bit sda (Addressed bits ninth) status = refl
 status-bit sda Ignoring status = refl
-status-bit sda (Receive count bits acknowledged) status = refl
+status-bit sda (Receive count bits) status = refl
 status-bit sda (Transmit count byte) status = pick-by (λ (n : ℕ). bit 3 n ≡ bit 3 status) (eqb count 9) (λ _. rxak-bit status sda) (λ _. refl)
-status-bit sda Held status = refl
+status-bit sda (Held clocks) status = refl
 
 status-lt : (sda : Bool) (p : Phase) (status : ℕ) → status < 64 → statusAtRise sda p status < 64
 unfolding statusAtRise
 status-lt sda Idle status h = h
-status-lt sda (Address count bits acknowledged) status h = h
+status-lt sda (Address count bits) status h = h
+status-lt sda (Addressed bits ninth) status h = h
 status-lt sda Ignoring status h = h
-status-lt sda (Receive count bits acknowledged) status h = h
+status-lt sda (Receive count bits) status h = h
 status-lt sda (Transmit count byte) status h = pick-below (eqb count 9) _ _ 64 (with-bit-below 6 status 1 sda (omega arith) h) h
-status-lt sda Held status h = h
+status-lt sda (Held clocks) status h = h
 
 -- modes that do not differ by their number are the same
 mode-same : (old new : Mode) → changesMode old new ≡ false → old ≡ new
@@ -226,8 +205,8 @@ module _ (mdcon : ℕ) (b : Bus) (f : BusFormed mdcon b) (e : mode (b .iists) md
       ddc2b-formed _ _ _ (status-lt sda (b .phase) (b .iists) (f .iists)) (status-bit sda (b .phase) (b .iists))
       (phase-at-rise (b .iiadr) sda (b .phase) phase-fits)
 
-  pub fall-formed : BusFormed mdcon (withPhase b (phaseAtFall (b .phase)))
-  fall-formed = ddc2b-formed _ _ _ (f .iists) refl (phase-at-fall (b .phase) phase-fits)
+  pub fall-formed : BusFormed mdcon (withPhase b (phaseAtFall (b .iists) (b .phase)))
+  fall-formed = ddc2b-formed _ _ _ (f .iists) refl (phase-at-fall (b .iists) (b .phase) phase-fits)
 
   pub start-formed : BusFormed mdcon (busOf (startStatus (b .iists)) (b .iiadr) (b .iidat) startPhase (b .shifter))
   unfolding phaseFits gatheredFits
@@ -244,11 +223,12 @@ module _ (mdcon : ℕ) (b : Bus) (f : BusFormed mdcon b) (e : mode (b .iists) md
 idle-lets-go : (p : Phase) → isIdle p ≡ true → pullsScl p ≡ false
 unfolding isIdle pullsScl
 idle-lets-go Idle t = refl
-idle-lets-go (Address count bits acknowledged) t = refl
+idle-lets-go (Address count bits) t = refl
+idle-lets-go (Addressed bits ninth) t = refl
 idle-lets-go Ignoring t = refl
-idle-lets-go (Receive count bits acknowledged) t = refl
+idle-lets-go (Receive count bits) t = refl
 idle-lets-go (Transmit count byte) t = refl
-idle-lets-go Held t = absurd (impossible t)
+idle-lets-go (Held clocks) t = absurd (impossible t)
 
 -- so SCL is held in DDC2B alone
 pub held-in-ddc2b : (m : Mode) (p : Phase) (s : Shifter) → busFits m p s ≡ true → pullsScl p ≡ true → m ≡ Ddc2b
@@ -256,6 +236,38 @@ unfolding busFits
 held-in-ddc2b Off p s t h = let low = idle-lets-go p (both _ _ t .0) in absurd (impossible (sym low ∙ h))
 held-in-ddc2b Ddc1 p s t h = let low = idle-lets-go p (both _ _ t .0) in absurd (impossible (sym low ∙ h))
 held-in-ddc2b Ddc2b p s t h = refl
+
+-- ---- a clock of 8 µs: a hold of SCL lasts one clock longer, in the mode that it was in
+
+period-idle : (p : Phase) → isIdle (phaseAtPeriod p) ≡ isIdle p
+unfolding phaseAtPeriod isIdle
+period-idle Idle = refl
+period-idle (Address count bits) = refl
+period-idle (Addressed bits ninth) = refl
+period-idle Ignoring = refl
+period-idle (Receive count bits) = refl
+period-idle (Transmit count byte) = refl
+period-idle (Held clocks) = refl
+
+period-phase : (p : Phase) → phaseFits (phaseAtPeriod p) ≡ phaseFits p
+unfolding phaseAtPeriod phaseFits
+period-phase Idle = refl
+period-phase (Address count bits) = refl
+period-phase (Addressed bits ninth) = refl
+period-phase Ignoring = refl
+period-phase (Receive count bits) = refl
+period-phase (Transmit count byte) = refl
+period-phase (Held clocks) = refl
+
+period-fits : (m : Mode) (p : Phase) (s : Shifter) → busFits m (phaseAtPeriod p) s ≡ busFits m p s
+unfolding busFits
+period-fits Off p s = rw (period-idle p)
+period-fits Ddc1 p s = rw (period-idle p)
+period-fits Ddc2b p s = rw (period-phase p)
+
+pub period-formed : (mdcon : ℕ) (b : Bus) → BusFormed mdcon b → BusFormed mdcon (withPhase b (phaseAtPeriod (b .phase)))
+period-formed mdcon b f =
+    record { iists = f .iists; iiadr = f .iiadr; fits = period-fits (mode (b .iists) mdcon) (b .phase) (b .shifter) ∙ f .fits }
 
 -- ---- DDC1
 

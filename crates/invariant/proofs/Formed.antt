@@ -1,4 +1,4 @@
--- A well formed state by its parts, and one part put anew.
+-- A well formed state by its parts, the core and the array, and a core with one part put anew.
 -- Assumes nothing.
 use mathlib.Core.Path.{_≡_}
 use mathlib.Core.Bool.{Bool, true, false, _&&_}
@@ -12,12 +12,13 @@ use Rattle.bits.specs.Finite.{allBelow}
 use Rattle.bits.proofs.Finite.{at-each, all-true, T-true, true-T, both}
 use Rattle.sync.specs.declared.Sync.{Sync}
 use Rattle.sync.specs.Sync.{wellSync}
-use Rattle.bus.specs.Lines.{mode}
+use Rattle.bus.specs.Bus.{mode}
 use Rattle.chip.specs.declared.Bus.{Bus}
 use Rattle.chip.specs.declared.Pins.{Pins}
+use Rattle.chip.specs.declared.Core.{Core}
 use Rattle.chip.specs.declared.Chip.{Chip}
-use Rattle.chip.specs.State.{withRegisters, withIrqx, withMdcon, withPolarity, withBt, withWatchdog, withSync, withBus, withPins, withSda, withScl, withReset, raised}
-use Rattle.form.specs.Form.{reservedAt, reservedApart, busFits, wellFormed}
+use Rattle.chip.specs.State.{withIrqx, withMdcon, withPolarity, withBt, withWatchdog, withSync, withBus, withPins, withSda, withScl, withReset, raised}
+use Rattle.well_formed.specs.WellFormed.{reservedAt, reservedApart, busFits, wellFormed}
 
 -- ---- tests as facts
 
@@ -39,17 +40,26 @@ pub record BusFormed (mdcon : ℕ) (b : Bus) : Type 0 where
   pub iiadr : bit 0 (b .iiadr) ≡ true
   pub fits : busFits (mode (b .iists) mdcon) (b .phase) (b .shifter) ≡ true
 
-pub record Formed (c : Chip) : Type 0 where
+-- the core
+pub record Formed (c : Core) : Type 0 where
   pub sync : wellSync (c .sync) ≡ true
   pub watchdog : c .watchdog < 64
   pub irqx : c .irqx < 64
   pub mdcon : c .mdcon < 16
   pub polarity : c .polarity < 16
   pub port1 : c .pins .port1 < 128
-  pub stored : (a : ℕ) → a < 38 → reservedAt (c .registers) a ≡ true
   pub bus : BusFormed (c .mdcon) (c .bus)
 
-pub formed : (c : Chip) → wellFormed c ≡ true → Formed c
+-- the array: each place has its reserved bits
+abbrev pub Reserved : List ℕ → Type 0
+Reserved l = (a : ℕ) → a < 38 → reservedAt l a ≡ true
+
+-- both
+pub record ChipFormed (c : Chip) : Type 0 where
+  pub core : Formed (c .core)
+  pub stored : Reserved (c .registers)
+
+pub formed : (c : Chip) → wellFormed c ≡ true → ChipFormed c
 unfolding wellFormed reservedApart
 formed c h =
     let all = both _ _ h in
@@ -62,19 +72,23 @@ formed c h =
     let two = both _ _ (three .0) in
     let one = both _ _ (two .0) in
     record {
-      sync = counts .0;
-      watchdog = ltb-true _ _ (counts .1);
-      irqx = ltb-true _ _ (one .0);
-      mdcon = ltb-true _ _ (two .1);
-      polarity = ltb-true _ _ (three .1);
-      port1 = ltb-true _ _ (five .1);
+      core =
+          record {
+            sync = counts .0;
+            watchdog = ltb-true _ _ (counts .1);
+            irqx = ltb-true _ _ (one .0);
+            mdcon = ltb-true _ _ (two .1);
+            polarity = ltb-true _ _ (three .1);
+            port1 = ltb-true _ _ (five .1);
+            bus = record { iists = ltb-true _ _ (one .1); iiadr = four .1; fits = all .1 };
+          };
       stored = all-at (reservedAt (c .registers)) 38 (reserved .1);
-      bus = record { iists = ltb-true _ _ (one .1); iiadr = four .1; fits = all .1 };
     }
 
-pub well : (c : Chip) → Formed c → wellFormed c ≡ true
+pub well : (c : Chip) → ChipFormed c → wellFormed c ≡ true
 unfolding wellFormed reservedApart
-well c f =
+well c h =
+    let f = h .core in
     and-both _ _
     (and-both _ _ (and-both _ _ (f .sync) (lt-ltb _ _ (f .watchdog)))
     (and-both _ _
@@ -83,17 +97,14 @@ well c f =
     (and-both _ _ (and-both _ _ (and-both _ _ (lt-ltb _ _ (f .irqx)) (lt-ltb _ _ (f .bus .iists))) (lt-ltb _ _ (f .mdcon))) (lt-ltb _ _ (f .polarity)))
     (f .bus .iiadr))
     (lt-ltb _ _ (f .port1)))
-    (all-true (reservedAt (c .registers)) 38 (f .stored))))
+    (all-true (reservedAt (c .registers)) 38 (h .stored))))
     (f .bus .fits)
 
--- ---- one part put anew
+-- ---- one part of the core put anew
 
-module _ {c : Chip} (f : Formed c) where
-  pub with-registers : (v : List ℕ) → ((a : ℕ) → a < 38 → reservedAt v a ≡ true) → Formed (withRegisters c v)
-  with-registers v h = record { sync = f .sync; watchdog = f .watchdog; irqx = f .irqx; mdcon = f .mdcon; polarity = f .polarity; port1 = f .port1; stored = h; bus = f .bus }
-
+module _ {c : Core} (f : Formed c) where
   pub with-irqx : (v : ℕ) → v < 64 → Formed (withIrqx c v)
-  with-irqx v h = record { sync = f .sync; watchdog = f .watchdog; irqx = h; mdcon = f .mdcon; polarity = f .polarity; port1 = f .port1; stored = f .stored; bus = f .bus }
+  with-irqx v h = record { sync = f .sync; watchdog = f .watchdog; irqx = h; mdcon = f .mdcon; polarity = f .polarity; port1 = f .port1; bus = f .bus }
 
   -- flags of six bits set
   pub with-flags : (flags : ℕ) → flags < 64 → Formed (raised c flags)
@@ -101,31 +112,31 @@ module _ {c : Chip} (f : Formed c) where
 
   -- MDCON is put together with the bus, since MD1/2 is part of the mode
   pub with-mode : (v : ℕ) (b : Bus) → v < 16 → BusFormed v b → Formed (withBus (withMdcon c v) b)
-  with-mode v b h k = record { sync = f .sync; watchdog = f .watchdog; irqx = f .irqx; mdcon = h; polarity = f .polarity; port1 = f .port1; stored = f .stored; bus = k }
+  with-mode v b h k = record { sync = f .sync; watchdog = f .watchdog; irqx = f .irqx; mdcon = h; polarity = f .polarity; port1 = f .port1; bus = k }
 
   pub with-polarity : (v : ℕ) → v < 16 → Formed (withPolarity c v)
-  with-polarity v h = record { sync = f .sync; watchdog = f .watchdog; irqx = f .irqx; mdcon = f .mdcon; polarity = h; port1 = f .port1; stored = f .stored; bus = f .bus }
+  with-polarity v h = record { sync = f .sync; watchdog = f .watchdog; irqx = f .irqx; mdcon = f .mdcon; polarity = h; port1 = f .port1; bus = f .bus }
 
   pub with-bt : (v : ℕ) → Formed (withBt c v)
-  with-bt v = record { sync = f .sync; watchdog = f .watchdog; irqx = f .irqx; mdcon = f .mdcon; polarity = f .polarity; port1 = f .port1; stored = f .stored; bus = f .bus }
+  with-bt v = record { sync = f .sync; watchdog = f .watchdog; irqx = f .irqx; mdcon = f .mdcon; polarity = f .polarity; port1 = f .port1; bus = f .bus }
 
   pub with-watchdog : (v : ℕ) → v < 64 → Formed (withWatchdog c v)
-  with-watchdog v h = record { sync = f .sync; watchdog = h; irqx = f .irqx; mdcon = f .mdcon; polarity = f .polarity; port1 = f .port1; stored = f .stored; bus = f .bus }
+  with-watchdog v h = record { sync = f .sync; watchdog = h; irqx = f .irqx; mdcon = f .mdcon; polarity = f .polarity; port1 = f .port1; bus = f .bus }
 
   pub with-sync : (v : Sync) → wellSync v ≡ true → Formed (withSync c v)
-  with-sync v h = record { sync = h; watchdog = f .watchdog; irqx = f .irqx; mdcon = f .mdcon; polarity = f .polarity; port1 = f .port1; stored = f .stored; bus = f .bus }
+  with-sync v h = record { sync = h; watchdog = f .watchdog; irqx = f .irqx; mdcon = f .mdcon; polarity = f .polarity; port1 = f .port1; bus = f .bus }
 
   pub with-bus : (v : Bus) → BusFormed (c .mdcon) v → Formed (withBus c v)
-  with-bus v h = record { sync = f .sync; watchdog = f .watchdog; irqx = f .irqx; mdcon = f .mdcon; polarity = f .polarity; port1 = f .port1; stored = f .stored; bus = h }
+  with-bus v h = record { sync = f .sync; watchdog = f .watchdog; irqx = f .irqx; mdcon = f .mdcon; polarity = f .polarity; port1 = f .port1; bus = h }
 
   pub with-pins : (v : Pins) → v .port1 < 128 → Formed (withPins c v)
-  with-pins v h = record { sync = f .sync; watchdog = f .watchdog; irqx = f .irqx; mdcon = f .mdcon; polarity = f .polarity; port1 = h; stored = f .stored; bus = f .bus }
+  with-pins v h = record { sync = f .sync; watchdog = f .watchdog; irqx = f .irqx; mdcon = f .mdcon; polarity = f .polarity; port1 = h; bus = f .bus }
 
   pub with-sda : (v : Bool) → Formed (withSda c v)
-  with-sda v = record { sync = f .sync; watchdog = f .watchdog; irqx = f .irqx; mdcon = f .mdcon; polarity = f .polarity; port1 = f .port1; stored = f .stored; bus = f .bus }
+  with-sda v = record { sync = f .sync; watchdog = f .watchdog; irqx = f .irqx; mdcon = f .mdcon; polarity = f .polarity; port1 = f .port1; bus = f .bus }
 
   pub with-scl : (v : Bool) → Formed (withScl c v)
-  with-scl v = record { sync = f .sync; watchdog = f .watchdog; irqx = f .irqx; mdcon = f .mdcon; polarity = f .polarity; port1 = f .port1; stored = f .stored; bus = f .bus }
+  with-scl v = record { sync = f .sync; watchdog = f .watchdog; irqx = f .irqx; mdcon = f .mdcon; polarity = f .polarity; port1 = f .port1; bus = f .bus }
 
   pub with-reset : (v : Bool) → Formed (withReset c v)
-  with-reset v = record { sync = f .sync; watchdog = f .watchdog; irqx = f .irqx; mdcon = f .mdcon; polarity = f .polarity; port1 = f .port1; stored = f .stored; bus = f .bus }
+  with-reset v = record { sync = f .sync; watchdog = f .watchdog; irqx = f .irqx; mdcon = f .mdcon; polarity = f .polarity; port1 = f .port1; bus = f .bus }

@@ -17,14 +17,17 @@ use Rattle.events.specs.declared.Decoded.the-variants.{Read, Write, Pin, Clock,
 use Rattle.events.specs.Word.{kind, fieldA, fieldB, event, noEvent, noPlace, badByte, decode}
 use Rattle.answers.specs.Answer.{answerFields}
 use Rattle.answers.proofs.AnswerWord.{fields-of-answer}
+use Rattle.chip.specs.declared.Core.{Core}
 use Rattle.chip.specs.declared.Chip.{Chip}
-use Rattle.chip.specs.State.{requests, registerAt}
+use Rattle.chip.specs.declared.Kept.{Kept}
+use Rattle.chip.specs.declared.Kept.the-variants.{Same}
+use Rattle.chip.specs.State.{chipOf, keep, requested, requests, registerAt}
 use Rattle.reads.specs.Reads.{shown, readingOf, reading}
-use Rattle.form.specs.Form.{wellFormed}
-use Rattle.writes.specs.Writes.{writeNumber, writeRegister, written}
+use Rattle.well_formed.specs.WellFormed.{wellFormed}
+use Rattle.writes.specs.Writes.{writeNumber, written, storedBy, writeRegister, writeKept}
 use Rattle.step.specs.declared.Stepped.{Stepped}
 use Rattle.step.specs.Step.{answered, advance, step}
-use Rattle.outcome.specs.Outcome.{next, numberGiven, byteGiven, watchdogReset}
+use Rattle.outcome.specs.Outcome.{coreAfter, keptAfter, next, numberGiven, byteGiven, watchdogReset}
 use Rattle.outcome.proofs.Byte.{byte-lt}
 use Rattle.invariant.specs.Numbers.{isRead, isWrite, isEvent, illFormed, whileReset, writeOnly, readOnly, firstOf, numberOf01, answerNumber, refusal, illFormedAnswer}
 use Rattle.invariant.proofs.Formed.{impossible, formed}
@@ -51,11 +54,11 @@ write-number false readable writable = refl
 -- the event of a kind, over the tests of its kind, of which one holds at most
 kind-number : (c : Chip) (one two three four : Bool) (a b : ℕ) → (one ≡ true → two ≡ false) →
     numberGiven c (pick one (Read a) (pick two (Write a b) (pick three (Pin a (eqb b 1)) (pick four (Clock a) (Polarity (eqb a 1) (eqb b 1))))))
-    ≡ access one two (c .reset) (isReadable a) (isWritable a)
+    ≡ access one two (c .core .reset) (isReadable a) (isWritable a)
 unfolding numberGiven reading writeNumber
 kind-number c true true three four a b h = absurd (impossible (sym (h refl)))
-kind-number c true false three four a b h = read-number (c .reset) (isReadable a) (isWritable a) _
-kind-number c false true three four a b h = write-number (c .reset) (isReadable a) (isWritable a)
+kind-number c true false three four a b h = read-number (c .core .reset) (isReadable a) (isWritable a) _
+kind-number c false true three four a b h = write-number (c .core .reset) (isReadable a) (isWritable a)
 kind-number c false false true four a b h = refl
 kind-number c false false false true a b h = refl
 kind-number c false false false false a b h = refl
@@ -84,8 +87,8 @@ decode-number c w t =
 
 -- six request lines
 pub requests-lt : (c : Chip) → wellFormed c ≡ true → requests c < 64
-unfolding requests
-requests-lt c t = let f = formed c t in omega (arith, f .irqx, and-le-l (c .irqx) (registerAt c 0x0f))
+unfolding requested
+requests-lt c t = let f = formed c t in omega (arith, f .core .irqx, and-le-l (c .core .irqx) (registerAt (c .registers) 0x0f))
 
 -- of a well formed state's answer: the number, whether the watchdog reset the chip, the requests after the step, the byte read
 pub answer-fields : (c : Chip) (w : ℕ) → wellFormed c ≡ true →
@@ -224,16 +227,19 @@ refused-byte true true byte h = absurd (h refl)
 refused-byte true false byte h = refl
 refused-byte false readable byte h = refl
 
--- a write that is refused stores nothing
-refused-write-keeps : (reset writable : Bool) (c d : Chip) → (_≡_ {A = ℕ} (pick reset (pick writable 0 6) 4) 0 → ⊥) → pick reset (pick writable d c) c ≡ c
-refused-write-keeps true true c d h = absurd (h refl)
-refused-write-keeps true false c d h = refl
-refused-write-keeps false writable c d h = refl
+-- a write that is refused stores nothing, in the core or in the array
+refused-write-keeps : (reset writable : Bool) (c : Chip) (k : Kept) (new : Core) → (_≡_ {A = ℕ} (pick reset (pick writable 0 6) 4) 0 → ⊥) →
+    chipOf (keep (pick reset (pick writable k Same) Same) (c .registers)) (pick reset (pick writable new (c .core)) (c .core)) ≡ c
+refused-write-keeps true true c k new h = absurd (h refl)
+refused-write-keeps true false c k new h = refl
+refused-write-keeps false writable c k new h = refl
 
 refused-event : (c : Chip) (e : Decoded) → (numberGiven c e ≡ 0 → ⊥) → advance c e ≡ refusal c (numberGiven c e)
-unfolding advance answered numberGiven next watchdogReset byteGiven reading writeNumber writeRegister
-refused-event c (Read a) h = rw (refused-byte (c .reset) (isReadable a) (bitAnd (shown c a) (readMask a)) h)
-refused-event c (Write a b) h = rw (refused-write-keeps (c .reset) (isWritable a) c (written c a b) h)
+unfolding advance answered numberGiven next coreAfter keptAfter watchdogReset byteGiven reading writeNumber writeRegister writeKept
+refused-event c (Read a) h = rw (refused-byte (c .core .reset) (isReadable a) (bitAnd (shown c a) (readMask a)) h)
+refused-event c (Write a b) h =
+    ap (λ (d : Chip). refusal d (numberGiven c (Write a b)))
+    (refused-write-keeps (c .core .reset) (isWritable a) c (storedBy (c .registers) a b) (written (c .core) a b) h)
 refused-event c (Pin p level) h = absurd (h refl)
 refused-event c (Clock k) h = absurd (h refl)
 refused-event c (Polarity vertical level) h = absurd (h refl)

@@ -1,7 +1,7 @@
--- A reset gives a well formed state at any outside levels, port 1 having seven.
+-- A reset gives a well formed core at any outside levels, port 1 having seven, and the array its reserved bits.
 -- Assumes nothing.
-use mathlib.Core.Path.{_≡_, refl}
-use mathlib.Core.Bool.{Bool, true}
+use mathlib.Core.Path.{refl}
+use mathlib.Core.Bool.{Bool}
 use Prim.Native.Nat.{ℕ, _<_}
 use native.Mathlib.Omega.{arith}
 use lib.Bits.{bitAnd}
@@ -12,13 +12,13 @@ use Rattle.registers.specs.Table.{resetValue, resets, rowOf}
 use Rattle.registers.proofs.Rules.{resets-at}
 use Rattle.sync.proofs.WellFormed.{zero-well}
 use Rattle.chip.specs.declared.Pins.{Pins}
-use Rattle.chip.specs.declared.Chip.{Chip}
-use Rattle.chip.specs.State.{resetAt, resetChip}
-use Rattle.form.specs.Form.{reservedMask, reservedAt}
-use Rattle.invariant.proofs.Formed.{Formed}
+use Rattle.chip.specs.declared.Core.{Core}
+use Rattle.chip.specs.State.{resetAt, resetCore}
+use Rattle.well_formed.specs.WellFormed.{reservedMask, reservedAt}
+use Rattle.invariant.proofs.Formed.{Formed, Reserved}
 use Rattle.invariant.proofs.Bus.{released-fits}
 
-resets-reserved : (a : ℕ) → a < 38 → reservedAt resets a ≡ true
+pub resets-reserved : Reserved resets
 unfolding reservedAt
 resets-reserved a h = let m : ℕ = reservedMask a in eq-eqb (bitAnd (getD resets a 0) m) (bitAnd (resetValue a) m) (rw (resets-at a))
 
@@ -32,10 +32,9 @@ reset-formed pins sda scl reset h =
       mdcon = omega arith;
       polarity = omega arith;
       port1 = h;
-      stored = resets-reserved;
       bus = record { iists = omega arith; iiadr = refl; fits = released-fits _ };
     }
 
-pub reset-chip-formed : (c : Chip) → c .pins .port1 < 128 → Formed (resetChip c)
-unfolding resetChip
-reset-chip-formed c h = reset-formed (c .pins) (c .sda) (c .scl) (c .reset) h
+pub reset-core-formed : (c : Core) → c .pins .port1 < 128 → Formed (resetCore c)
+unfolding resetCore
+reset-core-formed c h = reset-formed (c .pins) (c .sda) (c .scl) (c .reset) h

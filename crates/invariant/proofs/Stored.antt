@@ -1,4 +1,4 @@
--- A write to a register of the array leaves the reserved bits of all places as they were.
+-- A write, taken or refused, leaves the reserved bits of all places of the array as they were.
 -- Assumes nothing.
 use mathlib.Core.Path.{_≡_, refl}
 use mathlib.Core.Bool.{Bool, true, false, _&&_}
@@ -13,11 +13,16 @@ use borrow.Author.Tests.{eqb-true, eqb-false}
 use Rattle.bits.specs.Byte.{pick, merge}
 use Rattle.bits.proofs.Finite.{at-each, and-left, and-right, lt-or-le}
 use Rattle.bits.proofs.Mask.{merge-keeps}
-use Rattle.registers.specs.Table.{rowOf, writeMask}
-use Rattle.form.specs.Form.{reservedMask, reservedAt}
+use Rattle.bits.proofs.Level.{pick-by}
+use Rattle.registers.specs.Table.{rowOf, writeMask, isWritable}
+use Rattle.registers.proofs.Rules.{writable-register}
+use Rattle.chip.specs.declared.Kept.{Kept}
+use Rattle.chip.specs.State.{keep}
+use Rattle.well_formed.specs.WellFormed.{reservedMask, reservedAt}
 use Rattle.writes.specs.declared.Target.{Target}
 use Rattle.writes.specs.declared.Target.the-variants.{Stored, Mdcon, Hvcon, Clrflg, Clrwdt, Iiadr, Iidat, Iists, Bt}
-use Rattle.writes.specs.Writes.{target}
+use Rattle.writes.specs.Writes.{target, keptBy, storedBy, writeKept}
+use Rattle.invariant.proofs.Formed.{Reserved}
 
 abbrev isStored : Target → Bool
 isStored Stored = true
@@ -65,7 +70,27 @@ at-any : (l : List ℕ) (a v i : ℕ) (same : Bool) → eqb i a ≡ same → bit
 at-any l a v i true p e = rw (eqb-true i a p) (at-place l a v e)
 at-any l a v i false p e = rw (getD-set-other l a i v 0 (eqb-false i a p))
 
-pub stored-keeps : (l : List ℕ) (a b : ℕ) → a < 38 → target a ≡ Stored → ((i : ℕ) → i < 38 → reservedAt l i ≡ true) →
-    (i : ℕ) → i < 38 → reservedAt (set l a (merge (writeMask a) (getD l a 0) b)) i ≡ true
+stored-keeps : (l : List ℕ) (a b : ℕ) → a < 38 → target a ≡ Stored → Reserved l → Reserved (set l a (merge (writeMask a) (getD l a 0) b))
 stored-keeps l a b h e t i k =
     same-reserved l _ i (at-any l a _ i (eqb i a) refl (kept a (getD l a 0) b h e)) (t i k)
+
+-- by the register's effect: one that stands in the core stores nothing in the array
+kept-reserved : (t : Target) (l : List ℕ) (a b : ℕ) → a < 38 → target a ≡ t → Reserved l → Reserved (keep (keptBy t l a b) l)
+unfolding keptBy
+kept-reserved Stored l a b h e r = stored-keeps l a b h e r
+kept-reserved Mdcon l a b h e r = r
+kept-reserved Hvcon l a b h e r = r
+kept-reserved Clrflg l a b h e r = r
+kept-reserved Clrwdt l a b h e r = r
+kept-reserved Iiadr l a b h e r = r
+kept-reserved Iidat l a b h e r = r
+kept-reserved Iists l a b h e r = r
+kept-reserved Bt l a b h e r = r
+
+pub write-reserved : (reset : Bool) (l : List ℕ) (a b : ℕ) → Reserved l → Reserved (keep (writeKept reset l a b) l)
+unfolding writeKept storedBy
+write-reserved reset l a b r =
+    let P : Kept → Type 0 = λ (k : Kept). Reserved (keep k l) in
+    pick-by P reset
+    (λ _. pick-by P (isWritable a) (λ w. kept-reserved (target a) l a b (writable-register a w) refl r) (λ _. r))
+    (λ _. r)

@@ -9,7 +9,7 @@ use Rattle.events.specs.Word.{kind, fieldA, noEvent, noPlace, badByte}
 use Rattle.answers.specs.Answer.{answerWord, answerFields}
 use Rattle.chip.specs.declared.Chip.{Chip}
 use Rattle.chip.specs.State.{requests}
-use Rattle.form.specs.Form.{wellFormed}
+use Rattle.well_formed.specs.WellFormed.{wellFormed}
 use Rattle.step.specs.declared.Stepped.{Stepped}
 use Rattle.step.specs.Step.{step}
 
@@ -30,7 +30,7 @@ illFormed c = not (wellFormed c)
 
 -- 4: a read or a write while RESET is low
 abbrev pub whileReset : Chip → ℕ → Bool
-whileReset c word = (isRead word || isWrite word) && not (c .reset)
+whileReset c word = (isRead word || isWrite word) && not (c .core .reset)
 
 -- 5: a read of a register that takes no read
 abbrev pub writeOnly : ℕ → Bool

@@ -15,10 +15,11 @@ use Rattle.events.specs.declared.Decoded.{Decoded}
 use Rattle.events.specs.declared.Decoded.the-variants.{Read, Write, Pin, Clock, Polarity, Refused}
 use Rattle.events.specs.Word.{decode}
 use Rattle.bus.specs.declared.Phase.{Phase}
-use Rattle.bus.specs.declared.Phase.the-variants.{Idle, Address, Ignoring, Receive, Transmit, Held}
+use Rattle.bus.specs.declared.Phase.the-variants.{Idle, Address, Addressed, Ignoring, Receive, Transmit, Held}
 use Rattle.ddc2b.specs.Ddc2b.{startPhase, matches}
+use Rattle.chip.specs.declared.Core.{Core}
 use Rattle.chip.specs.declared.Chip.{Chip}
-use Rattle.chip.specs.State.{busOf}
+use Rattle.chip.specs.State.{busOf, chipOf}
 use Rattle.run.specs.Run.{after, answers, run, runAnswers}
 
 -- ---- the two lists
@@ -68,7 +69,7 @@ pub record Observer : Type 0 where
 -- the observer at the first state
 abbrev pub observerOf : Chip → Trace → Observer
 observerOf c trace =
-    record { sda = c .sda; scl = c .scl; reset = c .reset; own = c .bus .iiadr; watchdog = c .watchdog; trace = trace }
+    record { sda = c .core .sda; scl = c .core .scl; reset = c .core .reset; own = c .core .bus .iiadr; watchdog = c .core .watchdog; trace = trace }
 
 -- a write that the chip carries out: neither number 4 nor number 6
 abbrev pub accepted : Observer → ℕ → Bool
@@ -219,9 +220,9 @@ readsData (Clock k) = false
 readsData (Polarity vertical level) = false
 readsData (Refused n) = false
 
--- the part of an answer that is compared: all of it, or bits 31..8 where II DAT is read
+-- the part of an answer that is compared: all of it, or bits 31..8 where II DAT is read and the number, bits 31..24, is 0
 abbrev pub comparedAnswer : Decoded → ℕ → ℕ
-comparedAnswer e answer = pick (readsData e) (answer / 256) answer
+comparedAnswer e answer = pick (readsData e && eqb (answer / 16777216) 0) (answer / 256) answer
 
 abbrev pub comparedAnswers : List ℕ → List ℕ → List ℕ
 comparedAnswers [] xs = []
@@ -231,17 +232,17 @@ comparedAnswers (w ∷ ws) (x ∷ xs) = comparedAnswer (decode w) x ∷ compared
 -- the part of the phase that is compared: all but the address bits gathered
 abbrev pub comparedPhase : Phase → Phase
 comparedPhase Idle = Idle
-comparedPhase (Address count bits acknowledged) = Address count 0 acknowledged
+comparedPhase (Address count bits) = Address count 0
+comparedPhase (Addressed bits ninth) = Addressed bits ninth
 comparedPhase Ignoring = Ignoring
-comparedPhase (Receive count bits acknowledged) = Receive count bits acknowledged
+comparedPhase (Receive count bits) = Receive count bits
 comparedPhase (Transmit count byte) = Transmit count byte
-comparedPhase Held = Held
+comparedPhase (Held clocks) = Held clocks
 
 -- the part of a state that is compared: all but SDA's level, II DAT and the address bits gathered
-abbrev pub comparedState : Chip → Chip
-comparedState c =
+abbrev pub comparedCore : Core → Core
+comparedCore c =
     record {
-      registers = c .registers;
       irqx = c .irqx;
       mdcon = c .mdcon;
       polarity = c .polarity;
@@ -254,6 +255,9 @@ comparedState c =
       scl = c .scl;
       reset = c .reset;
     }
+
+abbrev pub comparedState : Chip → Chip
+comparedState c = chipOf (c .registers) (comparedCore (c .core))
 
 -- two runs agree: through the words ws and vs, with the answers xs and ys, to the states c and d
 pub record Agree (ws vs xs ys : List ℕ) (c d : Chip) : Type 0 where

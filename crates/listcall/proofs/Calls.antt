@@ -10,7 +10,7 @@ use lib.ListN.{length, drop}
 use borrow.Author.Tests.{le-ltb}
 use Rattle.bits.specs.Byte.{pick}
 use Rattle.chip.specs.declared.Chip.{Chip}
-use Rattle.form.specs.Form.{wellFormed}
+use Rattle.well_formed.specs.WellFormed.{wellFormed}
 use Rattle.run.specs.Run.{advanced, run, runAnswers, runResult}
 use Rattle.listcall.specs.Calls.{WordByWord, Untouched}
 use Rattle.listcall.proofs.Runs.{after-advanced, answers-advanced}

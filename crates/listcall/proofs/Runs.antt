@@ -6,7 +6,7 @@ use mathlib.Core.Bool.{true, false}
 use mathlib.Core.List.{List, [], _∷_, map}
 use Rattle.events.specs.Word.{decode}
 use Rattle.chip.specs.declared.Chip.{Chip}
-use Rattle.form.specs.Form.{wellFormed}
+use Rattle.well_formed.specs.WellFormed.{wellFormed}
 use Rattle.step.specs.Step.{step, advance}
 use Rattle.invariant.proofs.WellFormed.{advance-well-formed, step-well-formed}
 use Rattle.run.specs.Run.{after, answers, advanced, advancedAnswers}

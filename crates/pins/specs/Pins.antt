@@ -10,13 +10,13 @@ use Rattle.events.specs.Pins as pin
 use Rattle.sync.specs.Sync.{onHsync, onVsync}
 use Rattle.bus.specs.declared.Edge.{Edge}
 use Rattle.bus.specs.declared.Edge.the-variants.{Flat, Rise, Fall}
-use Rattle.bus.specs.Lines.{edge}
+use Rattle.bus.specs.Bus.{edge}
 use Rattle.chip.specs.declared.Pins.{Pins}
-use Rattle.chip.specs.declared.Chip.{Chip}
-use Rattle.chip.specs.State.{modeOf, hselOf, resetChip, raised, withSync, withBus, withPins, withReset}
+use Rattle.chip.specs.declared.Core.{Core}
+use Rattle.chip.specs.State.{modeOf, hselOf, resetCore, raised, withSync, withBus, withPins, withReset}
 use Rattle.pins.specs.declared.PinKind.{PinKind}
 use Rattle.pins.specs.declared.PinKind.the-variants.{Port0, Port1, P16, Port2, Sda, Scl, Hsynci, Vsynci, Reset, Absent}
-use Rattle.lines.specs.Bus.{sclMoved, sdaMoved, busAtVsync, loadsAtVsync}
+use Rattle.edges.specs.Edges.{sclMoved, sdaMoved, busAtVsync, loadsAtVsync}
 
 -- "Event words": the port of a number that `pinKind` does not name; 15 and numbers from 24 on are no pin of a port
 unfoldable pub portKind : ℕ → PinKind
@@ -46,51 +46,51 @@ abbrev pub rises : Bool → Bool → Bool → Bool
 rises reset old new = reset && (not old && new)
 
 -- ---- ports: the level is all that changes
-unfoldable pub port0Moved : Chip → ℕ → Bool → Chip
+unfoldable pub port0Moved : Core → ℕ → Bool → Core
 port0Moved c p level = withPins c (pinsOf (withBit (c .pins .port0) p level) (c .pins .port1) (c .pins .port2) (c .pins .hsynci) (c .pins .vsynci))
 
-unfoldable pub port1Moved : Chip → ℕ → Bool → Chip
+unfoldable pub port1Moved : Core → ℕ → Bool → Core
 port1Moved c p level = withPins c (pinsOf (c .pins .port0) (withBit (c .pins .port1) p level) (c .pins .port2) (c .pins .hsynci) (c .pins .vsynci))
 
-unfoldable pub port2Moved : Chip → ℕ → Bool → Chip
+unfoldable pub port2Moved : Core → ℕ → Bool → Core
 port2Moved c p level = withPins c (pinsOf (c .pins .port0) (c .pins .port1) (withBit (c .pins .port2) p level) (c .pins .hsynci) (c .pins .vsynci))
 
 -- a rise of P16 sets flag E
-unfoldable pub p16Moved : Chip → Bool → Chip
+unfoldable pub p16Moved : Core → Bool → Core
 p16Moved c level = port1Moved (raised c (weightIf (rises (c .reset) (bit (pin.P16 % 8) (c .pins .port1)) level) INTE)) pin.P16 level
 
 -- ---- sync inputs
-abbrev pub hsyncLevel : Chip → Bool → Chip
+abbrev pub hsyncLevel : Core → Bool → Core
 hsyncLevel c level = withPins c (pinsOf (c .pins .port0) (c .pins .port1) (c .pins .port2) level (c .pins .vsynci))
 
-abbrev pub vsyncLevel : Chip → Bool → Chip
+abbrev pub vsyncLevel : Core → Bool → Core
 vsyncLevel c level = withPins c (pinsOf (c .pins .port0) (c .pins .port1) (c .pins .port2) (c .pins .hsynci) level)
 
 -- a rise of HSYNCI is a step of HCNT
-unfoldable pub hsyncMoved : Chip → Bool → Chip
+unfoldable pub hsyncMoved : Core → Bool → Core
 hsyncMoved c level = withSync (hsyncLevel c level) (pick (rises (c .reset) (c .pins .hsynci) level) (onHsync (c .sync)) (c .sync))
 
 -- a rise of VSYNCI sets flag V, latches, and clocks DDC1, which sets flag D where it loads
-unfoldable pub vsyncRise : Chip → Chip
+unfoldable pub vsyncRise : Core → Core
 vsyncRise c =
     withBus
     (withSync (raised c (bitOr (weight INTV) (weightIf (loadsAtVsync (modeOf c) (c .bus .shifter)) INTD))) (onVsync (hselOf c) (c .sync)))
     (busAtVsync (modeOf c) (c .bus))
 
-unfoldable pub vsyncMoved : Chip → Bool → Chip
+unfoldable pub vsyncMoved : Core → Bool → Core
 vsyncMoved c level = pick (rises (c .reset) (c .pins .vsynci) level) (vsyncRise (vsyncLevel c level)) (vsyncLevel c level)
 
 -- ---- RESET: going low resets the chip; going high does nothing
-unfoldable pub onReset : Edge → Chip → Chip
+unfoldable pub onReset : Edge → Core → Core
 onReset Flat c = c
 onReset Rise c = c
-onReset Fall c = resetChip c
+onReset Fall c = resetCore c
 
-unfoldable pub resetMoved : Chip → Bool → Chip
+unfoldable pub resetMoved : Core → Bool → Core
 resetMoved c level = onReset (edge (c .reset) level) (withReset c level)
 
 -- ---- a pin event; a number that no pin has moves nothing
-unfoldable pub pinMovedAs : PinKind → Chip → ℕ → Bool → Chip
+unfoldable pub pinMovedAs : PinKind → Core → ℕ → Bool → Core
 pinMovedAs Port0 c p level = port0Moved c p level
 pinMovedAs Port1 c p level = port1Moved c p level
 pinMovedAs P16 c p level = p16Moved c level
@@ -102,5 +102,5 @@ pinMovedAs Vsynci c p level = vsyncMoved c level
 pinMovedAs Reset c p level = resetMoved c level
 pinMovedAs Absent c p level = c
 
-unfoldable pub pinMoved : Chip → ℕ → Bool → Chip
+unfoldable pub pinMoved : Core → ℕ → Bool → Core
 pinMoved c p level = pinMovedAs (pinKind p) c p level

@@ -2,7 +2,8 @@
 ghost use mathlib.Core.Path.{_≡_};
 ghost use Rattle.pins.specs.Pins.{portKind, pinKind, rises as risesOf, port0Moved, port1Moved, port2Moved, p16Moved, hsyncLevel, vsyncLevel, hsyncMoved, vsyncRise, vsyncMoved, onReset, resetMoved, pinMovedAs, pinMoved};
 use bus::Edge;
-use chip::Chip;
+use chip::Core;
+use chip::Pins;
 use events::HSYNCI;
 use events::P16;
 use events::RESET;
@@ -70,88 +71,112 @@ fn rises(reset: bool, old: bool, new: bool) -> bool
     reset & (!old & new)
 }
 
-fn port0_moved(c: Chip, p: u8, level: bool) -> Chip
+fn port0_moved(c: Core, p: u8, level: bool) -> Core
     ensures { λ r. ⌜ r ≡ port0Moved c p level ⌝ }
 {
-    let mut n = c;
-    let levels = bits::with_bit(c.pins.port0, p, level);
-    n.pins.port0 = levels;
-    n
+    let pins = c.pins;
+    let after = Pins {
+        port0: bits::with_bit(pins.port0, p, level),
+        port1: pins.port1,
+        port2: pins.port2,
+        hsynci: pins.hsynci,
+        vsynci: pins.vsynci,
+    };
+    chip::with_pins(c, after)
 }
 
-fn port1_moved(c: Chip, p: u8, level: bool) -> Chip
+fn port1_moved(c: Core, p: u8, level: bool) -> Core
     ensures { λ r. ⌜ r ≡ port1Moved c p level ⌝ }
 {
-    let mut n = c;
-    let levels = bits::with_bit(c.pins.port1, p, level);
-    n.pins.port1 = levels;
-    n
+    let pins = c.pins;
+    let after = Pins {
+        port0: pins.port0,
+        port1: bits::with_bit(pins.port1, p, level),
+        port2: pins.port2,
+        hsynci: pins.hsynci,
+        vsynci: pins.vsynci,
+    };
+    chip::with_pins(c, after)
 }
 
-fn port2_moved(c: Chip, p: u8, level: bool) -> Chip
+fn port2_moved(c: Core, p: u8, level: bool) -> Core
     ensures { λ r. ⌜ r ≡ port2Moved c p level ⌝ }
 {
-    let mut n = c;
-    let levels = bits::with_bit(c.pins.port2, p, level);
-    n.pins.port2 = levels;
-    n
+    let pins = c.pins;
+    let after = Pins {
+        port0: pins.port0,
+        port1: pins.port1,
+        port2: bits::with_bit(pins.port2, p, level),
+        hsynci: pins.hsynci,
+        vsynci: pins.vsynci,
+    };
+    chip::with_pins(c, after)
 }
 
-fn p16_moved(c: Chip, level: bool) -> Chip
+fn p16_moved(c: Core, level: bool) -> Core
     ensures { λ r. ⌜ r ≡ p16Moved c level ⌝ }
 {
     let rise = rises(c.reset, bits::bit(P16, c.pins.port1), level);
     let flags = bits::weight_if(rise, INTE);
-    port1_moved(lines::raised(c, flags), P16, level)
+    port1_moved(chip::raised(c, flags), P16, level)
 }
 
-fn hsync_level(c: Chip, level: bool) -> Chip
+fn hsync_level(c: Core, level: bool) -> Core
     ensures { λ r. ⌜ r ≡ hsyncLevel c level ⌝ }
 {
-    let mut n = c;
-    n.pins.hsynci = level;
-    n
+    let pins = c.pins;
+    let after = Pins {
+        port0: pins.port0,
+        port1: pins.port1,
+        port2: pins.port2,
+        hsynci: level,
+        vsynci: pins.vsynci,
+    };
+    chip::with_pins(c, after)
 }
 
-fn vsync_level(c: Chip, level: bool) -> Chip
+fn vsync_level(c: Core, level: bool) -> Core
     ensures { λ r. ⌜ r ≡ vsyncLevel c level ⌝ }
 {
-    let mut n = c;
-    n.pins.vsynci = level;
-    n
+    let pins = c.pins;
+    let after = Pins {
+        port0: pins.port0,
+        port1: pins.port1,
+        port2: pins.port2,
+        hsynci: pins.hsynci,
+        vsynci: level,
+    };
+    chip::with_pins(c, after)
 }
 
-fn hsync_moved(c: Chip, level: bool) -> Chip
+fn hsync_moved(c: Core, level: bool) -> Core
     ensures { λ r. ⌜ r ≡ hsyncMoved c level ⌝ }
 {
     let counters = c.sync;
-    let mut n = hsync_level(c, level);
+    let n = hsync_level(c, level);
     if rises(c.reset, c.pins.hsynci, level) {
-        let after = sync::on_hsync(counters);
-        n.sync = after;
-        n
+        chip::with_sync(n, sync::on_hsync(counters))
     } else {
         n
     }
 }
 
-fn vsync_rise(c: Chip) -> Chip
+fn vsync_rise(c: Core) -> Core
     ensures { λ r. ⌜ r ≡ vsyncRise c ⌝ }
 {
     let b = c.bus;
     let shifter = b.shifter;
     let counters = c.sync;
     let mode = chip::mode_of(c);
-    let flags = bits::weight_if(lines::loads_at_vsync(mode, shifter), INTD);
-    let mut n = lines::raised(c, (1 << INTV) | flags);
-    let latched = sync::on_vsync(chip::hsel(c), counters);
-    n.sync = latched;
-    let shifted = lines::bus_at_vsync(mode, b);
-    n.bus = shifted;
-    n
+    let flags = bits::weight_if(edges::loads_at_vsync(mode, shifter), INTD);
+    let n = chip::with_sync(
+        chip::raised(c, (1 << INTV) | flags),
+        sync::on_vsync(chip::hsel(c), counters),
+    );
+    chip::with_bus(n, edges::bus_at_vsync(mode, b))
 }
 
-fn vsync_moved(c: Chip, level: bool) -> Chip
+fn vsync_moved(c: Core, level: bool) -> Core
     ensures { λ r. ⌜ r ≡ vsyncMoved c level ⌝ }
 {
     let n = vsync_level(c, level);
@@ -162,26 +187,24 @@ fn vsync_moved(c: Chip, level: bool) -> Chip
     }
 }
 
-fn on_reset(e: Edge, c: Chip) -> Chip
+fn on_reset(e: Edge, c: Core) -> Core
     ensures { λ r. ⌜ r ≡ onReset e c ⌝ }
 {
     match e {
         Edge::Flat => c,
         Edge::Rise => c,
-        Edge::Fall => chip::reset_chip(c),
+        Edge::Fall => chip::reset_core(c),
     }
 }
 
-fn reset_moved(c: Chip, level: bool) -> Chip
+fn reset_moved(c: Core, level: bool) -> Core
     ensures { λ r. ⌜ r ≡ resetMoved c level ⌝ }
 {
     let e = bus::edge_between(c.reset, level);
-    let mut n = c;
-    n.reset = level;
-    on_reset(e, n)
+    on_reset(e, chip::with_reset(c, level))
 }
 
-fn pin_moved_as(kind: PinKind, c: Chip, p: u8, level: bool) -> Chip
+fn pin_moved_as(kind: PinKind, c: Core, p: u8, level: bool) -> Core
     ensures { λ r. ⌜ r ≡ pinMovedAs kind c p level ⌝ }
 {
     match kind {
@@ -189,8 +212,8 @@ fn pin_moved_as(kind: PinKind, c: Chip, p: u8, level: bool) -> Chip
         PinKind::Port1 => port1_moved(c, p, level),
         PinKind::P16 => p16_moved(c, level),
         PinKind::Port2 => port2_moved(c, p, level),
-        PinKind::Sda => lines::sda_moved(c, level),
-        PinKind::Scl => lines::scl_moved(c, level),
+        PinKind::Sda => edges::sda_moved(c, level),
+        PinKind::Scl => edges::scl_moved(c, level),
         PinKind::Hsynci => hsync_moved(c, level),
         PinKind::Vsynci => vsync_moved(c, level),
         PinKind::Reset => reset_moved(c, level),
@@ -200,7 +223,7 @@ fn pin_moved_as(kind: PinKind, c: Chip, p: u8, level: bool) -> Chip
 
 // The chip after a pin's outside level is put. While RESET is low only the level moves.
 // Wrong answers: lines counted while RESET is low; flag E set by a fall of P16.
-pub fn pin_moved(c: Chip, p: u8, level: bool) -> Chip
+pub fn pin_moved(c: Core, p: u8, level: bool) -> Core
     ensures { λ r. ⌜ r ≡ pinMoved c p level ⌝ }
 {
     pin_moved_as(pin_kind(p), c, p, level)

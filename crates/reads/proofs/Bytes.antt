@@ -18,4 +18,4 @@ byte-by false readable x mask h = omega arith
 
 pub reading-byte-lt : (c : Chip) (a : ℕ) → reading c a .byte < 256
 unfolding reading
-reading-byte-lt c a = byte-by (c .reset) (isReadable a) (shown c a) (readMask a) (readMask-lt a)
+reading-byte-lt c a = byte-by (c .core .reset) (isReadable a) (shown c a) (readMask a) (readMask-lt a)

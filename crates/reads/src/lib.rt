@@ -1,7 +1,8 @@
 // Reads: what each register shows of a chip, and which reads are refused.
 ghost use mathlib.Core.Path.{_≡_};
+ghost use Rattle.chip.specs.State.{chipOf};
 ghost use Rattle.reads.specs.Reads.{portRead, given0 as givenOf0, given1 as givenOf1, port0 as portOf0, port1 as portOf1, port2 as portOf2, port3 as portOf3, hvcon as hvconOf, shown as shownOf, readingOf, reading};
-use chip::Chip;
+use chip::Core;
 use registers::ENDAC;
 use registers::ENDDC;
 use registers::HCNTH;
@@ -48,44 +49,46 @@ fn given1(endac: u8, syncon: u8) -> u8
     (255 - endac) / 64 + (255 - syncon) / 64 % 2 * 12
 }
 
-fn port0(c: Chip) -> u8
-    ensures { λ r. ⌜ r ≡ portOf0 c ⌝ }
+fn port0(registers: &[u8; 38], c: Core) -> u8
+    ensures { λ r. ⌜ r ≡ portOf0 (chipOf (now (registers .entry)) c) ⌝ }
 {
-    let registers = c.registers;
     port_read(
-        registers[PT0 as usize],
+        chip::register_at(registers, PT0),
         c.pins.port0,
-        given0(registers[ENDAC as usize], registers[SYNCON as usize]),
+        given0(
+            chip::register_at(registers, ENDAC),
+            chip::register_at(registers, SYNCON),
+        ),
     )
 }
 
-fn port1(c: Chip) -> u8
-    ensures { λ r. ⌜ r ≡ portOf1 c ⌝ }
+fn port1(registers: &[u8; 38], c: Core) -> u8
+    ensures { λ r. ⌜ r ≡ portOf1 (chipOf (now (registers .entry)) c) ⌝ }
 {
-    let registers = c.registers;
     port_read(
-        registers[PT1 as usize],
+        chip::register_at(registers, PT1),
         c.pins.port1,
-        given1(registers[ENDAC as usize], registers[SYNCON as usize]),
+        given1(
+            chip::register_at(registers, ENDAC),
+            chip::register_at(registers, SYNCON),
+        ),
     )
 }
 
-fn port2(c: Chip) -> u8
-    ensures { λ r. ⌜ r ≡ portOf2 c ⌝ }
+fn port2(registers: &[u8; 38], c: Core) -> u8
+    ensures { λ r. ⌜ r ≡ portOf2 (chipOf (now (registers .entry)) c) ⌝ }
 {
-    let registers = c.registers;
     bits::merge(
-        registers[PT2DIR as usize],
+        chip::register_at(registers, PT2DIR),
         c.pins.port2,
-        registers[PT2 as usize],
+        chip::register_at(registers, PT2),
     )
 }
 
-fn port3(c: Chip) -> u8
-    ensures { λ r. ⌜ r ≡ portOf3 c ⌝ }
+fn port3(registers: &[u8; 38], c: Core) -> u8
+    ensures { λ r. ⌜ r ≡ portOf3 (chipOf (now (registers .entry)) c) ⌝ }
 {
-    let registers = c.registers;
-    let latch = registers[PT3 as usize];
+    let latch = chip::register_at(registers, PT3);
     if bits::bit(ENDDC, c.bus.iists) {
         latch & (bits::weight_if(c.scl, 1) | bits::weight_if(c.sda, 0))
     } else {
@@ -93,7 +96,7 @@ fn port3(c: Chip) -> u8
     }
 }
 
-fn hvcon(c: Chip) -> u8
+fn hvcon(c: Core) -> u8
     ensures { λ r. ⌜ r ≡ hvconOf c ⌝ }
 {
     (bits::weight_if(c.sync.lines.overflow, HCNTOV)
@@ -103,14 +106,14 @@ fn hvcon(c: Chip) -> u8
 }
 
 // What a register shows before its read mask.
-fn shown(c: Chip, a: u8) -> u8
-    ensures { λ r. ⌜ r ≡ shownOf c a ⌝ }
+fn shown(registers: &[u8; 38], c: Core, a: u8) -> u8
+    ensures { λ r. ⌜ r ≡ shownOf (chipOf (now (registers .entry)) c) a ⌝ }
 {
     match a {
-        PT0 => port0(c),
-        PT1 => port1(c),
-        PT2 => port2(c),
-        PT3 => port3(c),
+        PT0 => port0(registers, c),
+        PT1 => port1(registers, c),
+        PT2 => port2(registers, c),
+        PT3 => port3(registers, c),
         MDCON => c.mdcon,
         HVCON => hvcon(c),
         HCNTL => (c.sync.lines.latch.0 % 256) as u8,
@@ -120,7 +123,7 @@ fn shown(c: Chip, a: u8) -> u8
         IRQX => c.irqx,
         IIDAT => c.bus.iidat,
         IISTS => c.bus.iists,
-        _ => chip::register_at(c, a),
+        _ => chip::register_at(registers, a),
     }
 }
 
@@ -135,12 +138,12 @@ fn reading_of(number: u8, byte: u8) -> Reading
 
 // A read: its number and byte. It never moves the chip.
 // Wrong answers: 6 for a write-only register; the byte read while RESET is low.
-pub fn read_register(c: Chip, a: u8) -> Reading
-    ensures { λ r. ⌜ r ≡ reading c a ⌝ }
+pub fn read_register(registers: &[u8; 38], c: Core, a: u8) -> Reading
+    ensures { λ r. ⌜ r ≡ reading (chipOf (now (registers .entry)) c) a ⌝ }
 {
     if c.reset {
         if registers::readable(a) {
-            reading_of(0, shown(c, a) & registers::read_mask(a))
+            reading_of(0, shown(registers, c, a) & registers::read_mask(a))
         } else {
             reading_of(5, 0)
         }

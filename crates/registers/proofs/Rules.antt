@@ -4,13 +4,14 @@ use mathlib.Core.Path.{_≡_, refl, ap, sym, _∙_}
 use mathlib.Core.Bool.{Bool, true, false, _||_, Bool·beq, true≢false}
 use mathlib.Core.Logic.{⊎-elim}
 use Prim.Native.Nat.{ℕ, _<_, _≤_}
-use borrow.Author.Tests.{le-ltb}
+use native.Mathlib.Omega.{arith}
+use borrow.Author.Tests.{le-ltb, ne-eqb}
 use lib.Dec.{T, eqb, ltb, eqb→eq, ltb→lt}
 use lib.ListN.{length, getD, List·getD-map, List·getD-eq-default}
 use Rattle.bits.specs.Finite.{allBelow}
 use Rattle.bits.proofs.Finite.{or-right, at-each, lt-or-le, beq-eq}
 use Rattle.registers.specs.declared.Row.{Row}
-use Rattle.registers.specs.Table.{table, none, rowOf, resetValue, writeMask, readMask, isWritable, isReadable, isRegister, resets}
+use Rattle.registers.specs.Table.{table, none, rowOf, resetValue, writeMask, readMask, isWritable, isReadable, isRegister, resets, maskChoice}
 
 -- the table has 38 rows
 pub table-length : length table ≡ 38
@@ -35,6 +36,50 @@ writeMask-lt a = ltb→lt (writeMask a) 256 (at-row (λ r. ltb (r .write) 256) t
 pub readMask-lt : (a : ℕ) → readMask a < 256
 unfolding readMask rowOf
 readMask-lt a = ltb→lt (readMask a) 256 (at-row (λ r. ltb (r .read) 256) tt tt a)
+
+-- ---- the write mask as a choice
+
+past : (a k : ℕ) → 38 ≤ a → k < 38 → eqb a k ≡ false
+past a k h l = ne-eqb a k (λ e. absurd (omega arith))
+
+-- above 25H no line of the choice is met
+choice-past : (a : ℕ) → 38 ≤ a → maskChoice a ≡ 0
+unfolding maskChoice
+choice-past a h =
+    simp (
+      le-ltb a 38 h,
+      past a 0 h (omega arith),
+      past a 1 h (omega arith),
+      past a 2 h (omega arith),
+      past a 3 h (omega arith),
+      past a 4 h (omega arith),
+      past a 5 h (omega arith),
+      past a 6 h (omega arith),
+      past a 7 h (omega arith),
+      past a 8 h (omega arith),
+      past a 9 h (omega arith),
+      past a 10 h (omega arith),
+      past a 11 h (omega arith),
+      past a 12 h (omega arith),
+      past a 13 h (omega arith),
+      past a 14 h (omega arith),
+      past a 15 h (omega arith),
+      past a 16 h (omega arith),
+      past a 17 h (omega arith),
+      past a 18 h (omega arith),
+      past a 19 h (omega arith),
+      past a 20 h (omega arith),
+      past a 21 h (omega arith),
+      past a 22 h (omega arith),
+      past a 23 h (omega arith),
+    )
+
+-- the choice is the table's column at each address
+pub mask-choice : (a : ℕ) → writeMask a ≡ maskChoice a
+unfolding writeMask maskChoice rowOf table
+mask-choice a =
+    ⊎-elim (λ (h : a < 38). eqb→eq (writeMask a) (maskChoice a) (at-each (λ a. eqb (writeMask a) (maskChoice a)) 38 tt a h))
+    (λ (h : 38 ≤ a). ap (λ (r : Row). r .write) (row-past a h) ∙ sym (choice-past a h)) (lt-or-le a 38)
 
 -- ---- what is refused has no bit
 

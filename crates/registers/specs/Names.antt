@@ -1,5 +1,5 @@
 -- Addresses of the registers, and numbers of the bits that a rule names, after the data sheet's names, without blanks and
--- slashes (document 01, "Registers"). DACH1 to DACH13 follow DACH0; INTS to INTV are the sources that IEX and IRQX have a bit
+-- slashes (document 01, "Registers"). DACH1 to DACH12 stand between DACH0 and DACH13; INTS to INTV are the sources that IEX and IRQX have a bit
 -- each for, CLRHOV and CLRVOV the bits of CLRFLG that clear HCNTOV and VCNTOV.
 use Prim.Native.Nat.{ℕ}
 
@@ -78,6 +78,9 @@ BTCON = 0x17
 abbrev pub DACH0 : ℕ
 DACH0 = 0x18
 
+abbrev pub DACH13 : ℕ
+DACH13 = 0x25
+
 -- ---- bits of MDCON
 
 abbrev pub HSEL : ℕ
@@ -150,6 +153,9 @@ TRX = 2
 
 abbrev pub RXAK : ℕ
 RXAK = 1
+
+abbrev pub TXAK : ℕ
+TXAK = 0
 
 -- ---- bits of BTCON
 

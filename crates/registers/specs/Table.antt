@@ -2,10 +2,11 @@
 use Prim.Native.Nat.{ℕ}
 use mathlib.Core.List.{List, [], _∷_, map}
 use mathlib.Core.Bool.{Bool, true, false}
-use lib.Dec.{ltb}
+use lib.Dec.{eqb, ltb}
 use lib.ListN.{getD}
-use Rattle.bits.specs.Byte.{merge}
+use Rattle.bits.specs.Byte.{pick, merge}
 use Rattle.registers.specs.declared.Row.{Row}
+use Rattle.registers.specs.Names.{PT0, PT1, PT2DIR, PT2, PT3, MDCON, HVCON, HCNTL, HCNTH, VCNTL, VCNTH, SYNCON, ENDAC, AD0, AD1, IEX, IRQX, CLRFLG, CLRWDT, IIADR, IIDAT, IISTS, BT, BTCON}
 
 -- a row: reset value, bits that a write changes, bits that a read shows, whether a write is taken, whether a read is taken
 abbrev pub row : ℕ → ℕ → ℕ → Bool → Bool → Row
@@ -75,6 +76,37 @@ resetValue a = rowOf a .reset
 -- the bits that a write changes
 unfoldable pub writeMask : ℕ → ℕ
 writeMask a = rowOf a .write
+
+-- the same column as a choice over the register, in the order of the sheet; `Rules.mask-choice` says that the two are equal at
+-- every address
+unfoldable pub maskChoice : ℕ → ℕ
+maskChoice a =
+    pick (eqb a PT0) 0xff
+    (pick (eqb a PT1) 0x3f
+    (pick (eqb a PT2DIR) 0xff
+    (pick (eqb a PT2) 0xff
+    (pick (eqb a PT3) 0x03
+    (pick (eqb a MDCON) 0x0f
+    (pick (eqb a HVCON) 0x03
+    (pick (eqb a HCNTL) 0x00
+    (pick (eqb a HCNTH) 0x00
+    (pick (eqb a VCNTL) 0x00
+    (pick (eqb a VCNTH) 0x00
+    (pick (eqb a SYNCON) 0xdf
+    (pick (eqb a ENDAC) 0xff
+    (pick (eqb a AD0) 0x00
+    (pick (eqb a AD1) 0x00
+    (pick (eqb a IEX) 0x3f
+    (pick (eqb a IRQX) 0x00
+    (pick (eqb a CLRFLG) 0x00
+    (pick (eqb a CLRWDT) 0x00
+    (pick (eqb a IIADR) 0xfe
+    (pick (eqb a IIDAT) 0xff
+    (pick (eqb a IISTS) 0x0d
+    (pick (eqb a BT) 0xff
+    (pick (eqb a BTCON) 0x03
+    (pick (ltb a 0x26) 0xff  -- DACH0 to DACH13
+    0x00))))))))))))))))))))))))
 
 -- the byte that a write leaves: the bits of the write mask from the byte written, the others as they were
 abbrev pub updated : ℕ → ℕ → ℕ → ℕ

@@ -2,7 +2,7 @@
 ghost use mathlib.Core.Path.{_≡_};
 ghost use Rattle.registers.specs.Table.{updated as updatedOf, rowOf, resetValue, writeMask, readMask, isWritable, isReadable, isRegister, resets as resetsOf};
 
-// Addresses, after the data sheet's names, without blanks and slashes. DACH1 to DACH13 follow DACH0.
+// Addresses, after the data sheet's names, without blanks and slashes. DACH1 to DACH12 stand between DACH0 and DACH13.
 pub const PT0: u8 = 0x00;
 
 pub const PT1: u8 = 0x01;
@@ -53,6 +53,8 @@ pub const BTCON: u8 = 0x17;
 
 pub const DACH0: u8 = 0x18;
 
+pub const DACH13: u8 = 0x25;
+
 // Bits that a rule names, by their number. Those of MDCON:
 pub const HSEL: u8 = 2;
 
@@ -99,6 +101,8 @@ pub const ENDDC: u8 = 3;
 pub const TRX: u8 = 2;
 
 pub const RXAK: u8 = 1;
+
+pub const TXAK: u8 = 0;
 
 // Those of BTCON:
 pub const TBS: u8 = 1;
@@ -458,13 +462,39 @@ pub fn reset_value(address: u8) -> u8
     row.reset
 }
 
-// The bits that a write changes.
+// The bits that a write changes, register by register in the order of the sheet.
 // Wrong answers: 7FH at PT1, its input P16 with it; FFH at SYNCON, its reserved bit 5 with it.
 pub fn write_mask(address: u8) -> u8
     ensures { λ r. ⌜ r ≡ writeMask address ⌝ }
 {
-    let row = row_of(address);
-    row.write
+    match address {
+        PT0 => 0xff,
+        PT1 => 0x3f, // P16 is an input, and there is no P17
+        PT2DIR => 0xff,
+        PT2 => 0xff,
+        PT3 => 0x03,
+        MDCON => 0x0f,
+        HVCON => 0x03, // HPOLO and VPOLO
+        HCNTL => 0x00, // refused
+        HCNTH => 0x00, // refused
+        VCNTL => 0x00, // refused
+        VCNTH => 0x00, // refused
+        SYNCON => 0xdf, // bit 5 is reserved
+        ENDAC => 0xff,
+        AD0 => 0x00, // taken, and changes nothing
+        AD1 => 0x00, // refused
+        IEX => 0x3f,
+        IRQX => 0x00, // refused
+        CLRFLG => 0x00, // taken: clears flags, stores nothing
+        CLRWDT => 0x00, // taken: 55H clears the watchdog, stores nothing
+        IIADR => 0xfe,
+        IIDAT => 0xff,
+        IISTS => 0x0d, // ENDDC, TRX, TXAK; START and STOP have a rule of their own
+        BT => 0xff,
+        BTCON => 0x03,
+        DACH0..=DACH13 => 0xff,
+        _ => 0x00, // above 25H: no register
+    }
 }
 
 // The byte that a write leaves.

@@ -9,20 +9,20 @@ use Rattle.rates.specs.Report.{FieldCase, LineCase}
 use Rattle.rates.proofs.Cases.{field-case, line-case}
 use Rattle.chip.specs.declared.Chip.{Chip}
 use Rattle.chip.specs.State.{hselOf}
-use Rattle.form.specs.Form.{wellFormed}
+use Rattle.well_formed.specs.WellFormed.{wellFormed}
 use Rattle.report.specs.declared.Scan.{Scan}
 use Rattle.report.specs.declared.Scan.the-variants.{Field, Line}
 use Rattle.report.specs.Report.{scanReport, rateReport, ScanCase, RateCase}
 
 -- a chip whose counters are out of range is ill formed
-out-of-range : (c : Chip) → wellSync (c .sync) ≡ false → wellFormed c ≡ false
+out-of-range : (c : Chip) → wellSync (c .core .sync) ≡ false → wellFormed c ≡ false
 unfolding wellFormed
 out-of-range c e = simp e
 
 scan-case : (c : Chip) (scan : Scan) → ScanCase c scan (scanReport c scan)
 unfolding ScanCase scanReport
-scan-case c Field = field-case (c .sync)
-scan-case c Line = line-case (c .sync) (hselOf c)
+scan-case c Field = field-case (c .core .sync)
+scan-case c Line = line-case (c .core .sync) (hselOf (c .core))
 
 scan-ill-formed : (c : Chip) (scan : Scan) → ScanCase c scan IllFormed → wellFormed c ≡ false
 unfolding ScanCase FieldCase LineCase

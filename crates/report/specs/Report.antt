@@ -7,14 +7,14 @@ use Rattle.rates.specs.declared.Rate.the-variants.{IllFormed, NothingLatched, O
 use Rattle.rates.specs.Report.{fieldReport, lineReport, FieldCase, LineCase}
 use Rattle.chip.specs.declared.Chip.{Chip}
 use Rattle.chip.specs.State.{hselOf}
-use Rattle.form.specs.Form.{wellFormed}
+use Rattle.well_formed.specs.WellFormed.{wellFormed}
 use Rattle.report.specs.declared.Scan.{Scan}
 use Rattle.report.specs.declared.Scan.the-variants.{Field, Line}
 
 -- the report on a well formed chip: on the field, or on the line at the chip's HSEL
 unfoldable pub scanReport : Chip → Scan → Rate
-scanReport c Field = fieldReport (c .sync)
-scanReport c Line = lineReport (c .sync) (hselOf c)
+scanReport c Field = fieldReport (c .core .sync)
+scanReport c Line = lineReport (c .core .sync) (hselOf (c .core))
 
 -- an ill formed state is told before all else
 unfoldable pub rateReport : Chip → Scan → Rate
@@ -22,8 +22,8 @@ rateReport c scan = pick (wellFormed c) (scanReport c scan) IllFormed
 
 -- what a case says of the latches and overflow bits that the rate needs
 unfoldable pub ScanCase : Chip → Scan → Rate → Type 0
-ScanCase c Field r = FieldCase (c .sync) r
-ScanCase c Line r = LineCase (c .sync) (hselOf c) r
+ScanCase c Field r = FieldCase (c .core .sync) r
+ScanCase c Line r = LineCase (c .core .sync) (hselOf (c .core)) r
 
 -- what a case says of the chip: that it is ill formed, or that it is not, and what the case says of that rate
 unfoldable pub RateCase : Chip → Scan → Rate → Type 0

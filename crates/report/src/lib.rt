@@ -15,12 +15,13 @@ pub enum Scan {
 pub fn rate(c: Chip, scan: Scan) -> Rate
     ensures { λ r. ⌜ (r ≡ rateReport c scan) × RateCase c scan r ⌝ }
 {
-    if form::well_formed(c) {
-        let s = c.sync;
+    if well_formed::well_formed(c) {
+        let core = c.core;
+        let s = core.sync;
         match scan {
             Scan::Field => rates::field_rate(s),
             Scan::Line => {
-                let hsel = chip::hsel(c);
+                let hsel = chip::hsel(core);
                 rates::line_rate(s, hsel)
             }
         }

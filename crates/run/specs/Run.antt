@@ -6,7 +6,7 @@ use lib.ListN.{length, drop}
 use Rattle.bits.specs.Byte.{pick}
 use Rattle.events.specs.Word.{decode}
 use Rattle.chip.specs.declared.Chip.{Chip}
-use Rattle.form.specs.Form.{wellFormed}
+use Rattle.well_formed.specs.WellFormed.{wellFormed}
 use Rattle.step.specs.Step.{step, advance}
 use Rattle.run.specs.declared.RunResult.{RunResult}
 

@@ -5,7 +5,6 @@ ghost use mathlib.Core.List.{_++_};
 ghost use lib.ListN.{length, drop};
 ghost use Rattle.run.specs.Run.{advanced, advancedAnswers, run as runOf, runAnswers};
 use chip::Chip;
-use step::Stepped;
 
 // What a list call gives back: the chip after the words, and 0, 7 or 8.
 pub struct RunResult {
@@ -13,22 +12,25 @@ pub struct RunResult {
     pub number: u8,
 }
 
-// Every word to the chip, its answer to the same place. The state is not tested again. The loop carries the step's whole
-// result, which saves a copy of the chip.
+// Every word to the chip, its answer to the same place. The state is not tested again. The loop keeps the array of stored
+// registers and the core as two locals, so that neither is copied.
 fn run_all(c: Chip, words: &[u32], answers: &mut [u32]) -> Chip
     requires { ⌜ length (now words) ≤ length (now answers) ⌝ }
     ensures { λ r. ⌜ (r ≡ advanced c (now (words .entry))) × (now (answers .exit) ≡ advancedAnswers c (now (words .entry)) ++ drop (length (now (words .entry))) (now (answers .entry))) ⌝ }
 {
-    let mut r = Stepped { chip: c, answer: 0 };
+    let mut registers = c.registers;
+    let mut core = c.core;
     let mut i = 0;
     while i < words.len() {
-        let s = r.chip;
-        r = step::advance(s, events::decode(words[i]));
-        answers[i] = r.answer;
+        let done = step::advance_core(&mut registers, core, events::decode(words[i]));
+        core = done.core;
+        answers[i] = done.answer;
         i += 1;
     }
-    let s = r.chip;
-    s
+    Chip {
+        registers: registers,
+        core: core,
+    }
 }
 
 // The list call. It tests the state once, answers word by word, and writes nothing where it is refused.
@@ -36,7 +38,7 @@ fn run_all(c: Chip, words: &[u32], answers: &mut [u32]) -> Chip
 pub fn run(c: Chip, words: &[u32], answers: &mut [u32]) -> RunResult
     ensures { λ r. ⌜ (r ≡ runOf c (now (words .entry)) (now (answers .entry))) × (now (answers .exit) ≡ runAnswers c (now (words .entry)) (now (answers .entry))) ⌝ }
 {
-    if form::well_formed(c) {
+    if well_formed::well_formed(c) {
         if answers.len() < words.len() {
             RunResult { chip: c, number: 7 }
         } else {

@@ -1,7 +1,8 @@
 // Register writes: what each does, and which are refused.
 ghost use mathlib.Core.Path.{_≡_};
-ghost use Rattle.writes.specs.Writes.{target, storedWritten, clrflgWritten, clrwdtWritten, writtenTo, written as writtenOf, writeNumber, writeRegister};
-use chip::Chip;
+ghost use Rattle.writes.specs.Writes.{target, clrflgWritten, clrwdtWritten, writtenTo, keptBy, written as writtenOf, storedBy, writeNumber, writeRegister, writeKept};
+use chip::Core;
+use chip::Kept;
 use registers::BT;
 use registers::CLRFLG;
 use registers::CLRHOV;
@@ -44,48 +45,29 @@ pub fn target_of(a: u8) -> Target
     }
 }
 
-fn stored_written(c: Chip, a: u8, b: u8) -> Chip
-    ensures { λ r. ⌜ r ≡ storedWritten c a b ⌝ }
-{
-    let value = registers::updated(a, chip::register_at(c, a), b);
-    let i = a as usize;
-    if i < 38 {
-        let mut n = c;
-        n.registers[i] = value;
-        n
-    } else {
-        c
-    }
-}
-
-fn clrflg_written(c: Chip, b: u8) -> Chip
+fn clrflg_written(c: Core, b: u8) -> Core
     ensures { λ r. ⌜ r ≡ clrflgWritten c b ⌝ }
 {
     let counters = c.sync;
-    let mut n = c;
-    n.irqx = n.irqx & !b;
     let after = sync::clear_overflow(bits::bit(CLRHOV, b), bits::bit(CLRVOV, b), counters);
-    n.sync = after;
-    n
+    chip::with_sync(chip::with_irqx(c, c.irqx & !b), after)
 }
 
-fn clrwdt_written(c: Chip, b: u8) -> Chip
+fn clrwdt_written(c: Core, b: u8) -> Core
     ensures { λ r. ⌜ r ≡ clrwdtWritten c b ⌝ }
 {
     if b == 0x55 {
-        let mut n = c;
-        n.watchdog = 0;
-        n
+        chip::with_watchdog(c, 0)
     } else {
         c
     }
 }
 
-fn written_to(t: Target, c: Chip, a: u8, b: u8) -> Chip
-    ensures { λ r. ⌜ r ≡ writtenTo t c a b ⌝ }
+fn written_to(t: Target, c: Core, b: u8) -> Core
+    ensures { λ r. ⌜ r ≡ writtenTo t c b ⌝ }
 {
     match t {
-        Target::Stored => stored_written(c, a, b),
+        Target::Stored => c,
         Target::Mdcon => ddc_writes::mdcon_written(c, b),
         Target::Hvcon => hvcon_written(c, b),
         Target::Clrflg => clrflg_written(c, b),
@@ -97,54 +79,61 @@ fn written_to(t: Target, c: Chip, a: u8, b: u8) -> Chip
     }
 }
 
-fn hvcon_written(c: Chip, b: u8) -> Chip
-    ensures { λ r. ⌜ r ≡ writtenTo Target.Hvcon c 0x06 b ⌝ }
+fn hvcon_written(c: Core, b: u8) -> Core
+    ensures { λ r. ⌜ r ≡ writtenTo Target.Hvcon c b ⌝ }
 {
-    let mut n = c;
-    n.polarity = registers::updated(HVCON, c.polarity, b);
-    n
+    chip::with_polarity(c, registers::updated(HVCON, c.polarity, b))
 }
 
-fn bt_written(c: Chip, b: u8) -> Chip
-    ensures { λ r. ⌜ r ≡ writtenTo Target.Bt c 0x16 b ⌝ }
+fn bt_written(c: Core, b: u8) -> Core
+    ensures { λ r. ⌜ r ≡ writtenTo Target.Bt c b ⌝ }
 {
-    let mut n = c;
-    n.bt = registers::updated(BT, c.bt, b);
-    n
+    chip::with_bt(c, registers::updated(BT, c.bt, b))
 }
 
-// The chip after a write that is taken: the byte under the write mask, and what else the register does.
+fn kept_by(t: Target, registers: &[u8; 38], a: u8, b: u8) -> Kept
+    ensures { λ r. ⌜ r ≡ keptBy t (now (registers .entry)) a b ⌝ }
+{
+    match t {
+        Target::Stored => Kept::Stored(
+            a,
+            registers::updated(a, chip::register_at(registers, a), b),
+        ),
+        Target::Mdcon => Kept::Same,
+        Target::Hvcon => Kept::Same,
+        Target::Clrflg => Kept::Same,
+        Target::Clrwdt => Kept::Same,
+        Target::Iiadr => Kept::Same,
+        Target::Iidat => Kept::Same,
+        Target::Iists => Kept::Same,
+        Target::Bt => Kept::Same,
+    }
+}
+
+// The core after a write that is taken.
 // Wrong answers: a flag cleared by a 0 in CLRFLG; the phase kept where MD1/2 changes.
-pub fn written(c: Chip, a: u8, b: u8) -> Chip
+pub fn written(c: Core, a: u8, b: u8) -> Core
     ensures { λ r. ⌜ r ≡ writtenOf c a b ⌝ }
 {
-    written_to(target_of(a), c, a, b)
+    written_to(target_of(a), c, b)
+}
+
+// What a write that is taken stores in the array: the byte under the write mask, where the register stands there.
+// Wrong answers: the byte written, whatever the mask; MDCON stored in the array too.
+pub fn stored(registers: &[u8; 38], a: u8, b: u8) -> Kept
+    ensures { λ r. ⌜ r ≡ storedBy (now (registers .entry)) a b ⌝ }
+{
+    kept_by(target_of(a), registers, a, b)
 }
 
 // The number of a write: 0 where it is taken, 4 while RESET is low, 6 for a read-only register.
 // Wrong answers: 5 for a read-only register; 6 while RESET is low.
-pub fn write_number(c: Chip, a: u8) -> u8
-    ensures { λ r. ⌜ r ≡ writeNumber c a ⌝ }
+pub fn write_number(reset: bool, a: u8) -> u8
+    ensures { λ r. ⌜ r ≡ writeNumber reset a ⌝ }
 {
-    if c.reset {
+    if reset {
         if registers::writable(a) { 0 } else { 6 }
     } else {
         4
-    }
-}
-
-// The chip after a write, taken or refused; a refused one changes nothing.
-// Wrong answers: a write carried out while RESET is low; the watchdog cleared by 54H.
-pub fn write_register(c: Chip, a: u8, b: u8) -> Chip
-    ensures { λ r. ⌜ r ≡ writeRegister c a b ⌝ }
-{
-    if c.reset {
-        if registers::writable(a) {
-            written(c, a, b)
-        } else {
-            c
-        }
-    } else {
-        c
     }
 }

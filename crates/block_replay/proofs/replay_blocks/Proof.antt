@@ -7,7 +7,7 @@ use native.Mathlib.Omega.{arith}
 use borrow.Author.Needs.{needs}
 use lib.ListN.{length}
 use lib.Seq.{length-take-le}
-use Rattle.form.specs.Form.{wellFormed}
+use Rattle.well_formed.specs.WellFormed.{wellFormed}
 use Rattle.block_replay.proofs.Replaying.{gives-eight, gives-seven, size-kept, count-fits, no-room, answers-kept, text-fits, text-kept, done}
 use Rattle.block_replay.proofs.replay_blocks.Statement.{statement}
 use Rattle.block_replay.proofs.replay_blocks.Tie as tie

@@ -1,6 +1,6 @@
 -- `bus::changes_mode` meets its contract.
 -- Assumes nothing.
-use Rattle.bus.specs.Lines.{changesMode}
+use Rattle.bus.specs.Bus.{changesMode}
 use borrow.Author.Needs.{needs}
 use Rattle.bus.proofs.changes_mode.Statement.{statement}
 use Rattle.bus.proofs.changes_mode.Tie as tie

@@ -1,6 +1,6 @@
 -- `bus::mode_of` meets its contract.
 -- Assumes nothing.
-use Rattle.bus.specs.Lines.{mode}
+use Rattle.bus.specs.Bus.{mode}
 use borrow.Author.Needs.{needs}
 use Rattle.bus.proofs.mode_of.Statement.{statement}
 use Rattle.bus.proofs.mode_of.Tie as tie

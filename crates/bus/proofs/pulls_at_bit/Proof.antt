@@ -1,7 +1,7 @@
 -- `bus::pulls_at_bit` meets its contract.
 -- Assumes nothing.
 use borrow.Author.Tests.{lt-ltb, le-ltb}
-use Rattle.bus.specs.Lines.{pullsAtBit}
+use Rattle.bus.specs.Bus.{pullsAtBit}
 use borrow.Author.Needs.{needs}
 use Rattle.bus.proofs.pulls_at_bit.Statement.{statement}
 use Rattle.bus.proofs.pulls_at_bit.Tie as tie

@@ -1,7 +1,7 @@
 -- `bus::scl_pulled` meets its contract.
 -- Assumes nothing.
-use Rattle.bus.specs.Lines.{sclPulled}
-use Rattle.bus.specs.Lines.{mode}
+use Rattle.bus.specs.Bus.{sclPulled}
+use Rattle.bus.specs.Bus.{mode}
 use borrow.Author.Needs.{needs}
 use Rattle.bus.proofs.scl_pulled.Statement.{statement}
 use Rattle.bus.proofs.scl_pulled.Tie as tie

@@ -1,7 +1,7 @@
 -- `bus::sda_pulled` meets its contract.
 -- Assumes nothing.
-use Rattle.bus.specs.Lines.{sdaPulled}
-use Rattle.bus.specs.Lines.{mode}
+use Rattle.bus.specs.Bus.{sdaPulled}
+use Rattle.bus.specs.Bus.{mode}
 use borrow.Author.Needs.{needs}
 use Rattle.bus.proofs.sda_pulled.Statement.{statement}
 use Rattle.bus.proofs.sda_pulled.Tie as tie

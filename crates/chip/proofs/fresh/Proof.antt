@@ -11,4 +11,5 @@ fresh-spec =
     tie.close
     (tie.spec
     (λ c κs. search needs)
-    (λ c. simp (c .reset-at .ensures)))
+    (λ c κs. search needs)
+    (λ c. simp (c .reset-at .ensures, c .before .resets .ensures)))

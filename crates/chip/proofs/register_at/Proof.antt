@@ -1,9 +1,8 @@
 -- `chip::register_at` meets its contract.
 -- Assumes nothing.
-use mathlib.Core.Path.{_≡_, sym}
-use Prim.Native.Nat.{_≤_}
-use native.Mathlib.Omega.{arith}
-use lib.ListN.{length, List·getD-eq-default}
+use mathlib.Core.Path.{sym}
+use denote.Ref.{now}
+use lib.ListN.{List·getD-eq-default}
 use borrow.Author.Needs.{needs}
 use Rattle.chip.proofs.register_at.Statement.{statement}
 use Rattle.chip.proofs.register_at.Tie as tie
@@ -14,7 +13,4 @@ register-at-spec =
     (tie.spec
     (λ c. search needs)
     (λ c. search needs)
-    (λ c. let a = c .before .before .args in
-    let l : length (a .c .registers) ≡ 38 = search needs in
-    let h : length (a .c .registers) ≤ a .a = omega arith in
-    sym (List·getD-eq-default (a .c .registers) 0 h)))
+    (λ c. sym (List·getD-eq-default (now (c .before .args .registers)) 0 (c .if1 .left))))

@@ -19,5 +19,4 @@ reset-at-spec =
     (λ c κs. search needs)
     (λ c κs. search needs)
     (λ c κs. search needs)
-    (λ c κs. search needs)
-    (λ c. simp (c .idle-bus .ensures, c .before .reset-value7 .ensures, c .before .before .reset-value6 .ensures, c .before .before .before .reset-value5 .ensures, c .before .before .before .before .zero-sync .ensures, c .before .before .before .before .before .reset-value4 .ensures, c .before .before .before .before .before .before .reset-value3 .ensures, c .before .before .before .before .before .before .before .reset-value2 .ensures, c .before .before .before .before .before .before .before .before .reset-value .ensures, c .before .before .before .before .before .before .before .before .before .resets .ensures)))
+    (λ c. simp (c .idle-bus .ensures, c .before .reset-value7 .ensures, c .before .before .reset-value6 .ensures, c .before .before .before .reset-value5 .ensures, c .before .before .before .before .zero-sync .ensures, c .before .before .before .before .before .reset-value4 .ensures, c .before .before .before .before .before .before .reset-value3 .ensures, c .before .before .before .before .before .before .before .reset-value2 .ensures, c .before .before .before .before .before .before .before .before .reset-value .ensures)))

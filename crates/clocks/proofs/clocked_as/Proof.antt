@@ -1,7 +1,7 @@
 -- `clocks::clocked_as` meets its contract.
 -- Assumes nothing.
-use borrow.Author.Tests.{ne-eqb}
 use Rattle.clocks.specs.Clocks.{clockedAs}
+use borrow.Author.Tests.{ne-eqb}
 use borrow.Author.Needs.{needs}
 use Rattle.clocks.proofs.clocked_as.Statement.{statement}
 use Rattle.clocks.proofs.clocked_as.Tie as tie

@@ -12,4 +12,8 @@ period-clock-spec =
     (tie.spec
     (λ c κs. search needs)
     (λ c κs. search needs)
-    (λ c. simp (c .on-period .ensures, c .before .hsel .ensures)))
+    (λ c κs. search needs)
+    (λ c κs. search needs)
+    (λ c κs. search needs)
+    (λ c κs. search needs)
+    (λ c. simp (c .with-bus .ensures, c .before .with-phase .ensures, c .before .before .phase-at-period .ensures, c .before .before .before .with-sync .ensures, c .before .before .before .before .on-period .ensures, c .before .before .before .before .before .hsel .ensures)))

@@ -12,5 +12,6 @@ polarity-found-spec =
     (tie.spec
     (λ c κs. search needs)
     (λ c κs. search needs)
-    (λ c. simp (c .with-bit .ensures, c .before .polarity-bit .ensures, c .before .before .if1 .taken))
+    (λ c κs. search needs)
+    (λ c. simp (c .with-polarity .ensures, c .before .with-bit .ensures, c .before .before .polarity-bit .ensures, c .before .before .before .if1 .taken))
     (λ c. simp (c .if1 .left)))

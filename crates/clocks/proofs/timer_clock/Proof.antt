@@ -10,8 +10,6 @@ unfolding timerClock
 timer-clock-spec =
     tie.close
     (tie.spec
-    (λ c. search needs)
-    (λ c. search needs)
     (λ c κs. search needs)
     (λ c κs. search needs)
     (λ c. simp (c .timer-step .ensures, ← (c .before .before .timer-runs .ensures), c .before .if1 .taken))

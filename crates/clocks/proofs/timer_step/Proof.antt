@@ -14,4 +14,5 @@ timer-step-spec =
     (λ c κs. search needs)
     (λ c κs. search needs)
     (λ c κs. search needs)
-    (λ c. simp (c .timer-next .ensures, c .before .raised .ensures, c .before .before .weight-if .ensures, c .before .before .before .timer-overflows .ensures)))
+    (λ c κs. search needs)
+    (λ c. simp (c .with-bt .ensures, c .before .timer-next .ensures, c .before .before .raised .ensures, c .before .before .before .weight-if .ensures, c .before .before .before .before .timer-overflows .ensures)))

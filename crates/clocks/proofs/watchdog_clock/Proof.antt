@@ -13,5 +13,6 @@ watchdog-clock-spec =
     (λ c κs. search needs)
     (λ c κs. search needs)
     (λ c κs. search needs)
-    (λ c. simp (c .reset-chip .ensures, ← (c .before .before .watchdog-fires .ensures), c .before .if1 .taken))
-    (λ c. simp (c .watchdog-next .ensures, ← (c .before .before .watchdog-fires .ensures), c .before .if1 .left)))
+    (λ c κs. search needs)
+    (λ c. simp (c .reset-core .ensures, ← (c .before .before .watchdog-fires .ensures), c .before .if1 .taken))
+    (λ c. simp (c .with-watchdog .ensures, c .before .watchdog-next .ensures, ← (c .before .before .before .watchdog-fires .ensures), c .before .before .if1 .left)))

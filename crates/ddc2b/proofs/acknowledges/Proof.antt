@@ -1,7 +1,7 @@
 -- `ddc2b::acknowledges` meets its contract.
 -- Assumes nothing.
-use mathlib.Core.Path.{refl}
 use Rattle.ddc2b.specs.Ddc2b.{acknowledges}
+use borrow.Author.Needs.{needs}
 use Rattle.ddc2b.proofs.acknowledges.Statement.{statement}
 use Rattle.ddc2b.proofs.acknowledges.Tie as tie
 
@@ -10,4 +10,5 @@ unfolding acknowledges
 acknowledges-spec =
     tie.close
     (tie.spec
-    (λ c. refl))
+    (λ c κs. search needs)
+    (λ c. simp (c .bit .ensures)))

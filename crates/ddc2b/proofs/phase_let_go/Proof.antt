@@ -1,6 +1,6 @@
 -- `ddc2b::phase_let_go` meets its contract.
 -- Assumes nothing.
-use borrow.Author.Needs.{needs}
+
 use Rattle.ddc2b.proofs.phase_let_go.Statement.{statement}
 use Rattle.ddc2b.proofs.phase_let_go.Tie as tie
 
@@ -9,4 +9,4 @@ phase-let-go-spec =
     tie.close
     (tie.spec
     (λ c. simp (c .if1 .taken))
-    (λ c. search needs))
+    (λ c. simp (c .if1 .left)))

@@ -1,7 +1,7 @@
 -- `ddc2b::receive_at_rise` meets its contract.
 -- Assumes nothing.
-use borrow.Author.Tests.{lt-ltb, le-ltb}
 use Rattle.ddc2b.specs.Ddc2b.{phaseAtRise}
+use borrow.Author.Tests.{lt-ltb, le-ltb}
 use borrow.Author.Needs.{needs}
 use Rattle.ddc2b.proofs.receive_at_rise.Statement.{statement}
 use Rattle.ddc2b.proofs.receive_at_rise.Tie as tie

@@ -1,7 +1,7 @@
 -- `ddc2b::transmit_at_fall` meets its contract.
 -- Assumes nothing.
-use borrow.Author.Tests.{lt-ltb, le-ltb, eq-eqb, ne-eqb}
 use Rattle.ddc2b.specs.Ddc2b.{phaseAtFall}
+use borrow.Author.Tests.{lt-ltb, le-ltb, eq-eqb, ne-eqb}
 use borrow.Author.Needs.{needs}
 use Rattle.ddc2b.proofs.transmit_at_fall.Statement.{statement}
 use Rattle.ddc2b.proofs.transmit_at_fall.Tie as tie

@@ -11,4 +11,5 @@ iiadr-written-spec =
     tie.close
     (tie.spec
     (λ c κs. search needs)
-    (λ c. simp (c .before .updated .ensures)))
+    (λ c κs. search needs)
+    (λ c. simp (c .with-bus .ensures, c .before .updated .ensures)))

@@ -11,4 +11,5 @@ iidat-written-spec =
     tie.close
     (tie.spec
     (λ c κs. search needs)
-    (λ c. simp (c .bus-at-iidat .ensures)))
+    (λ c κs. search needs)
+    (λ c. simp (c .with-bus .ensures, c .before .bus-at-iidat .ensures)))

@@ -14,4 +14,5 @@ iists-written-spec =
     (λ c κs. search needs)
     (λ c κs. search needs)
     (λ c κs. search needs)
-    (λ c. simp (c .bus-at-mode .ensures, c .before .mode-of2 .ensures, c .before .before .mode-of .ensures, c .before .before .before .status-written .ensures)))
+    (λ c κs. search needs)
+    (λ c. simp (c .with-bus .ensures, c .before .bus-at-mode .ensures, c .before .before .mode-of2 .ensures, c .before .before .before .mode-of .ensures, c .before .before .before .before .status-written .ensures)))

@@ -17,4 +17,7 @@ mdcon-written-spec =
     (λ c κs. search needs)
     (λ c κs. search needs)
     (λ c κs. search needs)
-    (λ c. simp (c .bus-at-mode .ensures, c .before .mode-of2 .ensures, c .before .before .mode-of .ensures, c .before .before .before .sync-at-hsel .ensures, c .before .before .before .before .bit2 .ensures, c .before .before .before .before .before .bit .ensures, c .before .before .before .before .before .before .before .before .updated .ensures)))
+    (λ c κs. search needs)
+    (λ c κs. search needs)
+    (λ c κs. search needs)
+    (λ c. simp (c .with-bus .ensures, c .before .with-sync .ensures, c .before .before .with-mdcon .ensures, c .before .before .before .bus-at-mode .ensures, c .before .before .before .before .mode-of2 .ensures, c .before .before .before .before .before .mode-of .ensures, c .before .before .before .before .before .before .sync-at-hsel .ensures, c .before .before .before .before .before .before .before .bit2 .ensures, c .before .before .before .before .before .before .before .before .bit .ensures, c .before .before .before .before .before .before .before .before .before .before .before .updated .ensures)))

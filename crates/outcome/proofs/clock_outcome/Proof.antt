@@ -1,15 +1,17 @@
 -- `outcome::clock_outcome` meets its contract.
 -- Assumes nothing.
-use Rattle.outcome.specs.Outcome.{outcome, next, numberGiven, byteGiven, watchdogReset, wasReset}
+use Rattle.outcome.specs.Outcome.{outcome, coreAfter, keptAfter, wasReset, numberGiven, watchdogReset, byteGiven}
 use borrow.Author.Needs.{needs}
 use Rattle.outcome.proofs.clock_outcome.Statement.{statement}
 use Rattle.outcome.proofs.clock_outcome.Tie as tie
 
 pub clock-outcome-spec : {M : Type 1} → statement M
-unfolding byteGiven next numberGiven outcome wasReset watchdogReset
+unfolding outcome coreAfter keptAfter wasReset numberGiven watchdogReset byteGiven
 clock-outcome-spec =
     tie.close
     (tie.spec
     (λ c κs. search needs)
     (λ c κs. search needs)
-    (λ c. simp (c .clocked .ensures, c .before .before .watchdog-fires .ensures)))
+    (λ c κs. search needs)
+    (λ c κs. search needs)
+    (λ c. simp (c .reset-if .ensures, c .before .clocked .ensures, c .before .before .register-at .ensures, c .before .before .before .before .before .watchdog-fires .ensures)))

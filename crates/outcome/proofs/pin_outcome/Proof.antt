@@ -1,14 +1,15 @@
 -- `outcome::pin_outcome` meets its contract.
 -- Assumes nothing.
-use Rattle.outcome.specs.Outcome.{outcome, next, numberGiven, byteGiven, watchdogReset, wasReset}
+use Rattle.outcome.specs.Outcome.{outcome, coreAfter, keptAfter, wasReset, numberGiven, watchdogReset, byteGiven}
 use borrow.Author.Needs.{needs}
 use Rattle.outcome.proofs.pin_outcome.Statement.{statement}
 use Rattle.outcome.proofs.pin_outcome.Tie as tie
 
 pub pin-outcome-spec : {M : Type 1} → statement M
-unfolding byteGiven next numberGiven outcome wasReset watchdogReset
+unfolding outcome coreAfter keptAfter wasReset numberGiven watchdogReset byteGiven
 pin-outcome-spec =
     tie.close
     (tie.spec
     (λ c κs. search needs)
-    (λ c. simp (c .before .pin-moved .ensures)))
+    (λ c κs. search needs)
+    (λ c. simp (c .reset-if .ensures, c .before .before .pin-moved .ensures)))

@@ -1,12 +1,12 @@
 -- `outcome::polarity_outcome` meets its contract.
 -- Assumes nothing.
-use Rattle.outcome.specs.Outcome.{outcome, next, numberGiven, byteGiven, watchdogReset, wasReset}
+use Rattle.outcome.specs.Outcome.{outcome, coreAfter, keptAfter, numberGiven, watchdogReset, byteGiven}
 use borrow.Author.Needs.{needs}
 use Rattle.outcome.proofs.polarity_outcome.Statement.{statement}
 use Rattle.outcome.proofs.polarity_outcome.Tie as tie
 
 pub polarity-outcome-spec : {M : Type 1} → statement M
-unfolding byteGiven next numberGiven outcome wasReset watchdogReset
+unfolding outcome coreAfter keptAfter numberGiven watchdogReset byteGiven
 polarity-outcome-spec =
     tie.close
     (tie.spec

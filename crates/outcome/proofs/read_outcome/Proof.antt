@@ -1,12 +1,12 @@
 -- `outcome::read_outcome` meets its contract.
 -- Assumes nothing.
-use Rattle.outcome.specs.Outcome.{outcome, next, numberGiven, byteGiven, watchdogReset, wasReset}
+use Rattle.outcome.specs.Outcome.{outcome, coreAfter, keptAfter, numberGiven, watchdogReset, byteGiven}
 use borrow.Author.Needs.{needs}
 use Rattle.outcome.proofs.read_outcome.Statement.{statement}
 use Rattle.outcome.proofs.read_outcome.Tie as tie
 
 pub read-outcome-spec : {M : Type 1} → statement M
-unfolding byteGiven next numberGiven outcome wasReset watchdogReset
+unfolding outcome coreAfter keptAfter numberGiven watchdogReset byteGiven
 read-outcome-spec =
     tie.close
     (tie.spec

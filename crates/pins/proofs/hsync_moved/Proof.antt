@@ -13,5 +13,6 @@ hsync-moved-spec =
     (λ c κs. search needs)
     (λ c κs. search needs)
     (λ c κs. search needs)
-    (λ c. simp (c .on-hsync .ensures, ← (c .before .before .rises .ensures), c .before .if1 .taken, c .before .before .before .hsync-level .ensures))
+    (λ c κs. search needs)
+    (λ c. simp (c .with-sync .ensures, c .before .on-hsync .ensures, ← (c .before .before .before .rises .ensures), c .before .before .if1 .taken, c .before .before .before .before .hsync-level .ensures))
     (λ c. simp (← (c .before .rises .ensures), c .if1 .left, c .before .before .hsync-level .ensures)))

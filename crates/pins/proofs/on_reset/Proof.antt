@@ -16,4 +16,4 @@ on-reset-spec =
     (λ c κs. search needs)
     (λ c. simp (c .enum-told .given .1))
     (λ c. simp (c .enum-told2 .given .1))
-    (λ c. simp (c .reset-chip .ensures, c .before .enum-told3 .given .1)))
+    (λ c. simp (c .reset-core .ensures, c .before .enum-told3 .given .1)))

@@ -12,4 +12,5 @@ reset-moved-spec =
     (tie.spec
     (λ c κs. search needs)
     (λ c κs. search needs)
-    (λ c. simp (c .on-reset .ensures, c .before .edge-between .ensures)))
+    (λ c κs. search needs)
+    (λ c. simp (c .on-reset .ensures, c .before .with-reset .ensures, c .before .before .edge-between .ensures)))

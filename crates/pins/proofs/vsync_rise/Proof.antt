@@ -17,4 +17,6 @@ vsync-rise-spec =
     (λ c κs. search needs)
     (λ c κs. search needs)
     (λ c κs. search needs)
-    (λ c. simp (c .bus-at-vsync .ensures, c .before .on-vsync .ensures, c .before .before .hsel .ensures, c .before .before .before .raised .ensures, c .before .before .before .before .weight-if .ensures, c .before .before .before .before .before .loads-at-vsync .ensures, c .before .before .before .before .before .before .mode-of .ensures)))
+    (λ c κs. search needs)
+    (λ c κs. search needs)
+    (λ c. simp (c .with-bus .ensures, c .before .bus-at-vsync .ensures, c .before .before .with-sync .ensures, c .before .before .before .on-vsync .ensures, c .before .before .before .before .hsel .ensures, c .before .before .before .before .before .raised .ensures, c .before .before .before .before .before .before .weight-if .ensures, c .before .before .before .before .before .before .before .loads-at-vsync .ensures, c .before .before .before .before .before .before .before .before .mode-of .ensures)))

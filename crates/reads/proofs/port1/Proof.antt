@@ -10,12 +10,9 @@ unfolding port1
 port1-spec =
     tie.close
     (tie.spec
-    (λ c. search needs)
-    (λ c. search needs)
-    (λ c. search needs)
-    (λ c. search needs)
-    (λ c. search needs)
-    (λ c. search needs)
     (λ c κs. search needs)
     (λ c κs. search needs)
-    (λ c. simp (c .port-read .ensures, c .before .given1 .ensures)))
+    (λ c κs. search needs)
+    (λ c κs. search needs)
+    (λ c κs. search needs)
+    (λ c. simp (c .port-read .ensures, c .before .given1 .ensures, c .before .before .register-at3 .ensures, c .before .before .before .before .register-at2 .ensures, c .before .before .before .before .before .before .register-at .ensures)))

@@ -10,9 +10,7 @@ unfolding port2
 port2-spec =
     tie.close
     (tie.spec
-    (λ c. search needs)
-    (λ c. search needs)
-    (λ c. search needs)
-    (λ c. search needs)
     (λ c κs. search needs)
-    (λ c. simp (c .merge .ensures)))
+    (λ c κs. search needs)
+    (λ c κs. search needs)
+    (λ c. simp (c .merge .ensures, c .before .register-at2 .ensures, c .before .before .before .register-at .ensures)))

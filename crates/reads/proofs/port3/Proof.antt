@@ -10,10 +10,9 @@ unfolding port3
 port3-spec =
     tie.close
     (tie.spec
-    (λ c. search needs)
-    (λ c. search needs)
     (λ c κs. search needs)
     (λ c κs. search needs)
     (λ c κs. search needs)
-    (λ c. simp (c .weight-if2 .ensures, c .before .weight-if .ensures, ← (c .before .before .before .bit .ensures), c .before .before .if1 .taken))
-    (λ c. simp (← (c .before .bit .ensures), c .if1 .left)))
+    (λ c κs. search needs)
+    (λ c. simp (c .weight-if2 .ensures, c .before .weight-if .ensures, ← (c .before .before .before .bit .ensures), c .before .before .if1 .taken, c .before .before .before .before .register-at .ensures))
+    (λ c. simp (← (c .before .bit .ensures), c .if1 .left, c .before .before .register-at .ensures)))

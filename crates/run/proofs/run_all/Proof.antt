@@ -5,15 +5,16 @@ use Prim.Native.Nat.{_-_}
 use native.Mathlib.Omega.{arith}
 use borrow.Author.Needs.{needs}
 use lib.ListN.{length}
+use Rattle.chip.specs.State.{chipOf}
 use Rattle.run.proofs.Runs.{Done, more, all}
 use Rattle.run.proofs.run_all.Statement.{statement}
 use Rattle.run.proofs.run_all.Tie as tie
 
 abbrev Inv-loop : tie.InvT-loop
-Inv-loop words answers₀ r₀ i₀ answers r i = Done words answers₀ (r₀ .chip) answers (r .chip) i
+Inv-loop words answers₀ registers₀ core₀ i₀ answers registers core i = Done words answers₀ (chipOf registers₀ core₀) answers (chipOf registers core) i
 
 abbrev μ-loop : tie.MeasureT-loop
-μ-loop words answers₀ r₀ i₀ answers r i = length words - i
+μ-loop words answers₀ registers₀ core₀ i₀ answers registers core i = length words - i
 
 loop-holds : tie.Need-loop-holds Inv-loop μ-loop
 loop-holds c = record { within = search needs; same = refl; state = refl; written = refl; rest = refl }
@@ -27,8 +28,8 @@ shared-slice-read-decode c = search needs
 decode-requires : tie.Need-decode-requires Inv-loop μ-loop
 decode-requires c κs = search needs
 
-advance-requires : tie.Need-advance-requires Inv-loop μ-loop
-advance-requires c κs = search needs
+advance-core-requires : tie.Need-advance-core-requires Inv-loop μ-loop
+advance-core-requires c κs = search needs
 
 mul-answers : tie.Need-mul-answers Inv-loop μ-loop
 mul-answers c = search needs
@@ -44,14 +45,15 @@ loop-less c = omega arith
 
 loop-again : tie.Need-loop-again Inv-loop μ-loop
 loop-again c =
-    let l = c .before .before .before .before .before in
-    more _ _ _ _ _ _ (l .loop .inv) (c .before .before .before .before .loop-test .taken) (l .before .before .before .pre) _ (c .before .decode .ensures .0) _ (c .advance .ensures)
+    let l = c .before .before .before .before .before .before in
+    let done = c .before .advance-core .ensures in
+    more _ _ _ _ _ _ (l .loop .inv) (c .before .before .before .before .before .loop-test .taken) (l .before .before .before .before .before .pre) _ (c .before .before .decode .ensures .0) _ (done .0) _ (done .1)
 
 same-length : tie.Need-same-length Inv-loop μ-loop
-same-length c = c .before .before .loop .inv .same
+same-length c = c .before .loop .inv .same
 
 returns : tie.Need-returns Inv-loop μ-loop
-returns c = all _ _ _ _ _ _ (c .before .before .loop .inv) (c .before .loop-test .left) (c .before .before .before .before .before .pre)
+returns c = all _ _ _ _ _ _ (c .before .loop .inv) (c .loop-test .left) (c .before .before .before .before .before .before .pre)
 
 pub run-all-spec : {M : Type 1} → statement M
 run-all-spec =
@@ -63,7 +65,7 @@ run-all-spec =
     mul-decode
     shared-slice-read-decode
     decode-requires
-    advance-requires
+    advance-core-requires
     mul-answers
     slice-write-answers
     add-i

@@ -11,4 +11,5 @@ bt-written-spec =
     tie.close
     (tie.spec
     (λ c κs. search needs)
-    (λ c. simp (c .updated .ensures)))
+    (λ c κs. search needs)
+    (λ c. simp (c .with-bt .ensures, c .before .updated .ensures)))

@@ -13,4 +13,6 @@ clrflg-written-spec =
     (λ c κs. search needs)
     (λ c κs. search needs)
     (λ c κs. search needs)
-    (λ c. simp (c .clear-overflow .ensures, c .before .bit2 .ensures, c .before .before .bit .ensures)))
+    (λ c κs. search needs)
+    (λ c κs. search needs)
+    (λ c. simp (c .with-sync .ensures, c .before .with-irqx .ensures, c .before .before .before .clear-overflow .ensures, c .before .before .before .before .bit2 .ensures, c .before .before .before .before .before .bit .ensures)))

@@ -1,7 +1,8 @@
 -- `writes::clrwdt_written` meets its contract.
 -- Assumes nothing.
-use borrow.Author.Tests.{eq-eqb, ne-eqb}
 use Rattle.writes.specs.Writes.{clrwdtWritten}
+use borrow.Author.Tests.{eq-eqb, ne-eqb}
+use borrow.Author.Needs.{needs}
 use Rattle.writes.proofs.clrwdt_written.Statement.{statement}
 use Rattle.writes.proofs.clrwdt_written.Tie as tie
 
@@ -10,5 +11,6 @@ unfolding clrwdtWritten
 clrwdt-written-spec =
     tie.close
     (tie.spec
-    (λ c. simp (eq-eqb _ _ (c .if1 .taken)))
+    (λ c κs. search needs)
+    (λ c. simp (c .with-watchdog .ensures, eq-eqb _ _ (c .before .if1 .taken)))
     (λ c. simp (ne-eqb _ _ (c .if1 .left))))

@@ -11,4 +11,5 @@ hvcon-written-spec =
     tie.close
     (tie.spec
     (λ c κs. search needs)
-    (λ c. simp (c .updated .ensures)))
+    (λ c κs. search needs)
+    (λ c. simp (c .with-polarity .ensures, c .before .updated .ensures)))

@@ -11,7 +11,6 @@ written-to-spec =
     tie.close
     (tie.spec
     (λ c. search needs)
-    (λ c κs. search needs)
     (λ c. search needs)
     (λ c κs. search needs)
     (λ c. search needs)
@@ -28,7 +27,7 @@ written-to-spec =
     (λ c κs. search needs)
     (λ c. search needs)
     (λ c κs. search needs)
-    (λ c. simp (c .stored-written .ensures, c .before .enum-told .given .1))
+    (λ c. simp (c .enum-told .given .1))
     (λ c. simp (c .mdcon-written .ensures, c .before .enum-told2 .given .1))
     (λ c. simp (c .hvcon-written .ensures, c .before .enum-told3 .given .1))
     (λ c. simp (c .clrflg-written .ensures, c .before .enum-told4 .given .1))

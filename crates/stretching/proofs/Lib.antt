@@ -1,0 +1,4 @@
+pub mod Holds
+pub mod Begins
+pub mod Stretching
+pub mod Worked

@@ -1,0 +1,60 @@
+-- A run from a fresh chip at which the premises hold: address A0H is sent, the ninth clock ends, and 8 µs clocks are counted.
+-- Assumes nothing.
+use mathlib.Core.Path.{_≡_, refl}
+use mathlib.Core.Bool.{Bool, true}
+use mathlib.Core.List.{List, [], _∷_, _++_}
+use Prim.Native.Nat.{ℕ}
+use Rattle.bits.specs.Byte.{bit, merge, withBit}
+use Rattle.registers.specs.Table.{table, resets, resetValue, rowOf, writeMask, isWritable}
+use Rattle.events.specs.Word.{event, noEvent, noPlace, badByte, decode}
+use Rattle.counters.specs.Count.{counted, overflowed, watchdogNext, watchdogFires, cycleNext}
+use Rattle.sync.specs.Sync.{stepPeriods, linesOnPeriod, intervalNext, onPeriod, hselCleared, zeroSync}
+use Rattle.bus.specs.declared.Phase.{Phase}
+use Rattle.bus.specs.declared.Phase.the-variants.{Receive, Held}
+use Rattle.bus.specs.Bus.{mode, changesMode, pullsAtBit, pullsSda, pullsScl, sdaPulled, sclPulled}
+use Rattle.ddc2b.specs.Ddc2b.{matches, gathered, phaseAtRise, dataAtRise, matchesAtRise, statusAtRise, holdsAtFall, phaseAtFall, heldLonger, phaseAtPeriod}
+use Rattle.chip.specs.declared.Chip.{Chip}
+use Rattle.chip.specs.State.{released, resetAt, fresh}
+use Rattle.edges.specs.Edges.{busAtMode, busAtRise, sclRise, sclFall, onSclDdc2b, onScl, sclMoved, started, onSdaDdc2b, onSda, sdaMoved}
+use Rattle.writes.specs.Writes.{target, writtenTo, keptBy, written, storedBy, writeRegister, writeKept}
+use Rattle.ddc_writes.specs.DdcWrites.{syncAtHsel, mdconWritten, statusWritten, iistsWritten, busRisen, busAtIidat, iidatWritten}
+use Rattle.pins.specs.Pins.{pinKind, pinMovedAs, pinMoved}
+use Rattle.clocks.specs.Clocks.{periodClock, watchdogClock, clockedAs, clocked}
+use Rattle.outcome.specs.Outcome.{coreAfter, wasReset, keptAfter, next}
+use Rattle.step.specs.Step.{advance}
+use Rattle.run.specs.Run.{advanced}
+use Rattle.stretching.specs.Stretching.{takesScl, letsGo, lasts, periodsGiven, bounded}
+
+-- SCL high and low, the bit being on SDA
+abbrev sclPulse : List ℕ
+sclPulse = 0x03001901 ∷ 0x03001900 ∷ []
+
+-- MDCON and II STS written 0, START, A0H, and the rise of the ninth clock
+abbrev addressed : List ℕ
+addressed =
+    0x02000500 ∷ 0x02001500 ∷ 0x03001800 ∷ 0x03001900 ∷ 0x03001801 ∷ (sclPulse ++ (0x03001800 ∷ (sclPulse ++ (0x03001801 ∷ (sclPulse ++ (0x03001800 ∷
+    (sclPulse ++ (sclPulse ++ (sclPulse ++ (sclPulse ++ (sclPulse ++ (0x03001901 ∷ []))))))))))))
+
+abbrev ninth : Chip
+ninth = advanced fresh addressed
+
+-- the fall that ends it
+abbrev fall : ℕ
+fall = 0x03001900
+
+-- an 8 µs clock, SCL and SDA moved, an 8 µs clock, a watchdog clock, an 8 µs clock
+abbrev words : List ℕ
+words = 0x04000000 ∷ 0x03001901 ∷ 0x03001800 ∷ 0x03001801 ∷ 0x04000000 ∷ 0x04000300 ∷ 0x04000000 ∷ []
+
+-- the fall takes SCL low and the hold lasts, with three clocks counted; a write to II DAT ends it
+pub held-at : _≡_ {A = Bool × Bool × ℕ × Phase × Bool × Phase} (
+  takesScl ninth (decode fall),
+  lasts (next ninth (decode fall)) words,
+  bounded (periodsGiven (next ninth (decode fall)) words),
+  advanced ninth (fall ∷ words) .core .bus .phase,
+  letsGo (advanced ninth (fall ∷ words)) (decode 0x02001400),
+  advanced ninth (fall ∷ (words ++ (0x02001400 ∷ []))) .core .bus .phase,
+)
+    (true, true, 3, Held 3, true, Receive 1 1)
+unfolding bit merge withBit table resets resetValue rowOf writeMask isWritable event noEvent noPlace badByte decode counted overflowed watchdogNext watchdogFires cycleNext stepPeriods linesOnPeriod intervalNext onPeriod hselCleared zeroSync mode changesMode pullsAtBit pullsSda pullsScl sdaPulled sclPulled matches gathered phaseAtRise dataAtRise matchesAtRise statusAtRise holdsAtFall phaseAtFall heldLonger phaseAtPeriod released resetAt fresh busAtMode busAtRise sclRise sclFall onSclDdc2b onScl sclMoved started onSdaDdc2b onSda sdaMoved target writtenTo keptBy written storedBy writeRegister writeKept syncAtHsel mdconWritten statusWritten iistsWritten busRisen busAtIidat iidatWritten pinKind pinMovedAs pinMoved periodClock watchdogClock clockedAs clocked coreAfter wasReset keptAfter next advance takesScl letsGo bounded
+held-at = refl
