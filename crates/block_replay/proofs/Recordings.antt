@@ -101,6 +101,12 @@ module _ (c : Chip) (due n : ℕ) (xs ys : List ℕ) (h : length xs ≡ 512 * n)
         ap (advanced c) words ∙ advanced-append c ws vs,
       )
 
+  pub parts-text : numberFrom due xs ≡ 0
+      → blockText c due (xs ++ ys) ≡ blockText c due xs ++ blockText (advanced c (wordsFrom due xs)) (readNext due (blocksOf xs)) ys
+  unfolding blockText
+  parts-text e =
+      ap hexLines (parts-answers e .0) ∙ lines-append (blockAnswers c due xs) (blockAnswers (advanced c (wordsFrom due xs)) (readNext due (blocksOf xs)) ys)
+
   -- a bad block ends it: the next part is not looked at
   pub ended-answers : (numberFrom due xs ≡ 0 → ⊥)
       → (blockAnswers c due (xs ++ ys) ≡ blockAnswers c due xs) × (advanced c (wordsFrom due (xs ++ ys)) ≡ advanced c (wordsFrom due xs))
