@@ -1,0 +1,5 @@
+pub mod Place
+pub mod Lines
+pub mod Calls
+pub mod Replaying
+pub mod Recordings

@@ -1,0 +1,35 @@
+-- `block_replay::put_line` meets its contract.
+-- Assumes nothing.
+use mathlib.Core.Path.{_≡_, ap, _∙_}
+use mathlib.Core.List.{List, _++_}
+use Prim.Native.Nat.{ℕ, _+_, _-_}
+use native.Mathlib.Omega.{arith}
+use lib.ListN.{length, take, drop}
+use borrow.Rule.Slice.PartMut.{putMid}
+use Rattle.hex.specs.Hex.{hexLine}
+use Rattle.hex.proofs.Line.{length-line}
+use Rattle.block_replay.proofs.Place.{placed}
+use borrow.Author.Needs.{needs}
+use Rattle.block_replay.proofs.put_line.Statement.{statement}
+use Rattle.block_replay.proofs.put_line.Tie as tie
+
+pub put-line-spec : {M : Type 1} → statement M
+put-line-spec =
+    tie.close
+    (tie.spec
+    (λ c κs. search needs)
+    (λ c. search needs)
+    (λ c. search needs)
+    (λ c. search needs)
+    (λ c. search needs)
+    (λ c κs. search needs)
+    (λ c. search needs)
+    (λ c. let start = c .before .before .before .before .before .before .before in
+    let old = start .args .text .now in
+    let at = start .args .at in
+    let line = c .before .before .before .before .before .hex-line in
+    let n : length (line .result) ≡ 9 = ap length (line .ensures) ∙ length-line (start .args .a) in
+    ap (putMid at (length old - at) old) (c .before .before .copy .ensures .1)
+    ∙ placed old (line .result) at (omega (arith, n))
+    ∙ ap (λ (l : List ℕ). take at old ++ (l ++ drop (at + length l) old)) (line .ensures)
+    ∙ ap (λ (m : ℕ). take at old ++ (hexLine (start .args .a) ++ drop (at + m) old)) (length-line (start .args .a))))

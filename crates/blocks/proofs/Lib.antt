@@ -1,0 +1,6 @@
+pub mod Place
+pub mod Words
+pub mod Loops
+pub mod Parts
+pub mod Refusals
+pub mod Round

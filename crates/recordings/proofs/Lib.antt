@@ -1,0 +1,4 @@
+pub mod Pieces
+pub mod Round
+pub mod Reading
+pub mod Joined
