@@ -100,7 +100,7 @@ fallsScl c e = putLow pin.SCL e && (c .core .reset && (c .core .scl && sclFree c
 
 -- ---- where a byte on the bus stands
 
--- seven bits of an address are gathered, and with the SDA line as the eighth it matches A0H or II ADR
+-- seven bits of an address are gathered (no well formed one has more), and with the SDA line as the eighth it matches A0H or II ADR
 abbrev pub completesMatch : ℕ → Bool → Phase → Bool
 completesMatch own sda Idle = false
 completesMatch own sda (Address count bits) = not (ltb count 7) && matches own (gathered bits sda)

@@ -16,8 +16,8 @@ use registers::IRQX;
 use registers::MDCON;
 use sync::Sync;
 
-// The registers of the bus, the phase of a transfer, and the shift register of DDC1. II ADR stands first: with the two that an edge
-// moves side by side behind it, the compiler keeps each in a machine register (docs/PERFORMANCE.md).
+// The registers of the bus, the phase of a transfer, and the shift register of DDC1. II ADR, which no edge moves, stands first, and
+// what edges move stands together behind it.
 pub struct Bus {
     pub iiadr: u8,
     pub iists: u8,

@@ -229,7 +229,7 @@ comparedAnswers [] xs = []
 comparedAnswers (w ∷ ws) [] = []
 comparedAnswers (w ∷ ws) (x ∷ xs) = comparedAnswer (decode w) x ∷ comparedAnswers ws xs
 
--- the part of the phase that is compared: all but the address bits gathered
+-- the part of the phase that is compared: all but the bits of an address under way
 abbrev pub comparedPhase : Phase → Phase
 comparedPhase Idle = Idle
 comparedPhase (Address count bits) = Address count 0
