@@ -99,6 +99,10 @@ def answers():
         yield from (answer for answer in found if answer.pairs)
 
 
+class NotBuilt(Exception):
+    """a program that does not fit the code"""
+
+
 class Run:
     """a program that is built unproved and run: its root file, what it depends on, and what it is run on"""
 
@@ -127,7 +131,7 @@ class Run:
         if done.returncode == 0:
             return None
         if "FAIL: " not in said:
-            sys.exit(f"wrong answers: {self.name} with the edit of {crate} is not built:\n{said[:2000]}")
+            raise NotBuilt(f"wrong answers: {self.name}{' with an edit of ' + crate if crate else ''} is not built: {said.strip()[:500]}")
         return said
 
 
@@ -177,7 +181,11 @@ def runs(work):
         root.write_text(placed(text))
         deps = [name for name in re.search(r"^// needs: (.*)$", text, re.M)[1].split() if name in DEPS or name in KIT_DEPS]
         driver = Run(f"driver {path.stem}", root, deps, ["--stdin", str(work / "words")])
-        said = driver.told(None, None) or sys.exit(f"wrong answers: {path} prints nothing")
+        try:
+            said = driver.told(None, None) or sys.exit(f"wrong answers: {path} prints nothing")
+        except NotBuilt as error:
+            print(f"{error}; it is left out", flush=True)
+            continue
         wrote = re.search(r'expected "", found "(.*?)"$', said, re.M) or sys.exit(f"wrong answers: {path}: {said[:1000]}")
         driver.expected = work / "drivers" / path.stem / "stdout"
         driver.expected.write_text(wrote[1].replace("\\n", "\n"))
