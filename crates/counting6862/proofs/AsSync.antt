@@ -1,16 +1,10 @@
 -- The unit for the NT6861 does what document 01's counters do on the same events, over any list of calls.
 -- Assumes nothing.
-use mathlib.Core.Path.{_≡_, refl, sym, ap, _∙_, subst}
-use mathlib.Core.Bool.{Bool, true, false, not, _&&_}
+use mathlib.Core.Path.{_≡_, refl, sym, _∙_}
+use mathlib.Core.Bool.{true}
 use mathlib.Core.List.{List, [], _∷_}
-use Rattle.bits.specs.Byte.{pick}
-use Rattle.bits.proofs.Level.{pick-by}
-use Rattle.sync.specs.declared.Sync.{Sync}
 use Rattle.sync.specs.Sync.{clearLines, clearPeriods, stepPeriods, intervalNext, linesOnPeriod, onPeriod, clearOverflow, wellSync}
-use Rattle.sync6862.specs.declared.Counters.{Counters}
-use Rattle.sync6862.specs.declared.Outcome.{Outcome}
 use Rattle.sync6862.specs.declared.Part.the-variants.{Nt6861}
-use Rattle.sync6862.specs.declared.Start.{Start}
 use Rattle.sync6862.specs.declared.Start.the-variants.{Made}
 use Rattle.sync6862.specs.declared.Call.{Call}
 use Rattle.sync6862.specs.declared.Call.the-variants.{Hsynci, Vsynci, Clock, Enhsel, Hsel, ClearH, ClearV}

@@ -1,9 +1,8 @@
 -- A state stays with its chip, whatever is called, refused calls included.
 -- Assumes nothing.
-use mathlib.Core.Path.{_≡_, refl, sym, _∙_}
+use mathlib.Core.Path.{_≡_, refl, _∙_}
 use mathlib.Core.Bool.{Bool}
 use mathlib.Core.List.{List, [], _∷_}
-use Prim.Native.Nat.{ℕ}
 use native.Mathlib.Omega.{arith}
 use Rattle.bits.proofs.Level.{pick-by}
 use Rattle.sync6862.specs.declared.Part.{Part}

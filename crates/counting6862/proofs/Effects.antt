@@ -1,24 +1,20 @@
 -- What one call does to the two counters, where it breaks neither count, and to the level that says what HCNT counts.
 -- Assumes nothing.
-use Prim.Native.Nat.{ℕ}
-use mathlib.Core.Path.{_≡_, refl, sym, ap, _∙_}
-use mathlib.Core.Bool.{Bool, true, false, not, _&&_, _||_}
-use native.Mathlib.Omega.{arith}
+use mathlib.Core.Path.{_≡_, refl, sym, ap}
+use mathlib.Core.Bool.{Bool, true, false, not, _&&_}
 use lib.Dec.{ltb}
 use Rattle.bits.specs.Byte.{pick}
-use Rattle.bits.proofs.Finite.{neither}
 use Rattle.counters.specs.Count.{latched, zeroed}
 use Rattle.sync.specs.declared.LineCounter.{LineCounter}
 use Rattle.sync.specs.declared.PeriodCounter.{PeriodCounter}
 use Rattle.sync.specs.declared.Sync.{Sync}
-use Rattle.sync.specs.Sync.{stepLines, latchLines, latchPeriods, clearLines, clearPeriods, linesOnVsync, onHsync, onVsync, hselCleared, clearOverflow}
+use Rattle.sync.specs.Sync.{stepLines, latchLines, latchPeriods, clearLines, linesOnVsync, onHsync, onVsync, hselCleared, clearOverflow}
 use Rattle.sync6862.specs.declared.Part.{Part}
 use Rattle.sync6862.specs.declared.Part.the-variants.{Nt6861, Nt6862}
 use Rattle.sync6862.specs.declared.Counters.{Counters}
-use Rattle.sync6862.specs.declared.Outcome.{Outcome}
 use Rattle.sync6862.specs.declared.Call.{Call}
 use Rattle.sync6862.specs.declared.Call.the-variants.{Hsynci, Vsynci, Clock, Enhsel, Hsel, ClearH, ClearV}
-use Rattle.sync6862.specs.Unit.{periodsLast, intervalLast, perField, differs, restarts, hasEnhsel, stepPeriodsTo, intervalNextTo, linesOnPeriodTo, onPeriodTo, wellFormed, clearLinesOf, releaseLines, restartedIf, onHsyncIf, onVsyncIf, hsyncMoved, vsyncMoved, clocked, hselSet, enhselSet, clearedH, clearedV, onEnhsel, answered, answer}
+use Rattle.sync6862.specs.Unit.{periodsLast, intervalLast, perField, differs, restarts, hasEnhsel, stepPeriodsTo, linesOnPeriodTo, onPeriodTo, wellFormed, clearLinesOf, releaseLines, restartedIf, onHsyncIf, onVsyncIf, hsyncMoved, vsyncMoved, clocked, hselSet, enhselSet, clearedH, clearedV, onEnhsel, answered, answer}
 use Rattle.counting6862.specs.Counting.{risesHsynci, hsynciAfter, isClock, changesEnhsel, zeroesLines, releasesLines, zeroesPeriods}
 
 -- a call on a well formed state is carried out

@@ -2,16 +2,14 @@
 -- 8 µs on the NT6861, 2,048 or 4,096 by HSEL on the NT6862. The law is that of `counters`, over the last value.
 -- Assumes nothing.
 use Prim.Native.Nat.{ℕ, zero, suc, _+_, _%_}
-use mathlib.Core.Path.{_≡_, refl, sym, ap, _∙_}
-use mathlib.Core.Bool.{Bool, true, false, not, _&&_}
+use mathlib.Core.Path.{_≡_, refl, ap, _∙_}
+use mathlib.Core.Bool.{Bool, true, false, _&&_}
 use native.Mathlib.Omega.{arith}
 use native.Mathlib.Nat.{zero-add, add-zero}
 use lib.Dec.{eqb}
-use Rattle.counters.specs.Count.{atLast, cycleNext, cycles}
+use Rattle.counters.specs.Count.{cycleNext, cycles}
 use Rattle.counters.proofs.Counting.{cycles-remainder, cycle-due}
-use Rattle.sync6862.specs.declared.Part.{Part}
 use Rattle.sync6862.specs.declared.Counters.{Counters}
-use Rattle.sync6862.specs.declared.Outcome.{Outcome}
 use Rattle.sync6862.specs.declared.Call.the-variants.{Clock}
 use Rattle.sync6862.specs.Unit.{intervalLast, perField, intervalNextTo, onPeriodTo, clocked, wellFormed, answered, answer}
 use Rattle.sync6862.proofs.WellFormed.{well-kept}

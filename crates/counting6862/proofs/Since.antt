@@ -1,13 +1,13 @@
 -- On either chip a count is the pulses since the call that zeroed it: as many as its width holds, and then the overflow bit.
 -- Assumes nothing.
-use Prim.Native.Nat.{ℕ, zero, suc, _+_, _%_, _≤_, _<_}
-use mathlib.Core.Path.{_≡_, refl, sym, ap, _∙_}
-use mathlib.Core.Bool.{Bool, true, false, not, _&&_, _||_}
+use Prim.Native.Nat.{ℕ, _≤_, _<_}
+use mathlib.Core.Path.{_≡_, refl, ap, _∙_}
+use mathlib.Core.Bool.{Bool, true, false, not, _&&_}
 use mathlib.Core.List.{List, [], _∷_}
-use Rattle.bits.specs.Byte.{pick, num}
+use Rattle.bits.specs.Byte.{pick}
 use Rattle.bits.proofs.Finite.{both, neither}
-use Rattle.counters.specs.Count.{steps, cycles, cycleNext}
-use Rattle.counters.proofs.Counting.{steps-within, steps-past, cycles-remainder}
+use Rattle.counters.specs.Count.{steps}
+use Rattle.counters.proofs.Counting.{steps-within, steps-past}
 use borrow.Author.Tests.{not-true}
 use Rattle.sync.specs.declared.LineCounter.{LineCounter}
 use Rattle.sync.specs.declared.PeriodCounter.{PeriodCounter}
@@ -16,10 +16,9 @@ use Rattle.sync.proofs.Counters.{linesAt, periodsAt, lines-since-zero}
 use Rattle.sync6862.specs.declared.Counters.{Counters}
 use Rattle.sync6862.specs.declared.Outcome.{Outcome}
 use Rattle.sync6862.specs.declared.Call.{Call}
-use Rattle.sync6862.specs.declared.Call.the-variants.{Clock}
-use Rattle.sync6862.specs.Unit.{periodsLast, intervalLast, perField, stepPeriodsTo, intervalNextTo, onPeriodTo, clocked, wellFormed, answered, answer}
+use Rattle.sync6862.specs.Unit.{periodsLast, stepPeriodsTo, wellFormed, answer}
 use Rattle.sync6862.proofs.WellFormed.{well-kept}
-use Rattle.counting6862.specs.Counting.{run, clocks, stepsPeriodsTo, risesHsynci, hsynciAfter, hsyncRises, isClock, periodClocks, zeroesLines, releasesLines, zeroesPeriods, breaksLines, never}
+use Rattle.counting6862.specs.Counting.{run, stepsPeriodsTo, risesHsynci, hsynciAfter, hsyncRises, isClock, periodClocks, zeroesLines, releasesLines, zeroesPeriods, breaksLines, never}
 use Rattle.counting6862.proofs.Steps.{lines-more, periods-more, periods-since-zero, lines-stand}
 use Rattle.counting6862.proofs.Effects.{done, lines-effect, hsynci-effect, periods-effect}
 use Rattle.counting6862.proofs.Chips.{last-kept}

@@ -6,7 +6,7 @@ use mathlib.Core.Bool.{Bool, true, false}
 use native.Mathlib.Nat.{zero-add}
 use native.Mathlib.Numerals.{one-add}
 use Rattle.bits.specs.Byte.{pick, num}
-use Rattle.counters.specs.Count.{counted, overflowed, steps}
+use Rattle.counters.specs.Count.{steps}
 use Rattle.counters.proofs.Counting.{overflow-stands}
 use Rattle.sync.specs.declared.LineCounter.{LineCounter}
 use Rattle.sync.specs.declared.PeriodCounter.{PeriodCounter}

@@ -5,12 +5,11 @@ use mathlib.Core.Path.{_≡_, refl}
 use mathlib.Core.Bool.{Bool, true, false}
 use mathlib.Core.List.{List, [], _∷_, _++_}
 use Rattle.counters.specs.Count.{counted, overflowed, latched, zeroed, cycleNext}
-use Rattle.sync.specs.Sync.{stepLines, latchLines, latchPeriods, linesOnVsync, onHsync, onVsync, hselCleared, zeroLines, zeroSync}
-use Rattle.sync6862.specs.declared.Counters.{Counters}
+use Rattle.sync.specs.Sync.{stepLines, latchLines, onHsync, hselCleared, zeroLines, zeroSync}
 use Rattle.sync6862.specs.declared.Part.the-variants.{Nt6862}
 use Rattle.sync6862.specs.declared.Call.{Call}
-use Rattle.sync6862.specs.declared.Call.the-variants.{Hsynci, Vsynci, Clock, Enhsel, Hsel}
-use Rattle.sync6862.specs.Unit.{periodsLast, intervalLast, perField, restarts, stepPeriodsTo, intervalNextTo, linesOnPeriodTo, onPeriodTo, wellTo, wellFormed, hsyncMoved, vsyncMoved, clocked, hselSet, enhselSet, onEnhsel, answered, answer, freshAs}
+use Rattle.sync6862.specs.declared.Call.the-variants.{Hsynci, Clock, Enhsel, Hsel}
+use Rattle.sync6862.specs.Unit.{periodsLast, intervalLast, perField, restarts, stepPeriodsTo, intervalNextTo, linesOnPeriodTo, onPeriodTo, wellTo, wellFormed, hsyncMoved, clocked, hselSet, enhselSet, onEnhsel, answered, answer, freshAs}
 use Rattle.counting6862.specs.Counting.{run, clocks, hsyncRises, periodClocks, zeroesLines, releasesLines, zeroesPeriods, breaksLines, never}
 
 -- a pulse of HSYNCI

@@ -1,7 +1,7 @@
 -- Each call that the tables name zeroes its count.
 -- Assumes nothing.
 use Prim.Native.Nat.{ℕ}
-use mathlib.Core.Path.{_≡_, refl, sym, ap, _∙_}
+use mathlib.Core.Path.{_≡_, refl}
 use mathlib.Core.Bool.{Bool, true, false, not, _&&_}
 use lib.Dec.{ltb}
 use Rattle.bits.specs.Byte.{pick}
@@ -12,7 +12,6 @@ use Rattle.sync.specs.Sync.{latchLines, latchPeriods, clearLines, clearPeriods,
 use Rattle.sync6862.specs.declared.Part.{Part}
 use Rattle.sync6862.specs.declared.Part.the-variants.{Nt6861, Nt6862}
 use Rattle.sync6862.specs.declared.Counters.{Counters}
-use Rattle.sync6862.specs.declared.Outcome.{Outcome}
 use Rattle.sync6862.specs.declared.Call.{Call}
 use Rattle.sync6862.specs.declared.Call.the-variants.{Hsynci, Vsynci, Clock, Enhsel, Hsel, ClearH, ClearV}
 use Rattle.sync6862.specs.Unit.{intervalLast, perField, differs, restarts, hasEnhsel, linesOnPeriodTo, onPeriodTo, clearLinesOf, restartedIf, onVsyncIf, vsyncMoved, clocked, hselSet, enhselSet, clearedH, clearedV, onEnhsel, answered}

@@ -1,17 +1,16 @@
 -- Each number of a call is given exactly when its rule says, and a refusal leaves the twelve numbers.
 -- Assumes nothing.
 use Prim.Native.Nat.{ℕ}
-use mathlib.Core.Path.{_≡_, refl, sym, ap, _∙_}
+use mathlib.Core.Path.{_≡_, refl, ap, _∙_}
 use mathlib.Core.Bool.{Bool, true, false}
 use mathlib.Core.List.{List}
 use lib.Dec.{eqb}
 use lib.ListN.{length}
 use Rattle.bits.specs.Byte.{pick}
 use Rattle.sync6862.specs.declared.Counters.{Counters}
-use Rattle.sync6862.specs.declared.Call.{Call}
 use Rattle.sync6862.specs.declared.Start.{Start}
 use Rattle.sync6862.specs.declared.Start.the-variants.{Made, NoSuchChip}
-use Rattle.sync6862.specs.Unit.{answer, fresh, freshNumber, numberOf}
+use Rattle.sync6862.specs.Unit.{fresh, freshNumber}
 use Rattle.sync6862.proofs.Numbers.{number-exact, refused-unmoved}
 use Rattle.numbers6862.specs.declared.Offered.{Offered}
 use Rattle.numbers6862.specs.declared.Offered.the-variants.{Well, IllFormed}

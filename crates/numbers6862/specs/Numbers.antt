@@ -1,6 +1,6 @@
 -- A state of the counters as twelve numbers, and calls by number on them: what the C interface and the program go by.
 use Prim.Native.Nat.{ℕ}
-use mathlib.Core.Bool.{Bool, true, false, _&&_}
+use mathlib.Core.Bool.{Bool, _&&_}
 use mathlib.Core.List.{List, [], _∷_}
 use lib.Dec.{eqb, ltb}
 use lib.ListN.{getD}
@@ -9,8 +9,7 @@ use Rattle.sync6862.specs.declared.Part.{Part}
 use Rattle.sync6862.specs.declared.Part.the-variants.{Nt6861, Nt6862}
 use Rattle.sync6862.specs.declared.Counters.{Counters}
 use Rattle.sync6862.specs.declared.Call.{Call}
-use Rattle.sync6862.specs.declared.Call.the-variants.{Hsynci, Vsynci, Clock, Enhsel, Hsel, ClearH, ClearV}
-use Rattle.sync6862.specs.declared.Outcome.{Outcome}
+use Rattle.sync6862.specs.declared.Call.the-variants.{Hsynci, Vsynci, Enhsel, Hsel, ClearH, ClearV}
 use Rattle.sync6862.specs.declared.Start.{Start}
 use Rattle.sync6862.specs.declared.Start.the-variants.{Made, NoSuchChip}
 use Rattle.sync6862.specs.Unit.{chipNumber, wellFormed, answer, fresh, freshNumber, numberOf}

@@ -3,7 +3,6 @@
 use Prim.Native.Nat.{ℕ}
 use mathlib.Core.Path.{_≡_, refl}
 use mathlib.Core.List.{List, [], _∷_, _++_}
-use Rattle.orders6862.specs.declared.Reader.{Reader}
 use Rattle.orders6862.specs.declared.Found.{Found}
 use Rattle.orders6862.specs.declared.Found.the-variants.{Within, Refused, Line}
 use Rattle.orders6862.specs.declared.Order.{Order}

@@ -1,6 +1,6 @@
 -- On the NT6861 the report is document 01's.
 -- Assumes nothing.
-use mathlib.Core.Path.{_≡_, refl}
+use mathlib.Core.Path.{_≡_}
 use Rattle.sync.specs.Sync.{wellSync}
 use Rattle.sync6862.specs.declared.Part.the-variants.{Nt6861}
 use Rattle.sync6862.specs.declared.Counters.{Counters}

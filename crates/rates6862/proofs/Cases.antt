@@ -1,21 +1,20 @@
 -- What the case of a report says holds of the state; the field rate lies between 7 and 125,000 Hz, on the NT6861 between 30 and 125,000.
 -- Assumes nothing.
 use Prim.Native.Nat.{ℕ, _*_, _≤_}
-use mathlib.Core.Path.{_≡_, refl, _∙_}
+use mathlib.Core.Path.{_≡_, refl}
 use mathlib.Core.Bool.{Bool, true, false}
 use native.Mathlib.Omega.{arith}
-use lib.Dec.{eqb}
 use Rattle.bits.specs.Byte.{pick}
 use Rattle.sync6862.specs.declared.Part.{Part}
 use Rattle.sync6862.specs.declared.Part.the-variants.{Nt6861, Nt6862}
 use Rattle.sync6862.specs.declared.Counters.{Counters}
-use Rattle.sync6862.specs.Unit.{periodsLast, intervalLast, wellFormed}
+use Rattle.sync6862.specs.Unit.{periodsLast, wellFormed}
 use Rattle.sync6862.proofs.WellFormed.{within}
 use lib.Ieee.{Float}
 use Rattle.rates.specs.Hertz.{Between, fieldHz}
-use Rattle.rates.specs.Report.{told, byPeriods}
+use Rattle.rates.specs.Report.{byPeriods}
 use Rattle.rates.specs.declared.Rate.{Rate}
-use Rattle.rates.specs.declared.Rate.the-variants.{IllFormed, NothingLatched, Overflow, FieldRate}
+use Rattle.rates.specs.declared.Rate.the-variants.{IllFormed, FieldRate}
 use Rattle.rates.proofs.Hertz.{field-between}
 use Rattle.rates.proofs.Cases.{positive, told-case}
 use Rattle.rates6862.specs.Report.{fieldReport, lowest, FieldCase}

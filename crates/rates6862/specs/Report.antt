@@ -1,7 +1,7 @@
 -- The field rate of either chip (document 02, Wish 6), in the form of document 01's rate report.
 use Prim.Native.Nat.{ℕ}
 use mathlib.Core.Path.{_≡_}
-use mathlib.Core.Bool.{Bool, true, false}
+use mathlib.Core.Bool.{true, false}
 use lib.Dec.{eqb}
 use Rattle.bits.specs.Byte.{pick}
 use Rattle.sync6862.specs.declared.Part.{Part}

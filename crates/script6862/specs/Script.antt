@@ -16,7 +16,6 @@ use Rattle.orders6862.specs.declared.Order.{Order}
 use Rattle.orders6862.specs.declared.Order.the-variants as order
 use Rattle.orders6862.specs.Line as line
 use Rattle.orders6862.specs.Orders.{orderOf}
-use Rattle.script6862.specs.declared.Event.{Event}
 use Rattle.script6862.specs.declared.Event.the-variants.{Quiet, Answer, Report, Malformed}
 use Rattle.script6862.specs.declared.Progress.{Progress}
 use Rattle.script6862.specs.declared.Step.{Step}

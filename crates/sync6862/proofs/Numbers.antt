@@ -11,10 +11,9 @@ use Rattle.sync6862.specs.declared.Counters.{Counters}
 use Rattle.sync6862.specs.declared.Call.{Call}
 use Rattle.sync6862.specs.declared.Call.the-variants.{Hsynci, Vsynci, Clock, Enhsel, Hsel, ClearH, ClearV}
 use Rattle.sync6862.specs.declared.Outcome.{Outcome}
-use Rattle.sync6862.specs.declared.Start.{Start}
 use Rattle.sync6862.specs.declared.Start.the-variants.{Made, NoSuchChip}
 use Rattle.sync6862.specs.declared.LatchReport.{LatchReport}
-use Rattle.sync6862.specs.declared.LatchReport.the-variants.{IllFormed, Shown}
+use Rattle.sync6862.specs.declared.LatchReport.the-variants.{IllFormed}
 use Rattle.sync6862.specs.Unit.{wellFormed, onEnhsel, answered, answer, fresh, freshNumber, latches, latchesNumber, hasEnhsel, lacksEnhsel, numberOf}
 
 -- ---- calls

@@ -2,30 +2,26 @@
 -- of the interval from the laws of `counters` over the last value.
 -- Assumes nothing.
 use Prim.Native.Nat.{ℕ, _+_, _≤_, _<_}
-use mathlib.Core.Path.{_≡_, refl, sym, ap}
+use mathlib.Core.Path.{_≡_, refl}
 use mathlib.Core.Bool.{Bool, true, false, not, _&&_}
 use native.Mathlib.Omega.{arith}
-use lib.Dec.{ltb, eqb}
+use lib.Dec.{ltb}
 use borrow.Author.Tests.{ltb-true, lt-ltb}
-use Rattle.bits.specs.Byte.{pick}
 use Rattle.bits.proofs.Finite.{both}
 use Rattle.bits.proofs.Level.{pick-by}
-use Rattle.counters.specs.Count.{cycleNext, latched, zeroed}
 use Rattle.counters.proofs.Counting.{counted-within, latched-below, zeroed-below, cycle-within}
 use Rattle.sync.specs.declared.LineCounter.{LineCounter}
 use Rattle.sync.specs.declared.PeriodCounter.{PeriodCounter}
 use Rattle.sync.specs.declared.Sync.{Sync}
-use Rattle.sync.specs.Sync.{latchPeriods, clearPeriods, clearLines, zeroLines, linesOnVsync, onHsync, onVsync, hselCleared, clearOverflow, zeroSync}
-use Rattle.sync.proofs.WellFormed.{LinesFit, step-lines-fits, latch-lines-fits, clear-lines-fits, lines-on-vsync-fits, interval-end-fits}
+use Rattle.sync.specs.Sync.{latchPeriods, clearPeriods, clearLines, zeroLines, onHsync, onVsync, hselCleared, clearOverflow, zeroSync}
+use Rattle.sync.proofs.WellFormed.{LinesFit, step-lines-fits, clear-lines-fits, lines-on-vsync-fits, interval-end-fits}
 use Rattle.sync6862.specs.declared.Part.{Part}
 use Rattle.sync6862.specs.declared.Part.the-variants.{Nt6861, Nt6862}
 use Rattle.sync6862.specs.declared.Counters.{Counters}
 use Rattle.sync6862.specs.declared.Call.{Call}
 use Rattle.sync6862.specs.declared.Call.the-variants.{Hsynci, Vsynci, Clock, Enhsel, Hsel, ClearH, ClearV}
 use Rattle.sync6862.specs.declared.Outcome.{Outcome}
-use Rattle.sync6862.specs.declared.Start.{Start}
-use Rattle.sync6862.specs.declared.Start.the-variants.{Made, NoSuchChip}
-use Rattle.sync6862.specs.Unit.{periodsLast, intervalLast, perField, differs, restarts, stepPeriodsTo, intervalNextTo, linesOnPeriodTo, onPeriodTo, wellTo, wellFormed, clearLinesOf, restartedIf, onHsyncIf, onVsyncIf, hsyncMoved, vsyncMoved, clocked, hselSet, enhselSet, clearedH, clearedV, onEnhsel, answered, answer, freshAs, fresh}
+use Rattle.sync6862.specs.Unit.{periodsLast, intervalLast, perField, differs, restarts, stepPeriodsTo, intervalNextTo, linesOnPeriodTo, onPeriodTo, wellTo, wellFormed, clearLinesOf, restartedIf, onHsyncIf, onVsyncIf, hsyncMoved, vsyncMoved, clocked, hselSet, enhselSet, clearedH, clearedV, onEnhsel, answered, answer, freshAs}
 
 -- ---- the ranges as facts on the numbers
 

@@ -1,5 +1,5 @@
 -- The counters of either chip as a unit (document 02, Wish 6, by document 001, 13.1; document 01, "Counting sync").
-use Prim.Native.Nat.{ℕ, zero, suc, _+_}
+use Prim.Native.Nat.{ℕ, _+_}
 use mathlib.Core.Bool.{Bool, true, false, not, _&&_, _||_}
 use lib.Dec.{eqb, ltb}
 use Rattle.bits.specs.Byte.{pick}

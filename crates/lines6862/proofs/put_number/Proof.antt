@@ -1,6 +1,5 @@
 -- `lines6862::put_number` meets its contract.
 -- Assumes nothing.
-use borrow.Author.Needs.{needs}
 use Rattle.lines6862.proofs.put_number.Statement.{statement}
 use Rattle.lines6862.proofs.put_number.Tie as tie
 

@@ -1,9 +1,8 @@
 -- `sync6862_capi::put` meets its contract. The loop's invariant is `Copied`.
 -- Assumes nothing.
-use mathlib.Core.Path.{_≡_, refl, sym, _∙_}
+use mathlib.Core.Path.{sym, _∙_}
 use Prim.Native.Nat.{_-_}
 use native.Mathlib.Omega.{arith}
-use borrow.Author.Needs.{needs}
 use Rattle.sync6862_capi.proofs.Copy.{Copied, more, all}
 use Rattle.sync6862_capi.proofs.put.Statement.{statement}
 use Rattle.sync6862_capi.proofs.put.Tie as tie
