@@ -16,11 +16,10 @@ use Rattle.chip.specs.declared.Chip.{Chip}
 use Rattle.well_formed.specs.WellFormed.{wellFormed}
 use Rattle.run.specs.Run.{advanced, advancedAnswers, run, runAnswers}
 use Rattle.run.proofs.Runs.{advanced-append, advancedAnswers-append, length-advancedAnswers}
-use Rattle.blocks.specs.Bytes.{Bytes}
 use Rattle.blocks.specs.Block.{blockWords, refusal}
 use Rattle.recordings.specs.Recording.{blocksOf, joined, recordingOf, readWords, readNumber, readNext}
 use Rattle.recordings.proofs.Round.{read-written}
-use Rattle.recordings.proofs.Joined.{accepted-words, accepted-next, onward, stopped, bad-block, bad-number, blocks-append}
+use Rattle.recordings.proofs.Joined.{accepted-words, onward, stopped, bad-block, blocks-append}
 use Rattle.block_replay.specs.Replay.{wordsFrom, numberFrom, lastAnswer, blockAnswers, hexLines, blockText, refusedReplay, replayed, textLeft}
 use Rattle.block_replay.specs.declared.Replayed.{Replayed}
 use Rattle.block_replay.proofs.Lines.{lines-append}

@@ -18,11 +18,10 @@ use Rattle.run.specs.Run.{advanced, advancedAnswers}
 use Rattle.run.proofs.Runs.{length-advancedAnswers}
 use Rattle.blocks.specs.Block.{refusal, countOf, allWords, blockWords}
 use Rattle.blocks.proofs.Refusals.{good}
-use Rattle.recordings.specs.Recording.{cut, blocksOf, readWords, readNumber, readNext, blocksRead, wordsLeft}
+use Rattle.recordings.specs.Recording.{cut, blocksOf, readWords, readNext, blocksRead, wordsLeft}
 use Rattle.recordings.specs.declared.BlocksRead.{BlocksRead}
 use Rattle.block_replay.specs.Replay.{wordsFrom, numberFrom, lastAnswer, blockAnswers, hexLines, blockText, refusedReplay, replayed, textLeft}
-use Rattle.block_replay.specs.declared.Replayed.{Replayed}
-use Rattle.block_replay.proofs.Lines.{length-lines, lines-append, line-take, line-drop}
+use Rattle.block_replay.proofs.Lines.{length-lines, lines-append}
 
 -- ---- the last answer
 
@@ -188,9 +187,3 @@ module _ (c : Chip) (due : ℕ) (bytes places : List ℕ) where
               rw (chip, result, size-text),
               y ∙ ap (λ (l : List ℕ). l ++ drop (length l) places) same-text,
             )
-
-        pub text-kept : (new : List ℕ) → new ≡ hexLines (take (r .count) answers ++ lastAnswer (r .number)) ++ drop (length (hexLines (take (r .count) answers ++ lastAnswer (r .number)))) places
-            → length new ≡ length places
-        text-kept new y =
-            let l = hexLines (take (r .count) answers ++ lastAnswer (r .number)) in
-            ap length y ∙ length-append l (drop (length l) places) ∙ omega (arith, length-drop (length l) places, text-fits)

@@ -87,7 +87,7 @@ fn text_length(count: usize, number: u8) -> usize
 // The replay of blocks from a state that is offered, where the first block must have the number that is due: the text of the
 // answers to the start of `text`. At an ill formed state 8, before any block is read; then 7 for more than 32 whole blocks, or
 // where the text does not fit; and nothing written.
-// Wrong answers: the chip as it was before the blocks; the last line without the number's place of its own.
+// Wrong answers: the chip as it was before the blocks; a bad block's number where the byte read stands.
 pub fn replay_blocks(start: Chip, due: u32, bytes: &[u8], text: &mut [u8]) -> Replayed
     ensures { λ r. ⌜ (r ≡ replayed start due (now (bytes .entry)) (now (text .entry))) × (now (text .exit) ≡ textLeft start due (now (bytes .entry)) (now (text .entry))) ⌝ }
 {

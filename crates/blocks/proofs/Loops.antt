@@ -2,17 +2,16 @@
 -- Assumes nothing.
 use mathlib.Core.Path.{_≡_, refl, sym, ap, ap₂, _∙_}
 use mathlib.Core.Bool.{true, false}
-use mathlib.Core.List.{List, [], _∷_, _++_, append-nil, append-assoc}
+use mathlib.Core.List.{List, [], _∷_, _++_, append-assoc}
 use Prim.Native.Nat.{ℕ, zero, suc, _+_, _*_, _-_, _<_, _≤_}
 use native.Mathlib.Omega.{arith}
 use native.Mathlib.Numerals.{add-one}
 use borrow.Author.Tests.{eq-eqb, ne-eqb}
-use lib.ListN.{length, take, drop, getD, set, replicate, length-append, length-set, length-replicate, take-append-drop, drop-of-length-le, getD-replicate, List·getD-append, List·getD-eq-default}
-use lib.Seq.{drop-cons, take-suc, take-suc-set, drop-set-lt, drop-drop, drop-length, take-all, take-at, drop-at, length-take-le}
+use lib.ListN.{length, take, drop, getD, set, replicate, length-append, length-set, length-replicate, take-append-drop, drop-of-length-le}
+use lib.Seq.{drop-cons, take-suc, take-suc-set, drop-set-lt, drop-drop, take-all}
 use Rattle.blocks.specs.Bytes.{fourBytes, wordsBytes, allZero, sum}
 use Rattle.blocks.specs.Block.{padded}
-use Rattle.blocks.proofs.Place.{put, put-take, put-drop, put-length, drop-later}
-use Rattle.blocks.proofs.Words.{length-bytes}
+use Rattle.blocks.proofs.Place.{put-take, put-drop, put-length, drop-later}
 
 -- ---- the sum: of the bytes bs, i are added up
 

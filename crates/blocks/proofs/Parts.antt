@@ -1,11 +1,11 @@
 -- The layout of a block: its parts, as the writer puts them.
 -- Assumes nothing.
-use mathlib.Core.Path.{_≡_, refl, sym, ap, ap₂, _∙_}
-use mathlib.Core.List.{List, [], _∷_, _++_, append-nil, append-assoc}
+use mathlib.Core.Path.{_≡_, ap, ap₂, _∙_}
+use mathlib.Core.List.{List, [], _++_}
 use Prim.Native.Nat.{ℕ, _+_, _*_, _/_, _%_, _<_, _≤_}
 use native.Mathlib.Omega.{arith}
 use lib.ListN.{length, take, drop, length-append, length-drop, drop-of-length-le}
-use lib.Seq.{drop-drop, take-at, drop-at}
+use lib.Seq.{drop-drop, take-at}
 use Rattle.blocks.specs.Bytes.{twoBytes, fourBytes, wordsBytes, sum}
 use Rattle.blocks.specs.Block.{padded, front, blockOf}
 use Rattle.blocks.proofs.Words.{length-bytes}

@@ -1,16 +1,15 @@
 -- A block written and read, and read and written: the same words, and the same bytes.
 -- Assumes nothing.
 use mathlib.Core.Path.{_≡_, refl, sym, ap, ap₂, _∙_}
-use mathlib.Core.Bool.{Bool, true, false}
-use mathlib.Core.List.{List, [], _∷_, _++_, append-assoc}
+use mathlib.Core.Bool.{Bool, true}
+use mathlib.Core.List.{List, [], _∷_, _++_}
 use Prim.Native.Nat.{ℕ, zero, suc, _+_, _*_, _-_, _/_, _%_, _<_, _≤_}
 use native.Mathlib.Omega.{arith}
-use borrow.Author.Tests.{eq-eqb, le-ltb, lt-ltb, eqb-true}
-use lib.Dec.{eqb, eqb·suc-zero}
-use lib.ListN.{length, take, drop, getD, replicate, length-append, length-drop, length-replicate, take-append-drop}
-use lib.Seq.{take-at, drop-at, take-add, take-all, getD-append-add, getD-take, getD-drop, length-take-le}
+use lib.Dec.{eqb·suc-zero}
+use lib.ListN.{length, take, drop, getD, replicate, length-drop, take-append-drop}
+use lib.Seq.{take-at, drop-at, take-add, getD-append-add, getD-drop, length-take-le}
 use Rattle.bits.specs.Byte.{pick}
-use Rattle.blocks.specs.Bytes.{Bytes, Words32, twoBytes, fourBytes, fromTwo, fromFour, wordsBytes, wordsOf, allZero, sum}
+use Rattle.blocks.specs.Bytes.{Bytes, Words32, twoBytes, fourBytes, fromTwo, wordsBytes, wordsOf, allZero, sum}
 use Rattle.blocks.specs.Block.{padded, front, blockOf, numberOf, countOf, sumOf, allWords, blockWords, unused, refusal}
 use Rattle.blocks.proofs.Words.{length-bytes, words-back, bytes-back, four-back, bytes-of-four, length-all}
 use Rattle.blocks.proofs.Loops.{length-padded, padded-at}

@@ -109,7 +109,7 @@ fn put_front(number: u16, words: &[u32], area: &mut [u8])
 
 // The writer of a block: 16 for more than 126 words, then 17 for an area that is not of 512 bytes, and nothing written; else 0
 // and the block in the area.
-// Wrong answers: 17 before 16; the sum of all 512 bytes.
+// Wrong answers: 17 for more than 126 words; the sum over the last word.
 pub fn write_block(number: u16, words: &[u32], area: &mut [u8]) -> u8
     ensures { λ r. ⌜ (r ≡ writeNumber (now (words .entry)) (now (area .entry))) × (now (area .exit) ≡ areaLeft number (now (words .entry)) (now (area .entry))) ⌝ }
 {
@@ -180,7 +180,7 @@ fn take_words(bytes: &[u8], count: usize, words: &mut [u32])
 
 // The reader of a block, whose number must be the one that is due: its words to the start of the places; or what is wrong
 // with it, and nothing written; or 7 where there are fewer places than words.
-// Wrong answers: the number tested before the sum; the words written though one that is unused is not zero.
+// Wrong answers: a count of 127 taken; an unused word that is not zero taken.
 pub fn read_block(due: u32, bytes: &[u8], words: &mut [u32]) -> BlockRead
     ensures { λ r. ⌜ (r ≡ blockRead due (now (bytes .entry)) (now (words .entry))) × (now (words .exit) ≡ placesLeft due (now (bytes .entry)) (now (words .entry))) ⌝ }
 {

@@ -6,7 +6,7 @@ use blocks::BlockRead;
 
 // Reads the block in the first 512 bytes, whose number must be the one given: returns 0, its words in `words` and how many they
 // are in `count`; or 10 to 14, or 7 where there are fewer places than words, and writes nothing.
-// Wrong answers: the count written where the block is refused; 0 whatever is wrong.
+// Wrong answers: the count cleared where the block is refused; 0 whatever is wrong.
 #[no_mangle]
 pub extern "C" fn nt6861_read_block(
     number: u32,
@@ -28,7 +28,7 @@ pub extern "C" fn nt6861_read_block(
 
 // Writes the block of this number with these words to an area of 512 bytes and returns 0; or returns 16 for more than 126 words,
 // then 17 for an area of another length, and writes nothing.
-// Wrong answers: the area written where 17 is returned; 17 for an area of 512 bytes.
+// Wrong answers: the area as it was, whatever is returned; 0 for an area of any length.
 #[no_mangle]
 pub extern "C" fn nt6861_write_block(number: u16, words: &[u32], area: &mut [u8]) -> u8
     ensures { λ r. ⌜ (r ≡ writeNumber (now (words .entry)) (now (area .entry))) × (now (area .exit) ≡ areaLeft number (now (words .entry)) (now (area .entry))) ⌝ }

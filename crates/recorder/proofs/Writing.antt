@@ -7,13 +7,12 @@ use Prim.Native.Nat.{ℕ, zero, suc, _+_, _*_, _-_, _/_, _<_, _≤_, min}
 use native.Mathlib.Omega.{arith}
 use native.Mathlib.Nat.{zero-min, suc-min-suc}
 use borrow.Author.Tests.{le-ltb, lt-ltb, eq-eqb}
-use borrow.Rule.Slice.PartMut.{putMid, midOf, postOf}
 use lib.Dec.{ltb}
 use lib.ListN.{length, take, drop, length-append, length-take, length-drop, take-append-drop}
 use lib.Seq.{take-at, drop-at, drop-drop, take-nil, drop-nil, length-take-le}
 use Rattle.blocks.specs.Block.{blockOf, areaLeft}
 use Rattle.blocks.proofs.Parts.{length-block}
-use Rattle.recordings.specs.Recording.{parts, joined, numbered}
+use Rattle.recordings.specs.Recording.{joined, numbered}
 use Rattle.recordings.proofs.Pieces.{parts-cons, parts-nil}
 use Rattle.recorder.specs.Written.{blockCount, blocksBytes, refusedWrite, blocksWritten, blocksPut}
 

@@ -45,7 +45,7 @@ fn take_words(bytes: &[u8], words: &mut [u32])
 
 // The whole words of bytes, to the start of the places, and how many they are; nothing is written, and 0 given, where there are
 // fewer places.
-// Wrong answers: the first byte as the highest of a word; the places of bytes counted for those of words.
+// Wrong answers: the first byte as the highest of a word; places asked for each byte.
 pub fn words_of(bytes: &[u8], words: &mut [u32]) -> usize
     ensures { λ r. ⌜ (r ≡ wordsGiven (now (bytes .entry)) (now (words .entry))) × (now (words .exit) ≡ wordsPut (now (bytes .entry)) (now (words .entry))) ⌝ }
 {
@@ -84,7 +84,7 @@ fn write_all(first: u32, words: &[u32], area: &mut [u8])
 
 // The writer of blocks: those of a list of words, 126 to a block and the rest in one more, to the start of the area; 12 where a
 // block would have a number above 65,535, then 17 for an area that is too short, and nothing written.
-// Wrong answers: a block more where the words fill the last; the first block numbered 0 whatever number is due.
+// Wrong answers: a block more where the words fill the last; every second number left out.
 pub fn write_blocks(first: u32, words: &[u32], area: &mut [u8]) -> BlocksWritten
     ensures { λ r. ⌜ (r ≡ blocksWritten first (now (words .entry)) (now (area .entry))) × (now (area .exit) ≡ blocksPut first (now (words .entry)) (now (area .entry))) ⌝ }
 {

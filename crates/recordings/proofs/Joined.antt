@@ -1,18 +1,18 @@
 -- Recordings in parts: the words of all good blocks joined, and where a bad block ends them.
 -- Assumes nothing.
 use mathlib.Core.Path.{_≡_, refl, sym, ap, ap₂, _∙_}
-use mathlib.Core.Bool.{Bool, true, false}
+use mathlib.Core.Bool.{true, false}
 use mathlib.Core.List.{List, [], _∷_, _++_, map, append-assoc, append-nil}
-use Prim.Native.Nat.{ℕ, zero, suc, _+_, _*_, _/_, _%_, _<_, _≤_}
+use Prim.Native.Nat.{ℕ, zero, suc, _+_, _*_, _≤_}
 use native.Mathlib.Omega.{arith}
 use borrow.Author.Tests.{eq-eqb, ne-eqb}
 use lib.Dec.{eqb, eqb·suc-zero}
-use lib.ListN.{length, take, drop, length-append, length-drop}
+use lib.ListN.{length, drop, length-append, length-drop}
 use lib.Seq.{take-append-le, drop-append-le}
 use Rattle.bits.specs.Byte.{pick}
 use Rattle.blocks.specs.Block.{blockWords, refusal}
 use Rattle.blocks.proofs.Refusals.{refusal-range}
-use Rattle.recordings.specs.Recording.{cut, blocksOf, joined, readWords, readNumber, readNext}
+use Rattle.recordings.specs.Recording.{blocksOf, joined, readWords, readNumber, readNext}
 use Rattle.recordings.proofs.Pieces.{blocks-cons, blocks-nil}
 use Rattle.recordings.proofs.Round.{accepted-first}
 

@@ -3,21 +3,21 @@
 use mathlib.Core.Path.{_≡_, refl, sym, ap, ap₂, _∙_}
 use mathlib.Core.Bool.{Bool, true, false}
 use mathlib.Core.List.{List, [], _∷_, _++_, append-nil, append-assoc}
-use Prim.Native.Nat.{ℕ, zero, suc, _+_, _*_, _-_, _/_, _<_, _≤_}
+use Prim.Native.Nat.{ℕ, _+_, _*_, _-_, _/_, _<_, _≤_}
 use native.Mathlib.Omega.{arith}
 use borrow.Author.Tests.{eq-eqb, ne-eqb, lt-ltb, le-ltb, ltb-true, ltb-false, eqb-true, eqb-false}
-use borrow.Rule.Slice.PartMut.{putMid, midOf, postOf}
+use borrow.Rule.Slice.PartMut.{putMid}
 use lib.Dec.{eqb, ltb}
 use lib.ListN.{length, take, drop, getD, length-append, length-take, length-drop, drop-of-length-le, take-append-drop}
-use lib.Seq.{take-all, take-take, drop-drop, getD-take, take-at, drop-at, drop-append-add, length-take-le, drop-length}
+use lib.Seq.{take-all, take-take, drop-drop, getD-take, take-at, drop-at, length-take-le}
 use Rattle.bits.specs.Byte.{pick}
-use Rattle.blocks.specs.Bytes.{Bytes, wordsOf, sum, allZero}
-use Rattle.blocks.specs.Block.{refusal, numberOf, countOf, sumOf, allWords, blockWords, unused, blockRead, placesLeft}
+use Rattle.blocks.specs.Bytes.{Bytes, wordsOf}
+use Rattle.blocks.specs.Block.{refusal, numberOf, countOf, sumOf, allWords, blockWords, blockRead, placesLeft}
 use Rattle.blocks.specs.declared.BlockRead.{BlockRead}
 use Rattle.blocks.specs.declared.BlockRead.the-variants.{Words, Refused}
-use Rattle.blocks.proofs.Refusals.{Good, good}
+use Rattle.blocks.proofs.Refusals.{good}
 use Rattle.blocks.proofs.Round.{count-words, number-small, dropped-bytes}
-use Rattle.recordings.specs.Recording.{blocksOf, readWords, readNumber, readNext, blocksRead, wordsLeft}
+use Rattle.recordings.specs.Recording.{blocksOf, readWords, readNumber, readNext}
 use Rattle.recordings.specs.declared.BlocksRead.{BlocksRead}
 use Rattle.recordings.proofs.Pieces.{blocks-cons, blocks-nil}
 

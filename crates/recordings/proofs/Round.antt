@@ -2,9 +2,8 @@
 -- Assumes nothing.
 use mathlib.Core.Path.{_≡_, refl, sym, ap, ap₂, _∙_}
 use mathlib.Core.List.{List, [], _∷_, _++_, map}
-use Prim.Native.Nat.{ℕ, zero, suc, _+_, _<_, _≤_}
+use Prim.Native.Nat.{ℕ, zero, suc, _+_, _≤_}
 use native.Mathlib.Omega.{arith}
-use native.Mathlib.Numerals.{add-one}
 use borrow.Author.Tests.{eq-eqb}
 use lib.Dec.{eqb, eqb·suc-zero}
 use lib.ListN.{length, take, drop, getD}
@@ -14,7 +13,7 @@ use Rattle.blocks.specs.Bytes.{Bytes, Words32}
 use Rattle.blocks.specs.Block.{blockOf, blockWords, refusal}
 use Rattle.blocks.proofs.Parts.{length-block}
 use Rattle.blocks.proofs.Round.{block-accepted, words-of-block, block-written, number-small, block-bytes, bytes-append, taken-bytes, dropped-bytes}
-use Rattle.recordings.specs.Recording.{cut, parts, blocksOf, joined, numbered, recordingOf, readWords, readNumber, readNext}
+use Rattle.recordings.specs.Recording.{cut, parts, blocksOf, joined, numbered, recordingOf, readWords, readNumber}
 use Rattle.recordings.proofs.Pieces.{Sized, AtMost, joined-parts, parts-at-most, cut-at-most, blocks-joined, joined-blocks}
 
 pub length-numbered : (number : ℕ) (lists : List (List ℕ)) → length (numbered number lists) ≡ length lists
@@ -39,11 +38,6 @@ pub accept-numbered : (number : ℕ) (lists : List (List ℕ)) → AtMost 126 li
 unfolding numbered readNumber
 accept-numbered number [] h = refl
 accept-numbered number (ws ∷ rest) h = rw (eq-eqb _ _ (block-accepted number ws (h 0))) (accept-numbered (number + 1) rest (λ j. h (suc j)))
-
--- a block read
-more-words : (due : ℕ) (b : List ℕ) (rest : List (List ℕ)) → refusal due b ≡ 0 → readWords due (b ∷ rest) ≡ blockWords b ++ readWords (due + 1) rest
-unfolding readWords
-more-words due b rest e = rw (eq-eqb _ _ e)
 
 -- what was written is read: the same words, and no refusal
 pub read-written : (ws : List ℕ) → (readWords 0 (blocksOf (recordingOf ws)) ≡ ws) × (readNumber 0 (blocksOf (recordingOf ws)) ≡ 0)

@@ -47,7 +47,7 @@ fn read_all(due: u32, bytes: &[u8], words: &mut [u32]) -> BlocksRead
 
 // The reader of blocks: their words to the start of the places, up to the first bad block; or 7, and nothing written, where
 // there are fewer than 126 places for each whole block.
-// Wrong answers: a block of any number taken; the words of the blocks before a bad one dropped.
+// Wrong answers: every block with the same number; the blocks read with 125 places for each.
 pub fn read_blocks(due: u32, bytes: &[u8], words: &mut [u32]) -> BlocksRead
     ensures { λ r. ⌜ (r ≡ blocksRead due (now (bytes .entry)) (now (words .entry))) × (now (words .exit) ≡ wordsLeft due (now (bytes .entry)) (now (words .entry))) ⌝ }
 {

@@ -1,14 +1,14 @@
 -- `block_replay::replay_blocks` meets its contract.
 -- Assumes nothing.
-use mathlib.Core.Path.{_≡_, sym, ap, _∙_}
+use mathlib.Core.Path.{_≡_, sym, _∙_}
 use mathlib.Core.Bool.{true}
-use Prim.Native.Nat.{_/_, _≤_}
+use Prim.Native.Nat.{_≤_}
 use native.Mathlib.Omega.{arith}
 use borrow.Author.Needs.{needs}
 use lib.ListN.{length}
 use lib.Seq.{length-take-le}
 use Rattle.well_formed.specs.WellFormed.{wellFormed}
-use Rattle.block_replay.proofs.Replaying.{gives-eight, gives-seven, size-kept, count-fits, no-room, answers-kept, text-fits, text-kept, done}
+use Rattle.block_replay.proofs.Replaying.{gives-eight, gives-seven, size-kept, count-fits, no-room, answers-kept, text-fits, done}
 use Rattle.block_replay.proofs.replay_blocks.Statement.{statement}
 use Rattle.block_replay.proofs.replay_blocks.Tie as tie
 

@@ -2,7 +2,6 @@
 -- Assumes nothing.
 use mathlib.Core.Path.{ap}
 use native.Mathlib.Omega.{arith}
-use borrow.Author.Needs.{needs}
 use lib.ListN.{length}
 use Rattle.block_replay.proofs.Replaying.{no-last, one-last}
 use Rattle.block_replay.proofs.text_length.Statement.{statement}

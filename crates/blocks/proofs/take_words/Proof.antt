@@ -3,7 +3,6 @@
 use mathlib.Core.Path.{refl, _∙_}
 use Prim.Native.Nat.{_-_, _≤_}
 use native.Mathlib.Omega.{arith}
-use borrow.Author.Needs.{needs}
 use Rattle.blocks.specs.Block.{allWords}
 use Rattle.blocks.proofs.Words.{length-all, word-of}
 use Rattle.blocks.proofs.Loops.{Taken, take-more, take-all-words}

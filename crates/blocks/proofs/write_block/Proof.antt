@@ -1,10 +1,9 @@
 -- `blocks::write_block` meets its contract.
 -- Assumes nothing.
-use mathlib.Core.Path.{_≡_, refl, sym, ap, _∙_}
+use mathlib.Core.Path.{refl, sym}
 use native.Mathlib.Omega.{arith}
 use borrow.Author.Needs.{needs}
 use borrow.Author.Tests.{lt-ltb, le-ltb, eq-eqb, ne-eqb}
-use lib.ListN.{length}
 use lib.Seq.{length-take-le}
 use Rattle.blocks.specs.Block.{writeNumber, areaLeft}
 use Rattle.blocks.proofs.Parts.{front-size, block-put}
