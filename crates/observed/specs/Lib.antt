@@ -1,0 +1,3 @@
+pub mod Levels
+pub mod Interval
+pub mod Ddc1

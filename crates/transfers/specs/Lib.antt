@@ -1,0 +1,3 @@
+pub mod Transfers
+pub mod Ports
+pub mod Altered
