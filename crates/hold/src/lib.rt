@@ -26,7 +26,7 @@ fn hold_of(phase: Phase) -> Hold
 }
 
 // The clocks of 8 µs since the chip took SCL low. An ill formed state is told before all else.
-// Wrong answers: not held told of an ill formed state; not held told of a hold; a clock more told of it.
+// Wrong answers: not held told whatever the phase is; not held told of a hold; a clock more told of it.
 pub fn held_for(c: Chip) -> Hold
     ensures { λ r. ⌜ (r ≡ holdReport c) × HoldCase c r ⌝ }
 {
