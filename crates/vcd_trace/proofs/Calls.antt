@@ -108,7 +108,7 @@ drop-all p zero xs a = a
 drop-all p (suc n) [] a = all-none
 drop-all p (suc n) (x ∷ xs) (all-more e a) = drop-all p n xs a
 
-words-drop : (n : ℕ) (xs : List Event) → words (drop n xs) ≡ drop n (words xs)
+pub words-drop : (n : ℕ) (xs : List Event) → words (drop n xs) ≡ drop n (words xs)
 unfolding words
 words-drop zero xs = refl
 words-drop (suc n) [] = refl
@@ -240,7 +240,7 @@ kept-step e rest n q room count true k = record {
 }
 kept-step e rest n q room count false k = record { grows = omega arith; past = refl; size = refl }
 
-give-keeps : (es : List Event) (n q : ℕ) (room : List ℕ) (count : ℕ) → Kept room count (give es n q room count)
+pub give-keeps : (es : List Event) (n q : ℕ) (room : List ℕ) (count : ℕ) → Kept room count (give es n q room count)
 unfolding give
 give-keeps [] n q room count = record { grows = omega arith; past = refl; size = refl }
 give-keeps (e ∷ rest) n q room count = kept-step e rest n q room count (ltb count (length room)) (give-keeps rest n q (set room count (e .word)) (count + 1))
