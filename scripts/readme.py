@@ -1,8 +1,9 @@
 #!/usr/bin/env python3
 """readme.py [PAGE]: runs the examples of README.md as they are written.
 
-In an indented block a line `$ command` is run by bash in the repository's top folder, and the lines after it are what it prints. A block
-of nothing but comments and entries of a listing is run by target/bin/vectors from a fresh chip.
+In an indented block a line `$ command` is run by bash in the repository's top folder, and the lines after it are what it prints. Where the
+last of them is a refusal, as `30 length`, it must end with status 1, else with 0. A block of nothing but comments and entries of a
+listing is run by target/bin/vectors from a fresh chip.
 """
 import pathlib
 import re
@@ -11,6 +12,7 @@ import sys
 import tempfile
 
 ENTRY = re.compile(r"#.*|(?:[0-9]{1,5}\* *)?[0-9A-Fa-f]{8} +[0-9A-Fa-f]{8}(?: .*)?")
+REFUSAL = re.compile(r"(?:3[0-6]|4[0-4]) .*")
 complaints = []
 commands = listings = 0
 page = pathlib.Path(sys.argv[1] if len(sys.argv) > 1 else "README.md")
@@ -21,7 +23,9 @@ for block in re.findall(r"(?:^    .*\n)+", page.read_text(), re.M):
             command, _, expected = part.partition("\n")
             done = subprocess.run(["bash", "-c", command], capture_output=True, text=True)
             commands += 1
-            if done.returncode != 0 or done.stdout.rstrip("\n") != expected.rstrip("\n"):
+            status = 1 if REFUSAL.fullmatch(expected.rstrip("\n").split("\n")[-1]) else 0
+            printed = done.stdout + (done.stderr if status else "")
+            if done.returncode != status or printed.rstrip("\n") != expected.rstrip("\n"):
                 complaints.append(f"'{command}' ends with status {done.returncode} and prints\n{done.stdout}{done.stderr}")
     elif all(ENTRY.fullmatch(line) for line in lines):
         with tempfile.TemporaryDirectory() as folder:

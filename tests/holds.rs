@@ -48,7 +48,7 @@ fn until_held() -> Vec<u32> {
 
 fn main() {
     let held: usize = (1..=8).map(|seed| compare(seed, 6_000)).sum();
-    assert!(held > 500, "the traffic holds SCL too seldom: {held}");
+    assert!(held > 100, "the traffic holds SCL too seldom: {held}");
     // holds of no clock, one, the last that is counted, and one more
     for clocks in [0usize, 1, 65_534, 65_535, 65_536, 70_000] {
         let mut words = until_held();
