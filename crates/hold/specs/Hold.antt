@@ -15,11 +15,11 @@ use Rattle.hold.specs.declared.Hold.the-variants.{IllFormed, NotHeld, He
 unfoldable pub holdOf : Phase → Hold
 holdOf Idle = NotHeld
 holdOf (Address count bits) = NotHeld
-holdOf (Addressed bits ninth) = NotHeld
+holdOf (Addressed matched bits ninth) = NotHeld
 holdOf Ignoring = NotHeld
-holdOf (Receive count bits) = NotHeld
-holdOf (Transmit count byte) = NotHeld
-holdOf (Held clocks) = HeldFor clocks
+holdOf (Receive matched count bits) = NotHeld
+holdOf (Transmit matched count byte) = NotHeld
+holdOf (Held matched clocks) = HeldFor clocks
 
 -- an ill formed state is told before all else
 unfoldable pub holdReport : Chip → Hold

@@ -73,30 +73,30 @@ phase-at-rise own sda (Address count bits) t =
     pick-by Fits (ltb count 7)
     (λ e. let few = ltb-true count 7 e in and-both _ _ (lt-ltb (count + 1) 8 (omega arith)) (gathers count bits sda (omega arith) (both (ltb count 8) (gatheredFits count bits) t .1)))
     (λ _. addressed-fits own (gathered bits sda) (gathered-byte bits sda))
-phase-at-rise own sda (Addressed bits ninth) t = t
+phase-at-rise own sda (Addressed matched bits ninth) t = t
 phase-at-rise own sda Ignoring t = refl
-phase-at-rise own sda (Receive count bits) t =
+phase-at-rise own sda (Receive matched count bits) t =
     pick-by Fits (ltb count 8)
     (λ e. let few = ltb-true count 8 e in and-both _ _ (lt-ltb (count + 1) 11 (omega arith)) (gathers count bits sda few (both (ltb count 11) (gatheredFits count bits) t .1)))
     (λ _. t)
-phase-at-rise own sda (Transmit count byte) t = pick-by Fits (eqb count 9) (λ _. refl) (λ _. t)
-phase-at-rise own sda (Held clocks) t = refl
+phase-at-rise own sda (Transmit matched count byte) t = pick-by Fits (eqb count 9) (λ _. refl) (λ _. t)
+phase-at-rise own sda (Held matched clocks) t = refl
 
 phase-at-fall : (status : ℕ) (p : Phase) → Fits p → Fits (phaseAtFall status p)
 unfolding phaseAtFall phaseFits
 phase-at-fall status Idle t = refl
 phase-at-fall status (Address count bits) t = t
-phase-at-fall status (Addressed bits ninth) t = pick-by Fits ninth (λ _. refl) (λ _. t)
+phase-at-fall status (Addressed matched bits ninth) t = pick-by Fits ninth (λ _. refl) (λ _. t)
 phase-at-fall status Ignoring t = refl
-phase-at-fall status (Receive count bits) t =
+phase-at-fall status (Receive matched count bits) t =
     pick-by Fits (ltb 8 count)
     (λ _. refl)
     (λ _. pick-by Fits (eqb count 8) (λ e. let eight = both (ltb count 11) (gatheredFits count bits) t .1 in ninth-fits status bits (rw (eqb-true count 8 e) at eight)) (λ _. t))
-phase-at-fall status (Transmit count byte) t =
+phase-at-fall status (Transmit matched count byte) t =
     pick-by Fits (ltb count 9)
     (λ e. and-both _ _ (lt-ltb 0 (count + 1) (omega arith)) (lt-ltb (count + 1) 11 (omega (arith, ltb-true count 9 e))))
     (λ _. pick-by Fits (eqb count 10) (λ _. refl) (λ _. t))
-phase-at-fall status (Held clocks) t = refl
+phase-at-fall status (Held matched clocks) t = refl
 
 phase-let-go : (trx : Bool) (byte : ℕ) → Fits (phaseLetGo trx byte)
 unfolding phaseFits gatheredFits
@@ -125,21 +125,21 @@ status-bit : (sda : Bool) (p : Phase) (status : ℕ) → bit 3 (statusAtRise sda
 unfolding statusAtRise
 status-bit sda Idle status = refl
 status-bit sda (Address count bits) status = refl
-status-bit sda (Addressed bits ninth) status = refl
+status-bit sda (Addressed matched bits ninth) status = refl
 status-bit sda Ignoring status = refl
-status-bit sda (Receive count bits) status = refl
-status-bit sda (Transmit count byte) status = pick-by (λ (n : ℕ). bit 3 n ≡ bit 3 status) (eqb count 9) (λ _. rxak-bit status sda) (λ _. refl)
-status-bit sda (Held clocks) status = refl
+status-bit sda (Receive matched count bits) status = refl
+status-bit sda (Transmit matched count byte) status = pick-by (λ (n : ℕ). bit 3 n ≡ bit 3 status) (eqb count 9) (λ _. rxak-bit status sda) (λ _. refl)
+status-bit sda (Held matched clocks) status = refl
 
 status-lt : (sda : Bool) (p : Phase) (status : ℕ) → status < 64 → statusAtRise sda p status < 64
 unfolding statusAtRise
 status-lt sda Idle status h = h
 status-lt sda (Address count bits) status h = h
-status-lt sda (Addressed bits ninth) status h = h
+status-lt sda (Addressed matched bits ninth) status h = h
 status-lt sda Ignoring status h = h
-status-lt sda (Receive count bits) status h = h
-status-lt sda (Transmit count byte) status h = pick-below (eqb count 9) _ _ 64 (with-bit-below 6 status 1 sda (omega arith) h) h
-status-lt sda (Held clocks) status h = h
+status-lt sda (Receive matched count bits) status h = h
+status-lt sda (Transmit matched count byte) status h = pick-below (eqb count 9) _ _ 64 (with-bit-below 6 status 1 sda (omega arith) h) h
+status-lt sda (Held matched clocks) status h = h
 
 -- modes that do not differ by their number are the same
 mode-same : (old new : Mode) → changesMode old new ≡ false → old ≡ new
@@ -224,11 +224,11 @@ idle-lets-go : (p : Phase) → isIdle p ≡ true → pullsScl p ≡ false
 unfolding isIdle pullsScl
 idle-lets-go Idle t = refl
 idle-lets-go (Address count bits) t = refl
-idle-lets-go (Addressed bits ninth) t = refl
+idle-lets-go (Addressed matched bits ninth) t = refl
 idle-lets-go Ignoring t = refl
-idle-lets-go (Receive count bits) t = refl
-idle-lets-go (Transmit count byte) t = refl
-idle-lets-go (Held clocks) t = absurd (impossible t)
+idle-lets-go (Receive matched count bits) t = refl
+idle-lets-go (Transmit matched count byte) t = refl
+idle-lets-go (Held matched clocks) t = absurd (impossible t)
 
 -- so SCL is held in DDC2B alone
 pub held-in-ddc2b : (m : Mode) (p : Phase) (s : Shifter) → busFits m p s ≡ true → pullsScl p ≡ true → m ≡ Ddc2b
@@ -243,21 +243,21 @@ period-idle : (p : Phase) → isIdle (phaseAtPeriod p) ≡ isIdle p
 unfolding phaseAtPeriod isIdle
 period-idle Idle = refl
 period-idle (Address count bits) = refl
-period-idle (Addressed bits ninth) = refl
+period-idle (Addressed matched bits ninth) = refl
 period-idle Ignoring = refl
-period-idle (Receive count bits) = refl
-period-idle (Transmit count byte) = refl
-period-idle (Held clocks) = refl
+period-idle (Receive matched count bits) = refl
+period-idle (Transmit matched count byte) = refl
+period-idle (Held matched clocks) = refl
 
 period-phase : (p : Phase) → phaseFits (phaseAtPeriod p) ≡ phaseFits p
 unfolding phaseAtPeriod phaseFits
 period-phase Idle = refl
 period-phase (Address count bits) = refl
-period-phase (Addressed bits ninth) = refl
+period-phase (Addressed matched bits ninth) = refl
 period-phase Ignoring = refl
-period-phase (Receive count bits) = refl
-period-phase (Transmit count byte) = refl
-period-phase (Held clocks) = refl
+period-phase (Receive matched count bits) = refl
+period-phase (Transmit matched count byte) = refl
+period-phase (Held matched clocks) = refl
 
 period-fits : (m : Mode) (p : Phase) (s : Shifter) → busFits m (phaseAtPeriod p) s ≡ busFits m p s
 unfolding busFits

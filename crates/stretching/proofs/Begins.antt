@@ -51,9 +51,9 @@ free-rise own sda Idle h = refl
 free-rise own sda (Address count bits) h = pick-by Free (ltb count 7) (λ _. refl) (λ _. pick-by Free (matches own (gathered bits sda)) (λ _. refl) (λ _. refl))
 free-rise own sda (OwnAddress bits ninth) h = refl
 free-rise own sda Ignoring h = refl
-free-rise own sda (Receive count bits) h = pick-by Free (ltb count 8) (λ _. refl) (λ _. refl)
-free-rise own sda (Transmit count byte) h = pick-by Free (eqb count 9) (λ _. refl) (λ _. refl)
-free-rise own sda (Held clocks) h = h
+free-rise own sda (Receive matched count bits) h = pick-by Free (ltb count 8) (λ _. refl) (λ _. refl)
+free-rise own sda (Transmit matched count byte) h = pick-by Free (eqb count 9) (λ _. refl) (λ _. refl)
+free-rise own sda (Held matched clocks) h = h
 
 free-period : (p : Phase) → Free p → Free (phaseAtPeriod p)
 unfolding phaseAtPeriod pullsScl
@@ -61,9 +61,9 @@ free-period Idle h = refl
 free-period (Address count bits) h = refl
 free-period (OwnAddress bits ninth) h = refl
 free-period Ignoring h = refl
-free-period (Receive count bits) h = refl
-free-period (Transmit count byte) h = refl
-free-period (Held clocks) h = h
+free-period (Receive matched count bits) h = refl
+free-period (Transmit matched count byte) h = refl
+free-period (Held matched clocks) h = h
 
 -- a fall of SCL takes it low where a ninth clock runs
 pick-false : (t : Bool) (x y : Phase) → pullsScl x ≡ true → pullsScl y ≡ false → pullsScl (pick t x y) ≡ t
@@ -71,7 +71,7 @@ pick-false true x y h k = h
 pick-false false x y h k = k
 
 transmit-falls : (few ten : Bool) (count byte : ℕ) → ltb count 9 ≡ few → eqb count 10 ≡ ten →
-    pullsScl (pick few (Transmit (count + 1) byte) (pick ten (Held 0) (Transmit count byte))) ≡ ten
+    pullsScl (pick few (Transmit (count + 1) byte) (pick ten (Held 0) (Transmit matched count byte))) ≡ ten
 unfolding pullsScl
 transmit-falls true true count byte f t = clash (ltb count 9) f (rw (eqb-true count 10 t))
 transmit-falls true false count byte f t = refl
@@ -84,16 +84,16 @@ fall-takes status Idle h = refl
 fall-takes status (Address count bits) h = refl
 fall-takes status (OwnAddress bits ninth) h = pick-false ninth _ _ refl refl
 fall-takes status Ignoring h = refl
-fall-takes status (Receive count bits) h = pick-false (ltb 8 count) _ _ refl (pick-by Free (eqb count 8) (λ _. refl) (λ _. refl))
-fall-takes status (Transmit count byte) h = transmit-falls (ltb count 9) (eqb count 10) count byte refl refl
-fall-takes status (Held clocks) h = clash _ refl h
+fall-takes status (Receive matched count bits) h = pick-false (ltb 8 count) _ _ refl (pick-by Free (eqb count 8) (λ _. refl) (λ _. refl))
+fall-takes status (Transmit matched count byte) h = transmit-falls (ltb count 9) (eqb count 10) count byte refl refl
+fall-takes status (Held matched clocks) h = clash _ refl h
 
 -- and the count is 0 then
 pick-true : (t : Bool) (x y : Phase) → t ≡ true → pick t x y ≡ x
 pick-true t x y h = rw h
 
 transmit-zero : (few : Bool) (count byte : ℕ) → ltb count 9 ≡ few → eqb count 10 ≡ true →
-    pick few (Transmit (count + 1) byte) (pick (eqb count 10) (Held 0) (Transmit count byte)) ≡ Held 0
+    pick few (Transmit (count + 1) byte) (pick (eqb count 10) (Held 0) (Transmit matched count byte)) ≡ Held 0
 transmit-zero true count byte f t = clash (ltb count 9) f (rw (eqb-true count 10 t))
 transmit-zero false count byte f t = rw t
 
@@ -103,9 +103,9 @@ fall-zero status Idle h = clash _ h refl
 fall-zero status (Address count bits) h = clash _ h refl
 fall-zero status (OwnAddress bits ninth) h = pick-true ninth _ _ h
 fall-zero status Ignoring h = clash _ h refl
-fall-zero status (Receive count bits) h = pick-true (ltb 8 count) _ _ h
-fall-zero status (Transmit count byte) h = transmit-zero (ltb count 9) count byte refl h
-fall-zero status (Held clocks) h = clash _ h refl
+fall-zero status (Receive matched count bits) h = pick-true (ltb 8 count) _ _ h
+fall-zero status (Transmit matched count byte) h = transmit-zero (ltb count 9) count byte refl h
+fall-zero status (Held matched clocks) h = clash _ h refl
 
 -- ---- writes: none takes SCL low
 

@@ -209,11 +209,11 @@ held-as : (p : Phase) → pullsScl p ≡ true → (n : ℕ) × (p ≡ Held n)
 unfolding pullsScl
 held-as Idle h = clash _ h refl
 held-as (Address count bits) h = clash _ h refl
-held-as (Addressed bits ninth) h = clash _ h refl
+held-as (Addressed matched bits ninth) h = clash _ h refl
 held-as Ignoring h = clash _ h refl
-held-as (Receive count bits) h = clash _ h refl
-held-as (Transmit count byte) h = clash _ h refl
-held-as (Held clocks) h = (clocks, refl)
+held-as (Receive matched count bits) h = clash _ h refl
+held-as (Transmit matched count byte) h = clash _ h refl
+held-as (Held matched clocks) h = (clocks, refl)
 
 -- while SCL is held it cannot be taken again: the line does not fall
 not-taken : (n : ℕ) (c : Chip) (e : Decoded) → HeldFor n c → takesScl c e ≡ false

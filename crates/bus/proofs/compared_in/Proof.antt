@@ -1,13 +1,13 @@
--- `ddc2b::holds_at_fall` meets its contract.
+-- `bus::compared_in` meets its contract.
 -- Assumes nothing.
-use Rattle.ddc2b.specs.Ddc2b.{holdsAtFall}
+use Rattle.bus.specs.Bus.{comparedIn}
 use borrow.Author.Needs.{needs}
-use Rattle.ddc2b.proofs.holds_at_fall.Statement.{statement}
-use Rattle.ddc2b.proofs.holds_at_fall.Tie as tie
+use Rattle.bus.proofs.compared_in.Statement.{statement}
+use Rattle.bus.proofs.compared_in.Tie as tie
 
-pub holds-at-fall-spec : {M : Type 1} → statement M
-unfolding holdsAtFall
-holds-at-fall-spec =
+pub compared-in-spec : {M : Type 1} → statement M
+unfolding comparedIn
+compared-in-spec =
     tie.close
     (tie.spec
     (λ c. search needs)
@@ -23,4 +23,4 @@ holds-at-fall-spec =
     (λ c. simp (c .enum-told3 .given .1))
     (λ c. simp (c .before .phase2 .given .1))
     (λ c. simp (c .before .phase3 .given .1))
-    (λ c. simp (c .enum-told4 .given .1)))
+    (λ c. simp (c .before .phase4 .given .1)))
