@@ -153,9 +153,12 @@ abbrev pub calledBy : {trx : Bool} (c : Chip) → Holding trx c → OwnAddress
 calledBy c h = held-own (c .core .bus .phase) (h .held) .0
 
 module _ (c : Chip) {trx : Bool} (h : Holding trx c) (byte : ℕ) where
-  pub let-go : At (begun (calledBy c h) trx byte) (c .core .bus .iists) (updated IIDAT (c .core .bus .iidat) byte) false (c .core .sda) (next c (Write IIDAT byte) .core)
+  let-go-by : (m : OwnAddress) → comparedIn (c .core .bus .phase) ≡ Own m → At (begun m trx byte) (c .core .bus .iists) (updated IIDAT (c .core .bus .iidat) byte) false (c .core .sda) (next c (Write IIDAT byte) .core)
   unfolding next coreAfter writeRegister written target writtenTo iidatWritten busAtIidat busRisen isWritable rowOf mode bit
-  let-go =
+  let-go-by m called =
       let bits = mode-bits (bit 3 (c .core .bus .iists)) (bit 0 (c .core .mdcon)) (h .ddc2b) in
       let direction : bit TRX (c .core .bus .iists) ≡ trx = sym (status-shown c TRX (h .reset) refl) ∙ h .direction in
-      rw (h .reset, h .held, h .low, direction, held-own (c .core .bus .phase) (h .held) .1, begun-is (calledBy c h) trx byte) (record { reset = refl; enddc = bits .0; md = bits .1; phase = refl; iists = refl; iidat = refl; scl = refl; sda = refl })
+      rw (h .reset, h .held, h .low, direction, called, begun-is m trx byte) (record { reset = refl; enddc = bits .0; md = bits .1; phase = refl; iists = refl; iidat = refl; scl = refl; sda = refl })
+
+  pub let-go : At (begun (calledBy c h) trx byte) (c .core .bus .iists) (updated IIDAT (c .core .bus .iidat) byte) false (c .core .sda) (next c (Write IIDAT byte) .core)
+  let-go = let-go-by (calledBy c h) (held-own (c .core .bus .phase) (h .held) .1)
