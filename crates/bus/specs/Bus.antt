@@ -9,6 +9,9 @@ use Rattle.bus.specs.declared.Mode.the-variants.{Off, Ddc1, Ddc2b}
 use Rattle.bus.specs.declared.Edge.{Edge}
 use Rattle.bus.specs.declared.Edge.the-variants.{Flat, Rise, Fall}
 use Rattle.bus.specs.declared.Shifter.{Shifter}
+use Rattle.bus.specs.declared.OwnAddress.{OwnAddress}
+use Rattle.bus.specs.declared.Comparison.{Comparison}
+use Rattle.bus.specs.declared.Comparison.the-variants.{None, Own}
 use Rattle.bus.specs.declared.Phase.{Phase}
 use Rattle.bus.specs.declared.Phase.the-variants.{Idle, Address, Addressed, Ignoring, Receive, Transmit, Held}
 
@@ -51,21 +54,21 @@ pullsAtBit count byte = pick (ltb count 9) (not (bit ((8 - count) % 8) byte)) fa
 unfoldable pub pullsSda : Phase → Bool
 pullsSda Idle = false
 pullsSda (Address count bits) = false
-pullsSda (Addressed bits ninth) = ninth
+pullsSda (Addressed matched bits ninth) = ninth
 pullsSda Ignoring = false
-pullsSda (Receive count bits) = eqb count 9
-pullsSda (Transmit count byte) = pullsAtBit count byte
-pullsSda (Held clocks) = false
+pullsSda (Receive matched count bits) = eqb count 9
+pullsSda (Transmit matched count byte) = pullsAtBit count byte
+pullsSda (Held matched clocks) = false
 
 -- the SCL line pulled by the phase: the chip holds the clock
 unfoldable pub pullsScl : Phase → Bool
 pullsScl Idle = false
 pullsScl (Address count bits) = false
-pullsScl (Addressed bits ninth) = false
+pullsScl (Addressed matched bits ninth) = false
 pullsScl Ignoring = false
-pullsScl (Receive count bits) = false
-pullsScl (Transmit count byte) = false
-pullsScl (Held clocks) = true
+pullsScl (Receive matched count bits) = false
+pullsScl (Transmit matched count byte) = false
+pullsScl (Held matched clocks) = true
 
 -- SDA pulled: with DDC off never; in DDC1 while the shift register's top bit is 0; in DDC2B as the phase says
 unfoldable pub sdaPulled : Mode → Phase → Shifter → Bool
@@ -78,3 +81,19 @@ unfoldable pub sclPulled : Mode → Phase → Bool
 sclPulled Off phase = false
 sclPulled Ddc1 phase = false
 sclPulled Ddc2b phase = pullsScl phase
+
+-- the address was one of the chip's
+abbrev pub isOwn : Comparison → Bool
+isOwn None = false
+isOwn (Own matched) = true
+
+-- the outcome that the state keeps for the current transfer (document 02, Wish 12): none outside an address of eight bits, receive,
+-- transmit and held, one of the three inside. No state can be written that keeps another
+unfoldable pub comparedIn : Phase → Comparison
+comparedIn Idle = None
+comparedIn (Address count bits) = None
+comparedIn (Addressed matched bits ninth) = Own matched
+comparedIn Ignoring = None
+comparedIn (Receive matched count bits) = Own matched
+comparedIn (Transmit matched count byte) = Own matched
+comparedIn (Held matched clocks) = Own matched

@@ -1,6 +1,6 @@
 // The bus: modes, edges of lines, the phases of a transfer, what the chip pulls, and the shift register of DDC1.
 ghost use mathlib.Core.Path.{_≡_};
-ghost use Rattle.bus.specs.Bus.{edge, mode, modeNumber, changesMode, line, pullsAtBit, pullsSda, pullsScl, sdaPulled, sclPulled};
+ghost use Rattle.bus.specs.Bus.{edge, mode, modeNumber, changesMode, line, pullsAtBit, pullsSda, pullsScl, sdaPulled, sclPulled, comparedIn};
 ghost use Rattle.bus.specs.Ddc1.{loadsAtRise, shifterAtRise};
 use registers::ENDDC;
 use registers::MD12;
@@ -19,19 +19,51 @@ pub enum Edge {
     Fall,
 }
 
+// Which of the chip's two addresses a matched one was: A0H, that of II ADR, or both where the two are the same.
+pub enum OwnAddress {
+    A0,
+    IiAdr,
+    Both,
+}
+
+// What comparing an address with the chip's two gives (document 02, Wish 12).
+pub enum Comparison {
+    None,
+    Own(OwnAddress),
+}
+
 // The phase of the bus (document 01, "The forms we expect"). An address gathers up to seven bits; with its eighth it is the chip's
 // own, `Addressed`, or the bus is ignored. `ninth`: the eighth fall has pulled SDA, and the ninth clock runs. A receive counts the
 // bits gathered, 0 to 8; in the ninth clock it stands at 9 where SDA is pulled (ACK) and at 10 where it is released (NACK). A
 // transmit counts the bits put out, 1 to 8; at 9 the acknowledge is awaited and at 10 it has been taken. `Held`: the chip holds SCL
-// low (clock stretching), for so many clocks of 8 µs.
+// low (clock stretching), for so many clocks of 8 µs. The phases of a transfer with the chip, and no others, keep which of its
+// addresses it was called by; it stands first, so that all have it in one place.
 pub enum Phase {
     Idle,
-    Address { count: u8, bits: u8 },
-    Addressed { bits: u8, ninth: bool },
+    Address {
+        count: u8,
+        bits: u8,
+    },
+    Addressed {
+        matched: OwnAddress,
+        bits: u8,
+        ninth: bool,
+    },
     Ignoring,
-    Receive { count: u8, bits: u8 },
-    Transmit { count: u8, byte: u8 },
-    Held { clocks: u16 },
+    Receive {
+        matched: OwnAddress,
+        count: u8,
+        bits: u8,
+    },
+    Transmit {
+        matched: OwnAddress,
+        count: u8,
+        byte: u8,
+    },
+    Held {
+        matched: OwnAddress,
+        clocks: u16,
+    },
 }
 
 // The shift register of DDC1, and the rises of VSYNCI left before the next load.
@@ -113,11 +145,26 @@ pub fn pulls_sda(phase: Phase) -> bool
     match phase {
         Phase::Idle => false,
         Phase::Address { count: _, bits: _ } => false,
-        Phase::Addressed { bits: _, ninth } => ninth,
+        Phase::Addressed {
+            matched: _,
+            bits: _,
+            ninth,
+        } => ninth,
         Phase::Ignoring => false,
-        Phase::Receive { count, bits: _ } => count == 9,
-        Phase::Transmit { count, byte } => pulls_at_bit(count, byte),
-        Phase::Held { clocks: _ } => false,
+        Phase::Receive {
+            matched: _,
+            count,
+            bits: _,
+        } => count == 9,
+        Phase::Transmit {
+            matched: _,
+            count,
+            byte,
+        } => pulls_at_bit(count, byte),
+        Phase::Held {
+            matched: _,
+            clocks: _,
+        } => false,
     }
 }
 
@@ -129,11 +176,54 @@ pub fn pulls_scl(phase: Phase) -> bool
     match phase {
         Phase::Idle => false,
         Phase::Address { count: _, bits: _ } => false,
-        Phase::Addressed { bits: _, ninth: _ } => false,
+        Phase::Addressed {
+            matched: _,
+            bits: _,
+            ninth: _,
+        } => false,
         Phase::Ignoring => false,
-        Phase::Receive { count: _, bits: _ } => false,
-        Phase::Transmit { count: _, byte: _ } => false,
-        Phase::Held { clocks: _ } => true,
+        Phase::Receive {
+            matched: _,
+            count: _,
+            bits: _,
+        } => false,
+        Phase::Transmit {
+            matched: _,
+            count: _,
+            byte: _,
+        } => false,
+        Phase::Held {
+            matched: _,
+            clocks: _,
+        } => true,
+    }
+}
+
+// The outcome of the comparison that the phase keeps.
+// Wrong answers: none while SCL is held; none in a transmit.
+pub fn compared_in(phase: Phase) -> Comparison
+    ensures { λ r. ⌜ r ≡ comparedIn phase ⌝ }
+{
+    match phase {
+        Phase::Idle => Comparison::None,
+        Phase::Address { count: _, bits: _ } => Comparison::None,
+        Phase::Addressed {
+            matched,
+            bits: _,
+            ninth: _,
+        } => Comparison::Own(matched),
+        Phase::Ignoring => Comparison::None,
+        Phase::Receive {
+            matched,
+            count: _,
+            bits: _,
+        } => Comparison::Own(matched),
+        Phase::Transmit {
+            matched,
+            count: _,
+            byte: _,
+        } => Comparison::Own(matched),
+        Phase::Held { matched, clocks: _ } => Comparison::Own(matched),
     }
 }
 

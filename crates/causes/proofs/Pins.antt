@@ -72,21 +72,21 @@ hit-is own sda (Address count bits) = pick-and (ltb count 7) (matches own (gathe
     pick-and : (a b : Bool) → pick a false b ≡ (not a && b)
     pick-and true b = refl
     pick-and false b = refl
-hit-is own sda (Addressed bits ninth) = refl
+hit-is own sda (Addressed matched bits ninth) = refl
 hit-is own sda Ignoring = refl
-hit-is own sda (Receive count bits) = refl
-hit-is own sda (Transmit count byte) = refl
-hit-is own sda (Held clocks) = refl
+hit-is own sda (Receive matched count bits) = refl
+hit-is own sda (Transmit matched count byte) = refl
+hit-is own sda (Held matched clocks) = refl
 
 ninth-is : (p : Phase) → holdsAtFall p ≡ inNinthClock p
 unfolding holdsAtFall
 ninth-is Idle = refl
 ninth-is (Address count bits) = refl
-ninth-is (Addressed bits ninth) = refl
+ninth-is (Addressed matched bits ninth) = refl
 ninth-is Ignoring = refl
-ninth-is (Receive count bits) = refl
-ninth-is (Transmit count byte) = refl
-ninth-is (Held clocks) = refl
+ninth-is (Receive matched count bits) = refl
+ninth-is (Transmit matched count byte) = refl
+ninth-is (Held matched clocks) = refl
 
 abbrev hits : Core → Bool
 hits c = completesMatch (c .bus .iiadr) (line (pullsSda (c .bus .phase)) (c .sda)) (c .bus .phase)

@@ -104,21 +104,21 @@ fallsScl c e = putLow pin.SCL e && (c .core .reset && (c .core .scl && sclFree c
 abbrev pub completesMatch : ℕ → Bool → Phase → Bool
 completesMatch own sda Idle = false
 completesMatch own sda (Address count bits) = not (ltb count 7) && matches own (gathered bits sda)
-completesMatch own sda (Addressed bits ninth) = false
+completesMatch own sda (Addressed matched bits ninth) = false
 completesMatch own sda Ignoring = false
-completesMatch own sda (Receive count bits) = false
-completesMatch own sda (Transmit count byte) = false
-completesMatch own sda (Held clocks) = false
+completesMatch own sda (Receive matched count bits) = false
+completesMatch own sda (Transmit matched count byte) = false
+completesMatch own sda (Held matched clocks) = false
 
 -- the ninth clock of a byte runs, acknowledged or not, or the acknowledge of a transmit was taken: the next fall ends it
 abbrev pub inNinthClock : Phase → Bool
 inNinthClock Idle = false
 inNinthClock (Address count bits) = false
-inNinthClock (Addressed bits ninth) = ninth
+inNinthClock (Addressed matched bits ninth) = ninth
 inNinthClock Ignoring = false
-inNinthClock (Receive count bits) = ltb 8 count
-inNinthClock (Transmit count byte) = eqb count 10
-inNinthClock (Held clocks) = false
+inNinthClock (Receive matched count bits) = ltb 8 count
+inNinthClock (Transmit matched count byte) = eqb count 10
+inNinthClock (Held matched clocks) = false
 
 -- ---- causes
 

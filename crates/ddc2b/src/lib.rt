@@ -1,17 +1,59 @@
 // DDC2B: the phases of a transfer. What each edge of the SCL line does to the phase, to II DAT, to RXAK and to the flags.
+ghost use mathlib.Core.Bool.{true, false};
 ghost use mathlib.Core.Path.{_≡_};
+ghost use Rattle.bits.specs.Byte.{weightIf};
+ghost use Rattle.registers.specs.Names.{INTA};
+ghost use Rattle.bus.specs.declared.Comparison.{Comparison};
 ghost use Rattle.bus.specs.declared.Phase.{Phase};
-ghost use Rattle.ddc2b.specs.Ddc2b.{matches as matchesOf, gathered as gatheredBits, addressed as addressedOf, phaseAtRise, dataAtRise, matchesAtRise, statusAtRise, holdsAtFall, acknowledges as acknowledgesOf, ninthClock, phaseAtFall, heldLonger, phaseAtPeriod, phaseLetGo};
+ghost use Rattle.bus.specs.Bus.{isOwn};
+ghost use Rattle.ddc2b.specs.Ddc2b.{comparison as comparisonOf, compared as comparedOf, gathered as gatheredBits, addressed, risen, atRise, acknowledges as acknowledgesOf, ninthClock, fallen, atFall, heldLonger, phaseAtPeriod, phaseLetGo};
+use bus::Comparison;
+use bus::OwnAddress;
 use bus::Phase;
+use registers::INTA;
+use registers::INTD;
+use registers::INTS;
 use registers::RXAK;
 use registers::TXAK;
 
-// An address is the chip's own by A0H or by II ADR, the direction bit left aside.
-// Wrong answers: A2H taken for A0H; the direction bit compared.
-pub fn matches(own: u8, byte: u8) -> bool
-    ensures { λ r. ⌜ r ≡ matchesOf own byte ⌝ }
+// All that a rise of the SCL line moves: II STS, II DAT, the phase, and the flags that are set.
+pub struct Risen {
+    pub phase: Phase,
+    pub iists: u8,
+    pub iidat: u8,
+    pub flags: u8,
+}
+
+// All that a fall of the SCL line moves: the phase, and the flags that are set.
+pub struct Fallen {
+    pub phase: Phase,
+    pub flags: u8,
+}
+
+fn comparison(a0: bool, own: bool) -> Comparison
+    ensures { λ r. ⌜ r ≡ comparisonOf a0 own ⌝ }
 {
-    (byte / 2 % 128 == 80) | (byte / 2 % 128 == own / 2 % 128)
+    if a0 {
+        if own {
+            Comparison::Own(OwnAddress::Both)
+        } else {
+            Comparison::Own(OwnAddress::A0)
+        }
+    } else {
+        if own {
+            Comparison::Own(OwnAddress::IiAdr)
+        } else {
+            Comparison::None
+        }
+    }
+}
+
+// Which of the chip's addresses this is, A0H or that of II ADR, the direction bit left aside.
+// Wrong answers: A2H taken for A0H; the direction bit compared.
+pub fn compared(own: u8, byte: u8) -> Comparison
+    ensures { λ r. ⌜ r ≡ comparedOf own byte ⌝ }
+{
+    comparison(byte / 2 % 128 == 80, byte / 2 % 128 == own / 2 % 128)
 }
 
 // The bits gathered with SDA entering lowest.
@@ -23,159 +65,161 @@ pub fn gathered(bits: u8, sda: bool) -> u8
     if sda { shifted + 1 } else { shifted }
 }
 
-fn addressed(own: u8, byte: u8) -> Phase
-    ensures { λ r. ⌜ r ≡ addressedOf own byte ⌝ }
+fn address_completed(outcome: Comparison, iists: u8, byte: u8) -> Risen
+    ensures { λ r. ⌜ r ≡ risen (addressed outcome byte) iists byte (weightIf (isOwn outcome) INTA) ⌝ }
 {
-    if matches(own, byte) {
-        Phase::Addressed {
-            bits: byte,
-            ninth: false,
-        }
-    } else {
-        Phase::Ignoring
+    match outcome {
+        Comparison::None => Risen {
+            phase: Phase::Ignoring,
+            iists: iists,
+            iidat: byte,
+            flags: 0,
+        },
+        Comparison::Own(matched) => Risen {
+            phase: Phase::Addressed {
+                matched: matched,
+                bits: byte,
+                ninth: false,
+            },
+            iists: iists,
+            iidat: byte,
+            flags: 1 << INTA,
+        },
     }
 }
 
-fn address_at_rise(own: u8, sda: bool, count: u8, bits: u8) -> Phase
-    ensures { λ r. ⌜ r ≡ phaseAtRise own sda (Phase.Address count bits) ⌝ }
+fn address_at_rise(own: u8, sda: bool, iists: u8, iidat: u8, count: u8, bits: u8) -> Risen
+    ensures { λ r. ⌜ r ≡ atRise own sda iists iidat (Phase.Address count bits) ⌝ }
 {
+    let byte = gathered(bits, sda);
     if count < 7 {
-        Phase::Address {
-            count: count + 1,
-            bits: gathered(bits, sda),
+        Risen {
+            phase: Phase::Address {
+                count: count + 1,
+                bits: byte,
+            },
+            iists: iists,
+            iidat: iidat,
+            flags: 0,
         }
     } else {
-        addressed(own, gathered(bits, sda))
+        address_completed(compared(own, byte), iists, byte)
     }
 }
 
-fn receive_at_rise(own: u8, sda: bool, count: u8, bits: u8) -> Phase
-    ensures { λ r. ⌜ r ≡ phaseAtRise own sda (Phase.Receive count bits) ⌝ }
+fn receive_at_rise(
+    own: u8,
+    sda: bool,
+    iists: u8,
+    iidat: u8,
+    matched: OwnAddress,
+    count: u8,
+    bits: u8,
+) -> Risen
+    ensures { λ r. ⌜ r ≡ atRise own sda iists iidat (Phase.Receive matched count bits) ⌝ }
 {
     if count < 8 {
-        Phase::Receive {
-            count: count + 1,
-            bits: gathered(bits, sda),
+        let byte = gathered(bits, sda);
+        Risen {
+            phase: Phase::Receive {
+                matched: matched,
+                count: count + 1,
+                bits: byte,
+            },
+            iists: iists,
+            iidat: if count == 7 { byte } else { iidat },
+            flags: 0,
         }
     } else {
-        Phase::Receive {
-            count: count,
-            bits: bits,
+        Risen {
+            phase: Phase::Receive {
+                matched: matched,
+                count: count,
+                bits: bits,
+            },
+            iists: iists,
+            iidat: iidat,
+            flags: 0,
         }
     }
 }
 
-fn transmit_at_rise(own: u8, sda: bool, count: u8, byte: u8) -> Phase
-    ensures { λ r. ⌜ r ≡ phaseAtRise own sda (Phase.Transmit count byte) ⌝ }
+fn transmit_at_rise(
+    own: u8,
+    sda: bool,
+    iists: u8,
+    iidat: u8,
+    matched: OwnAddress,
+    count: u8,
+    byte: u8,
+) -> Risen
+    ensures { λ r. ⌜ r ≡ atRise own sda iists iidat (Phase.Transmit matched count byte) ⌝ }
 {
     if count == 9 {
-        Phase::Transmit {
-            count: 10,
-            byte: byte,
+        Risen {
+            phase: Phase::Transmit {
+                matched: matched,
+                count: 10,
+                byte: byte,
+            },
+            iists: bits::with_bit(iists, RXAK, sda),
+            iidat: iidat,
+            flags: 0,
         }
     } else {
+        Risen {
+            phase: Phase::Transmit {
+                matched: matched,
+                count: count,
+                byte: byte,
+            },
+            iists: iists,
+            iidat: iidat,
+            flags: 0,
+        }
+    }
+}
+
+fn unmoved(phase: Phase, iists: u8, iidat: u8) -> Risen
+    ensures { λ r. ⌜ r ≡ risen phase iists iidat 0 ⌝ }
+{
+    Risen {
+        phase: phase,
+        iists: iists,
+        iidat: iidat,
+        flags: 0,
+    }
+}
+
+// A rise of the SCL line, at the SDA line's level, with II ADR as `own`: an address and a receive gather SDA, a transmit takes RXAK.
+// Wrong answers: an address decided at the seventh rise; a foreign address kept in the address phase; the bits so far put in II DAT
+// at each rise; II DAT kept at an address; flag A for a foreign address; RXAK taken at each bit put out; RXAK taken inverted.
+pub fn at_rise(own: u8, sda: bool, iists: u8, iidat: u8, phase: Phase) -> Risen
+    ensures { λ r. ⌜ r ≡ atRise own sda iists iidat phase ⌝ }
+{
+    match phase {
+        Phase::Idle => unmoved(phase, iists, iidat),
+        Phase::Address { count, bits } => address_at_rise(own, sda, iists, iidat, count, bits),
+        Phase::Addressed {
+            matched: _,
+            bits: _,
+            ninth: _,
+        } => unmoved(phase, iists, iidat),
+        Phase::Ignoring => unmoved(phase, iists, iidat),
+        Phase::Receive {
+            matched,
+            count,
+            bits,
+        } => receive_at_rise(own, sda, iists, iidat, matched, count, bits),
         Phase::Transmit {
-            count: count,
-            byte: byte,
-        }
-    }
-}
-
-// The phase after a rise of the SCL line, at the SDA line's level.
-// Wrong answers: an address decided at the seventh rise; a foreign address kept in the address phase.
-pub fn phase_at_rise(own: u8, sda: bool, phase: Phase) -> Phase
-    ensures { λ r. ⌜ r ≡ phaseAtRise own sda phase ⌝ }
-{
-    match phase {
-        Phase::Idle => phase,
-        Phase::Address { count, bits } => address_at_rise(own, sda, count, bits),
-        Phase::Addressed { bits: _, ninth: _ } => phase,
-        Phase::Ignoring => phase,
-        Phase::Receive { count, bits } => receive_at_rise(own, sda, count, bits),
-        Phase::Transmit { count, byte } => transmit_at_rise(own, sda, count, byte),
-        Phase::Held { clocks: _ } => phase,
-    }
-}
-
-// II DAT after a rise of the SCL line: the byte whose eighth bit this is, else as it was.
-// Wrong answers: the bits so far at each rise; II DAT kept at an address.
-pub fn data_at_rise(sda: bool, phase: Phase, byte: u8) -> u8
-    ensures { λ r. ⌜ r ≡ dataAtRise sda phase byte ⌝ }
-{
-    match phase {
-        Phase::Idle => byte,
-        Phase::Address { count, bits } => { if count < 7 { byte } else { gathered(bits, sda) } }
-        Phase::Addressed { bits: _, ninth: _ } => byte,
-        Phase::Ignoring => byte,
-        Phase::Receive { count, bits } => {
-            if count == 7 {
-                gathered(bits, sda)
-            } else {
-                byte
-            }
-        }
-        Phase::Transmit { count: _, byte: _ } => byte,
-        Phase::Held { clocks: _ } => byte,
-    }
-}
-
-// A rise of the SCL line completes an address that matches.
-// Wrong answers: true for a foreign address, since II DAT has changed; true at the seventh rise.
-pub fn matches_at_rise(own: u8, sda: bool, phase: Phase) -> bool
-    ensures { λ r. ⌜ r ≡ matchesAtRise own sda phase ⌝ }
-{
-    match phase {
-        Phase::Idle => false,
-        Phase::Address { count, bits } => {
-            if count < 7 {
-                false
-            } else {
-                matches(own, gathered(bits, sda))
-            }
-        }
-        Phase::Addressed { bits: _, ninth: _ } => false,
-        Phase::Ignoring => false,
-        Phase::Receive { count: _, bits: _ } => false,
-        Phase::Transmit { count: _, byte: _ } => false,
-        Phase::Held { clocks: _ } => false,
-    }
-}
-
-// II STS after a rise of the SCL line: RXAK is taken.
-// Wrong answers: SDA taken at the rise of each bit put out; RXAK taken inverted.
-pub fn status_at_rise(sda: bool, phase: Phase, status: u8) -> u8
-    ensures { λ r. ⌜ r ≡ statusAtRise sda phase status ⌝ }
-{
-    match phase {
-        Phase::Idle => status,
-        Phase::Address { count: _, bits: _ } => status,
-        Phase::Addressed { bits: _, ninth: _ } => status,
-        Phase::Ignoring => status,
-        Phase::Receive { count: _, bits: _ } => status,
-        Phase::Transmit { count, byte: _ } => {
-            if count == 9 {
-                bits::with_bit(status, RXAK, sda)
-            } else {
-                status
-            }
-        }
-        Phase::Held { clocks: _ } => status,
-    }
-}
-
-// A fall of the SCL line takes hold of SCL.
-// Wrong answers: true at the fall that pulls SDA; true while a transmit awaits its acknowledge.
-pub fn holds_at_fall(phase: Phase) -> bool
-    ensures { λ r. ⌜ r ≡ holdsAtFall phase ⌝ }
-{
-    match phase {
-        Phase::Idle => false,
-        Phase::Address { count: _, bits: _ } => false,
-        Phase::Addressed { bits: _, ninth } => ninth,
-        Phase::Ignoring => false,
-        Phase::Receive { count, bits: _ } => 8 < count,
-        Phase::Transmit { count, byte: _ } => count == 10,
-        Phase::Held { clocks: _ } => false,
+            matched,
+            count,
+            byte,
+        } => transmit_at_rise(own, sda, iists, iidat, matched, count, byte),
+        Phase::Held {
+            matched: _,
+            clocks: _,
+        } => unmoved(phase, iists, iidat),
     }
 }
 
@@ -187,76 +231,120 @@ pub fn acknowledges(status: u8) -> bool
     !bits::bit(TXAK, status)
 }
 
-fn addressed_at_fall(status: u8, bits: u8, ninth: bool) -> Phase
-    ensures { λ r. ⌜ r ≡ phaseAtFall status (Phase.Addressed bits ninth) ⌝ }
-{
-    if ninth {
-        Phase::Held { clocks: 0 }
-    } else {
-        Phase::Addressed {
-            bits: bits,
-            ninth: true,
-        }
-    }
-}
-
 fn ninth_clock(status: u8) -> u8
     ensures { λ r. ⌜ r ≡ ninthClock status ⌝ }
 {
     if acknowledges(status) { 9 } else { 10 }
 }
 
-fn receive_at_fall(status: u8, count: u8, bits: u8) -> Phase
-    ensures { λ r. ⌜ r ≡ phaseAtFall status (Phase.Receive count bits) ⌝ }
+// The byte is over: flag D besides S, and the chip holds SCL low, for no clock of 8 µs yet.
+fn held(matched: OwnAddress) -> Fallen
+    ensures { λ r. ⌜ r ≡ fallen (Phase.Held matched 0) true ⌝ }
+{
+    Fallen {
+        phase: Phase::Held {
+            matched: matched,
+            clocks: 0,
+        },
+        flags: (1 << INTS) | (1 << INTD),
+    }
+}
+
+// The byte goes on: flag S alone.
+fn moved(phase: Phase) -> Fallen
+    ensures { λ r. ⌜ r ≡ fallen phase false ⌝ }
+{
+    Fallen {
+        phase: phase,
+        flags: 1 << INTS,
+    }
+}
+
+fn addressed_at_fall(status: u8, matched: OwnAddress, bits: u8, ninth: bool) -> Fallen
+    ensures { λ r. ⌜ r ≡ atFall status (Phase.Addressed matched bits ninth) ⌝ }
+{
+    if ninth {
+        held(matched)
+    } else {
+        moved(Phase::Addressed {
+            matched: matched,
+            bits: bits,
+            ninth: true,
+        })
+    }
+}
+
+fn receive_at_fall(status: u8, matched: OwnAddress, count: u8, bits: u8) -> Fallen
+    ensures { λ r. ⌜ r ≡ atFall status (Phase.Receive matched count bits) ⌝ }
 {
     if 8 < count {
-        return Phase::Held { clocks: 0 };
+        return held(matched);
     }
     if count == 8 {
-        Phase::Receive {
+        moved(Phase::Receive {
+            matched: matched,
             count: ninth_clock(status),
             bits: bits,
-        }
+        })
     } else {
-        Phase::Receive {
+        moved(Phase::Receive {
+            matched: matched,
             count: count,
             bits: bits,
-        }
+        })
     }
 }
 
-fn transmit_at_fall(status: u8, count: u8, byte: u8) -> Phase
-    ensures { λ r. ⌜ r ≡ phaseAtFall status (Phase.Transmit count byte) ⌝ }
+fn transmit_at_fall(status: u8, matched: OwnAddress, count: u8, byte: u8) -> Fallen
+    ensures { λ r. ⌜ r ≡ atFall status (Phase.Transmit matched count byte) ⌝ }
 {
+    if count == 10 {
+        return held(matched);
+    }
     if count < 9 {
-        return Phase::Transmit {
+        moved(Phase::Transmit {
+            matched: matched,
             count: count + 1,
             byte: byte,
-        };
-    }
-    if count == 10 {
-        Phase::Held { clocks: 0 }
+        })
     } else {
-        Phase::Transmit {
+        moved(Phase::Transmit {
+            matched: matched,
             count: count,
             byte: byte,
-        }
+        })
     }
 }
 
-// The phase after a fall of the SCL line, at this II STS.
-// Wrong answers: SDA pulled at the seventh fall; a transmit held while its acknowledge is awaited.
-pub fn phase_at_fall(status: u8, phase: Phase) -> Phase
-    ensures { λ r. ⌜ r ≡ phaseAtFall status phase ⌝ }
+// A fall of the SCL line, at this II STS: after eight bits the ninth clock begins, and the next fall takes hold of SCL.
+// Wrong answers: SDA pulled at the seventh fall; a transmit held while its acknowledge is awaited; a matched address acknowledged by
+// TXAK; flag D at the fall that pulls SDA.
+pub fn at_fall(status: u8, phase: Phase) -> Fallen
+    ensures { λ r. ⌜ r ≡ atFall status phase ⌝ }
 {
     match phase {
-        Phase::Idle => phase,
-        Phase::Address { count: _, bits: _ } => phase,
-        Phase::Addressed { bits, ninth } => addressed_at_fall(status, bits, ninth),
-        Phase::Ignoring => phase,
-        Phase::Receive { count, bits } => receive_at_fall(status, count, bits),
-        Phase::Transmit { count, byte } => transmit_at_fall(status, count, byte),
-        Phase::Held { clocks: _ } => phase,
+        Phase::Idle => moved(phase),
+        Phase::Address { count: _, bits: _ } => moved(phase),
+        Phase::Addressed {
+            matched,
+            bits,
+            ninth,
+        } => addressed_at_fall(status, matched, bits, ninth),
+        Phase::Ignoring => moved(phase),
+        Phase::Receive {
+            matched,
+            count,
+            bits,
+        } => receive_at_fall(status, matched, count, bits),
+        Phase::Transmit {
+            matched,
+            count,
+            byte,
+        } => transmit_at_fall(status, matched, count, byte),
+        Phase::Held {
+            matched: _,
+            clocks: _,
+        } => moved(phase),
     }
 }
 
@@ -275,27 +363,54 @@ pub fn phase_at_period(phase: Phase) -> Phase
     match phase {
         Phase::Idle => phase,
         Phase::Address { count: _, bits: _ } => phase,
-        Phase::Addressed { bits: _, ninth: _ } => phase,
+        Phase::Addressed {
+            matched: _,
+            bits: _,
+            ninth: _,
+        } => phase,
         Phase::Ignoring => phase,
-        Phase::Receive { count: _, bits: _ } => phase,
-        Phase::Transmit { count: _, byte: _ } => phase,
-        Phase::Held { clocks } => Phase::Held {
+        Phase::Receive {
+            matched: _,
+            count: _,
+            bits: _,
+        } => phase,
+        Phase::Transmit {
+            matched: _,
+            count: _,
+            byte: _,
+        } => phase,
+        Phase::Held { matched, clocks } => Phase::Held {
+            matched: matched,
             clocks: held_longer(clocks),
         },
     }
 }
 
-// The phase once SCL is let go.
-// Wrong answers: a transmit where TRX is 0; a transmit that begins with bit 6.
-pub fn phase_let_go(trx: bool, byte: u8) -> Phase
-    ensures { λ r. ⌜ r ≡ phaseLetGo trx byte ⌝ }
+fn next_byte(matched: OwnAddress, trx: bool, byte: u8) -> Phase
+    ensures { λ r. ⌜ r ≡ phaseLetGo (Comparison.Own matched) trx byte ⌝ }
 {
     if trx {
         Phase::Transmit {
+            matched: matched,
             count: 1,
             byte: byte,
         }
     } else {
-        Phase::Receive { count: 0, bits: 0 }
+        Phase::Receive {
+            matched: matched,
+            count: 0,
+            bits: 0,
+        }
+    }
+}
+
+// The phase once SCL is let go, in a transfer with this outcome.
+// Wrong answers: a transmit where TRX is 0; a transmit that begins with bit 6; the outcome of another transfer.
+pub fn phase_let_go(outcome: Comparison, trx: bool, byte: u8) -> Phase
+    ensures { λ r. ⌜ r ≡ phaseLetGo outcome trx byte ⌝ }
+{
+    match outcome {
+        Comparison::None => Phase::Idle,
+        Comparison::Own(matched) => next_byte(matched, trx, byte),
     }
 }

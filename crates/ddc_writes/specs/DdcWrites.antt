@@ -7,7 +7,7 @@ use Rattle.registers.specs.Names.{MDCON, IIADR, IIDAT, IISTS, HSEL, TRX}
 use Rattle.registers.specs.Table.{updated}
 use Rattle.sync.specs.declared.Sync.{Sync}
 use Rattle.sync.specs.Sync.{hselCleared}
-use Rattle.bus.specs.Bus.{mode, pullsScl}
+use Rattle.bus.specs.Bus.{mode, pullsScl, comparedIn}
 use Rattle.ddc2b.specs.Ddc2b.{phaseLetGo}
 use Rattle.chip.specs.declared.Bus.{Bus}
 use Rattle.chip.specs.declared.Core.{Core}
@@ -45,7 +45,7 @@ withIidat b bus = busOf (bus .iists) (bus .iiadr) (updated IIDAT (bus .iidat) b)
 
 -- SCL let go: TRX says which way the next byte goes
 abbrev pub busLetGo : ℕ → Bus → Bus
-busLetGo b bus = busOf (bus .iists) (bus .iiadr) (updated IIDAT (bus .iidat) b) (phaseLetGo (bit TRX (bus .iists)) b) (bus .shifter)
+busLetGo b bus = busOf (bus .iists) (bus .iiadr) (updated IIDAT (bus .iidat) b) (phaseLetGo (comparedIn (bus .phase)) (bit TRX (bus .iists)) b) (bus .shifter)
 
 -- with SCL's outside level already 1 the line rises as it is let go
 unfoldable pub busRisen : Bool → Bool → Bus → Bus

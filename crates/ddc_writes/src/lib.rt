@@ -105,21 +105,23 @@ fn with_iidat(b: u8, wires: Bus) -> Bus
 fn bus_let_go(b: u8, wires: Bus) -> Bus
     ensures { λ r. ⌜ r ≡ busLetGo b wires ⌝ }
 {
+    let phase = wires.phase;
     let shifter = wires.shifter;
     Bus {
         iists: wires.iists,
         iiadr: wires.iiadr,
         iidat: registers::updated(IIDAT, wires.iidat, b),
-        phase: ddc2b::phase_let_go(bits::bit(TRX, wires.iists), b),
+        phase: ddc2b::phase_let_go(bus::compared_in(phase), bits::bit(TRX, wires.iists), b),
         shifter: shifter,
     }
 }
 
+// SDA's outside level is handed on: where a rise looks at SDA, the chip does not pull it.
 fn bus_risen(scl: bool, sda: bool, wires: Bus) -> Bus
     ensures { λ r. ⌜ r ≡ busRisen scl sda wires ⌝ }
 {
     if scl {
-        edges::bus_at_rise(edges::sda_line(wires, sda), wires)
+        edges::bus_at_rise(sda, wires)
     } else {
         wires
     }

@@ -1,14 +1,15 @@
 // Edges of SCL and SDA, and rises of VSYNCI in DDC1.
 ghost use mathlib.Core.Path.{_≡_};
-ghost use Rattle.edges.specs.Edges.{withPhase, activeMode, busAtMode, busAtRise, sdaLine, sclRise, sclFall, leaveDdc1, onSclDdc1, onSclDdc2b, onScl, sclMoved, started as startedOf, stopped as stoppedOf, onSdaDdc2b, onSda, sdaMoved, busAtVsync, loadsAtVsync};
+ghost use Rattle.bus.specs.Bus.{edge, line, pullsSda, pullsScl};
+ghost use Rattle.chip.specs.State.{busOf, withSda, withScl};
+ghost use Rattle.edges.specs.Edges.{withPhase, activeMode, busAtMode, busAtRise, sclRise, sclFall, leaveDdc1, onSclDdc1, onSclDdc2b, sclMoved, started as startedOf, stopped as stoppedOf, onSdaDdc2b, sdaMoved, busAtVsync, loadsAtVsync};
 use bus::Edge;
 use bus::Mode;
 use bus::Phase;
 use bus::Shifter;
 use chip::Bus;
 use chip::Core;
-use registers::INTA;
-use registers::INTD;
+use ddc2b::Risen;
 use registers::INTS;
 use registers::MD12;
 use registers::START;
@@ -49,39 +50,37 @@ pub fn bus_at_mode(old: Mode, new: Mode, b: Bus) -> Bus
     }
 }
 
+fn bus_risen(b: Bus, r: Risen) -> Bus
+    ensures { λ n. ⌜ n ≡ busOf (r .iists) (b .iiadr) (r .iidat) (r .phase) (b .shifter) ⌝ }
+{
+    let phase = r.phase;
+    let shifter = b.shifter;
+    Bus {
+        iists: r.iists,
+        iiadr: b.iiadr,
+        iidat: r.iidat,
+        phase: phase,
+        shifter: shifter,
+    }
+}
+
 // The bus after a rise of the SCL line in DDC2B, at the SDA line's level: status, II DAT and phase.
 // Wrong answers: II DAT kept at the eighth bit; the register of DDC1 shifted.
 pub fn bus_at_rise(sda: bool, b: Bus) -> Bus
     ensures { λ r. ⌜ r ≡ busAtRise sda b ⌝ }
 {
     let phase = b.phase;
-    let shifter = b.shifter;
-    Bus {
-        iists: ddc2b::status_at_rise(sda, phase, b.iists),
-        iiadr: b.iiadr,
-        iidat: ddc2b::data_at_rise(sda, phase, b.iidat),
-        phase: ddc2b::phase_at_rise(b.iiadr, sda, phase),
-        shifter: shifter,
-    }
+    bus_risen(b, ddc2b::at_rise(b.iiadr, sda, b.iists, b.iidat, phase))
 }
 
-// The level of the SDA line in DDC2B at an outside level: 0 where the phase pulls it.
-// Wrong answers: the outside level while the chip pulls; 0 while the chip holds SCL.
-pub fn sda_line(b: Bus, level: bool) -> bool
-    ensures { λ r. ⌜ r ≡ sdaLine b level ⌝ }
-{
-    let phase = b.phase;
-    bus::line_level(bus::pulls_sda(phase), level)
-}
-
+// SDA's outside level is handed on: where a rise looks at SDA, the chip does not pull it.
 fn scl_rise(c: Core) -> Core
     ensures { λ r. ⌜ r ≡ sclRise c ⌝ }
 {
     let b = c.bus;
     let phase = b.phase;
-    let sda = sda_line(b, c.sda);
-    let flags = bits::weight_if(ddc2b::matches_at_rise(b.iiadr, sda, phase), INTA);
-    chip::with_bus(chip::raised(c, flags), bus_at_rise(sda, b))
+    let r = ddc2b::at_rise(b.iiadr, c.sda, b.iists, b.iidat, phase);
+    chip::with_bus(chip::raised(c, r.flags), bus_risen(b, r))
 }
 
 fn scl_fall(c: Core) -> Core
@@ -89,11 +88,9 @@ fn scl_fall(c: Core) -> Core
 {
     let b = c.bus;
     let phase = b.phase;
-    let flags = bits::weight_if(ddc2b::holds_at_fall(phase), INTD);
-    chip::with_bus(
-        chip::raised(c, (1 << INTS) | flags),
-        with_phase(b, ddc2b::phase_at_fall(b.iists, phase)),
-    )
+    let f = ddc2b::at_fall(b.iists, phase);
+    let after = f.phase;
+    chip::with_bus(chip::raised(c, f.flags), with_phase(b, after))
 }
 
 fn leave_ddc1(c: Core) -> Core
@@ -127,14 +124,17 @@ fn on_scl_ddc2b(e: Edge, c: Core) -> Core
     }
 }
 
-fn on_scl(mode: Mode, e: Edge, c: Core) -> Core
-    ensures { λ r. ⌜ r ≡ onScl mode e c ⌝ }
+fn scl_moved_in_ddc2b(c: Core, level: bool) -> Core
+    ensures { λ r. ⌜ r ≡ onSclDdc2b (edge (line (pullsScl (c .bus .phase)) (c .scl)) (line (pullsScl (c .bus .phase)) level)) (withScl c level) ⌝ }
 {
-    match mode {
-        Mode::Off => c,
-        Mode::Ddc1 => on_scl_ddc1(e, c),
-        Mode::Ddc2b => on_scl_ddc2b(e, c),
-    }
+    let b = c.bus;
+    let phase = b.phase;
+    let pulled = bus::pulls_scl(phase);
+    let e = bus::edge_between(
+        bus::line_level(pulled, c.scl),
+        bus::line_level(pulled, level),
+    );
+    on_scl_ddc2b(e, chip::with_scl(c, level))
 }
 
 // SCL's outside level is put. An edge is one of the line: while the chip holds SCL there is none.
@@ -142,15 +142,11 @@ fn on_scl(mode: Mode, e: Edge, c: Core) -> Core
 pub fn scl_moved(c: Core, level: bool) -> Core
     ensures { λ r. ⌜ r ≡ sclMoved c level ⌝ }
 {
-    let b = c.bus;
-    let phase = b.phase;
-    let mode = active_mode(c);
-    let pulled = bus::scl_pulled(mode, phase);
-    let e = bus::edge_between(
-        bus::line_level(pulled, c.scl),
-        bus::line_level(pulled, level),
-    );
-    on_scl(mode, e, chip::with_scl(c, level))
+    match active_mode(c) {
+        Mode::Off => chip::with_scl(c, level),
+        Mode::Ddc1 => on_scl_ddc1(bus::edge_between(c.scl, level), chip::with_scl(c, level)),
+        Mode::Ddc2b => scl_moved_in_ddc2b(c, level),
+    }
 }
 
 fn started(c: Core) -> Core
@@ -193,14 +189,18 @@ fn on_sda_ddc2b(high: bool, e: Edge, c: Core) -> Core
     }
 }
 
-fn on_sda(mode: Mode, high: bool, e: Edge, c: Core) -> Core
-    ensures { λ r. ⌜ r ≡ onSda mode high e c ⌝ }
+fn sda_moved_in_ddc2b(c: Core, level: bool) -> Core
+    ensures { λ r. ⌜ r ≡ onSdaDdc2b (line (pullsScl (c .bus .phase)) (c .scl)) (edge (line (pullsSda (c .bus .phase)) (c .sda)) (line (pullsSda (c .bus .phase)) level)) (withSda c level) ⌝ }
 {
-    match mode {
-        Mode::Off => c,
-        Mode::Ddc1 => c,
-        Mode::Ddc2b => on_sda_ddc2b(high, e, c),
-    }
+    let b = c.bus;
+    let phase = b.phase;
+    let high = bus::line_level(bus::pulls_scl(phase), c.scl);
+    let pulled = bus::pulls_sda(phase);
+    let e = bus::edge_between(
+        bus::line_level(pulled, c.sda),
+        bus::line_level(pulled, level),
+    );
+    on_sda_ddc2b(high, e, chip::with_sda(c, level))
 }
 
 // SDA's outside level is put. With the SCL line high, a fall of the SDA line is a START and a rise a STOP.
@@ -208,17 +208,11 @@ fn on_sda(mode: Mode, high: bool, e: Edge, c: Core) -> Core
 pub fn sda_moved(c: Core, level: bool) -> Core
     ensures { λ r. ⌜ r ≡ sdaMoved c level ⌝ }
 {
-    let b = c.bus;
-    let phase = b.phase;
-    let shifter = b.shifter;
-    let mode = active_mode(c);
-    let pulled = bus::sda_pulled(mode, phase, shifter);
-    let high = bus::line_level(bus::scl_pulled(mode, phase), c.scl);
-    let e = bus::edge_between(
-        bus::line_level(pulled, c.sda),
-        bus::line_level(pulled, level),
-    );
-    on_sda(mode, high, e, chip::with_sda(c, level))
+    match active_mode(c) {
+        Mode::Off => chip::with_sda(c, level),
+        Mode::Ddc1 => chip::with_sda(c, level),
+        Mode::Ddc2b => sda_moved_in_ddc2b(c, level),
+    }
 }
 
 // The bus after a rise of VSYNCI: in DDC1 the register shifts or loads, else nothing moves.

@@ -37,11 +37,11 @@ idle-of : (q : Phase) → isIdle q ≡ true → q ≡ Idle
 unfolding isIdle
 idle-of Idle h = refl
 idle-of (Address count bits) h = absurd (true≢false (sym h))
-idle-of (Addressed bits ninth) h = absurd (true≢false (sym h))
+idle-of (Addressed matched bits ninth) h = absurd (true≢false (sym h))
 idle-of Ignoring h = absurd (true≢false (sym h))
-idle-of (Receive count bits) h = absurd (true≢false (sym h))
-idle-of (Transmit count byte) h = absurd (true≢false (sym h))
-idle-of (Held clocks) h = absurd (true≢false (sym h))
+idle-of (Receive matched count bits) h = absurd (true≢false (sym h))
+idle-of (Transmit matched count byte) h = absurd (true≢false (sym h))
+idle-of (Held matched clocks) h = absurd (true≢false (sym h))
 
 abbrev atPhase : Core → Phase → Core
 atPhase c q = withBus c (busOf (iistsOf c) (iiadrOf c) (iidatOf c) q (shifterOf c))

@@ -17,11 +17,23 @@ fn hold_of(phase: Phase) -> Hold
     match phase {
         Phase::Idle => Hold::NotHeld,
         Phase::Address { count: _, bits: _ } => Hold::NotHeld,
-        Phase::Addressed { bits: _, ninth: _ } => Hold::NotHeld,
+        Phase::Addressed {
+            matched: _,
+            bits: _,
+            ninth: _,
+        } => Hold::NotHeld,
         Phase::Ignoring => Hold::NotHeld,
-        Phase::Receive { count: _, bits: _ } => Hold::NotHeld,
-        Phase::Transmit { count: _, byte: _ } => Hold::NotHeld,
-        Phase::Held { clocks } => Hold::Held(clocks),
+        Phase::Receive {
+            matched: _,
+            count: _,
+            bits: _,
+        } => Hold::NotHeld,
+        Phase::Transmit {
+            matched: _,
+            count: _,
+            byte: _,
+        } => Hold::NotHeld,
+        Phase::Held { matched: _, clocks } => Hold::Held(clocks),
     }
 }
 

@@ -16,12 +16,15 @@ use Rattle.bits.proofs.Finite.{both}
 use Rattle.bits.proofs.Level.{pick-by}
 use Rattle.bus.specs.declared.Mode.{Mode}
 use Rattle.bus.specs.declared.Mode.the-variants.{Off, Ddc1, Ddc2b}
+use Rattle.bus.specs.declared.OwnAddress.{OwnAddress}
+use Rattle.bus.specs.declared.Comparison.{Comparison}
+use Rattle.bus.specs.declared.Comparison.the-variants.{None, Own}
 use Rattle.bus.specs.declared.Phase.{Phase}
 use Rattle.bus.specs.declared.Phase.the-variants.{Idle, Address, Addressed, Ignoring, Receive, Transmit, Held}
 use Rattle.bus.specs.declared.Shifter.{Shifter}
 use Rattle.bus.specs.Bus.{mode, modeBy, changesMode, pullsScl}
 use Rattle.bus.specs.Ddc1.{shifter, unusedShifter, shifterAtRise}
-use Rattle.ddc2b.specs.Ddc2b.{matches, gathered, startStatus, startPhase, stopStatus, addressed, phaseAtRise, statusAtRise, acknowledges, ninthClock, phaseAtFall, phaseAtPeriod, phaseLetGo}
+use Rattle.ddc2b.specs.Ddc2b.{compared, gathered, startStatus, startPhase, stopStatus, addressed, phaseAtRise, statusAtRise, acknowledges, ninthClock, phaseAtFall, phaseAtPeriod, phaseLetGo}
 use Rattle.chip.specs.declared.Bus.{Bus}
 use Rattle.chip.specs.State.{busOf, released}
 use Rattle.well_formed.specs.WellFormed.{gatheredFits, phaseFits, isIdle, isUnused, busFits}
@@ -57,14 +60,15 @@ gathers count bits sda h t = in-fits _ _ (omega arith) (gathered-lt count bits s
 abbrev Fits : Phase → Type 0
 Fits p = phaseFits p ≡ true
 
-addressed-fits : (own byte : ℕ) → byte < 2 ^ 8 → Fits (addressed own byte)
+addressed-fits : (k : Comparison) (byte : ℕ) → byte < 2 ^ 8 → Fits (addressed k byte)
 unfolding phaseFits
-addressed-fits own byte h = pick-by Fits (matches own byte) (λ _. in-fits 8 byte (omega arith) h) (λ _. refl)
+addressed-fits None byte h = refl
+addressed-fits (Own matched) byte h = in-fits 8 byte (omega arith) h
 
 -- the ninth clock keeps the eight bits, whether SDA is pulled or released
-ninth-fits : (status bits : ℕ) → gatheredFits 8 bits ≡ true → Fits (Receive (ninthClock status) bits)
+ninth-fits : (m : OwnAddress) (status bits : ℕ) → gatheredFits 8 bits ≡ true → Fits (Receive m (ninthClock status) bits)
 unfolding phaseFits gatheredFits
-ninth-fits status bits t = pick-by (λ (n : ℕ). Fits (Receive n bits)) (acknowledges status) (λ _. t) (λ _. t)
+ninth-fits m status bits t = pick-by (λ (n : ℕ). Fits (Receive m n bits)) (acknowledges status) (λ _. t) (λ _. t)
 
 phase-at-rise : (own : ℕ) (sda : Bool) (p : Phase) → Fits p → Fits (phaseAtRise own sda p)
 unfolding phaseAtRise phaseFits
@@ -72,36 +76,37 @@ phase-at-rise own sda Idle t = refl
 phase-at-rise own sda (Address count bits) t =
     pick-by Fits (ltb count 7)
     (λ e. let few = ltb-true count 7 e in and-both _ _ (lt-ltb (count + 1) 8 (omega arith)) (gathers count bits sda (omega arith) (both (ltb count 8) (gatheredFits count bits) t .1)))
-    (λ _. addressed-fits own (gathered bits sda) (gathered-byte bits sda))
-phase-at-rise own sda (Addressed bits ninth) t = t
+    (λ _. addressed-fits (compared own (gathered bits sda)) (gathered bits sda) (gathered-byte bits sda))
+phase-at-rise own sda (Addressed matched bits ninth) t = t
 phase-at-rise own sda Ignoring t = refl
-phase-at-rise own sda (Receive count bits) t =
+phase-at-rise own sda (Receive matched count bits) t =
     pick-by Fits (ltb count 8)
     (λ e. let few = ltb-true count 8 e in and-both _ _ (lt-ltb (count + 1) 11 (omega arith)) (gathers count bits sda few (both (ltb count 11) (gatheredFits count bits) t .1)))
     (λ _. t)
-phase-at-rise own sda (Transmit count byte) t = pick-by Fits (eqb count 9) (λ _. refl) (λ _. t)
-phase-at-rise own sda (Held clocks) t = refl
+phase-at-rise own sda (Transmit matched count byte) t = pick-by Fits (eqb count 9) (λ _. refl) (λ _. t)
+phase-at-rise own sda (Held matched clocks) t = refl
 
 phase-at-fall : (status : ℕ) (p : Phase) → Fits p → Fits (phaseAtFall status p)
 unfolding phaseAtFall phaseFits
 phase-at-fall status Idle t = refl
 phase-at-fall status (Address count bits) t = t
-phase-at-fall status (Addressed bits ninth) t = pick-by Fits ninth (λ _. refl) (λ _. t)
+phase-at-fall status (Addressed matched bits ninth) t = pick-by Fits ninth (λ _. refl) (λ _. t)
 phase-at-fall status Ignoring t = refl
-phase-at-fall status (Receive count bits) t =
+phase-at-fall status (Receive matched count bits) t =
     pick-by Fits (ltb 8 count)
     (λ _. refl)
-    (λ _. pick-by Fits (eqb count 8) (λ e. let eight = both (ltb count 11) (gatheredFits count bits) t .1 in ninth-fits status bits (rw (eqb-true count 8 e) at eight)) (λ _. t))
-phase-at-fall status (Transmit count byte) t =
+    (λ _. pick-by Fits (eqb count 8) (λ e. let eight = both (ltb count 11) (gatheredFits count bits) t .1 in ninth-fits matched status bits (rw (eqb-true count 8 e) at eight)) (λ _. t))
+phase-at-fall status (Transmit matched count byte) t =
     pick-by Fits (ltb count 9)
     (λ e. and-both _ _ (lt-ltb 0 (count + 1) (omega arith)) (lt-ltb (count + 1) 11 (omega (arith, ltb-true count 9 e))))
     (λ _. pick-by Fits (eqb count 10) (λ _. refl) (λ _. t))
-phase-at-fall status (Held clocks) t = refl
+phase-at-fall status (Held matched clocks) t = refl
 
-phase-let-go : (trx : Bool) (byte : ℕ) → Fits (phaseLetGo trx byte)
-unfolding phaseFits gatheredFits
-phase-let-go true byte = refl
-phase-let-go false byte = refl
+phase-let-go : (k : Comparison) (trx : Bool) (byte : ℕ) → Fits (phaseLetGo k trx byte)
+unfolding phaseFits gatheredFits phaseLetGo
+phase-let-go None trx byte = refl
+phase-let-go (Own matched) true byte = refl
+phase-let-go (Own matched) false byte = refl
 
 -- ---- the mode
 
@@ -125,21 +130,21 @@ status-bit : (sda : Bool) (p : Phase) (status : ℕ) → bit 3 (statusAtRise sda
 unfolding statusAtRise
 status-bit sda Idle status = refl
 status-bit sda (Address count bits) status = refl
-status-bit sda (Addressed bits ninth) status = refl
+status-bit sda (Addressed matched bits ninth) status = refl
 status-bit sda Ignoring status = refl
-status-bit sda (Receive count bits) status = refl
-status-bit sda (Transmit count byte) status = pick-by (λ (n : ℕ). bit 3 n ≡ bit 3 status) (eqb count 9) (λ _. rxak-bit status sda) (λ _. refl)
-status-bit sda (Held clocks) status = refl
+status-bit sda (Receive matched count bits) status = refl
+status-bit sda (Transmit matched count byte) status = pick-by (λ (n : ℕ). bit 3 n ≡ bit 3 status) (eqb count 9) (λ _. rxak-bit status sda) (λ _. refl)
+status-bit sda (Held matched clocks) status = refl
 
 status-lt : (sda : Bool) (p : Phase) (status : ℕ) → status < 64 → statusAtRise sda p status < 64
 unfolding statusAtRise
 status-lt sda Idle status h = h
 status-lt sda (Address count bits) status h = h
-status-lt sda (Addressed bits ninth) status h = h
+status-lt sda (Addressed matched bits ninth) status h = h
 status-lt sda Ignoring status h = h
-status-lt sda (Receive count bits) status h = h
-status-lt sda (Transmit count byte) status h = pick-below (eqb count 9) _ _ 64 (with-bit-below 6 status 1 sda (omega arith) h) h
-status-lt sda (Held clocks) status h = h
+status-lt sda (Receive matched count bits) status h = h
+status-lt sda (Transmit matched count byte) status h = pick-below (eqb count 9) _ _ 64 (with-bit-below 6 status 1 sda (omega arith) h) h
+status-lt sda (Held matched clocks) status h = h
 
 -- modes that do not differ by their number are the same
 mode-same : (old new : Mode) → changesMode old new ≡ false → old ≡ new
@@ -216,19 +221,19 @@ module _ (mdcon : ℕ) (b : Bus) (f : BusFormed mdcon b) (e : mode (b .iists) md
   unfolding phaseFits
   stop-formed = ddc2b-formed _ _ _ (or-lt 6 (b .iists) 0x10 (f .iists) (omega arith)) (stop-bit (b .iists)) refl
 
-  pub let-go-formed : (trx : Bool) (sent byte : ℕ) → BusFormed mdcon (busOf (b .iists) (b .iiadr) byte (phaseLetGo trx sent) (b .shifter))
-  let-go-formed trx sent byte = ddc2b-formed _ _ _ (f .iists) refl (phase-let-go trx sent)
+  pub let-go-formed : (k : Comparison) (trx : Bool) (sent byte : ℕ) → BusFormed mdcon (busOf (b .iists) (b .iiadr) byte (phaseLetGo k trx sent) (b .shifter))
+  let-go-formed k trx sent byte = ddc2b-formed _ _ _ (f .iists) refl (phase-let-go k trx sent)
 
 -- an idle phase holds no line
 idle-lets-go : (p : Phase) → isIdle p ≡ true → pullsScl p ≡ false
 unfolding isIdle pullsScl
 idle-lets-go Idle t = refl
 idle-lets-go (Address count bits) t = refl
-idle-lets-go (Addressed bits ninth) t = refl
+idle-lets-go (Addressed matched bits ninth) t = refl
 idle-lets-go Ignoring t = refl
-idle-lets-go (Receive count bits) t = refl
-idle-lets-go (Transmit count byte) t = refl
-idle-lets-go (Held clocks) t = absurd (impossible t)
+idle-lets-go (Receive matched count bits) t = refl
+idle-lets-go (Transmit matched count byte) t = refl
+idle-lets-go (Held matched clocks) t = absurd (impossible t)
 
 -- so SCL is held in DDC2B alone
 pub held-in-ddc2b : (m : Mode) (p : Phase) (s : Shifter) → busFits m p s ≡ true → pullsScl p ≡ true → m ≡ Ddc2b
@@ -243,21 +248,21 @@ period-idle : (p : Phase) → isIdle (phaseAtPeriod p) ≡ isIdle p
 unfolding phaseAtPeriod isIdle
 period-idle Idle = refl
 period-idle (Address count bits) = refl
-period-idle (Addressed bits ninth) = refl
+period-idle (Addressed matched bits ninth) = refl
 period-idle Ignoring = refl
-period-idle (Receive count bits) = refl
-period-idle (Transmit count byte) = refl
-period-idle (Held clocks) = refl
+period-idle (Receive matched count bits) = refl
+period-idle (Transmit matched count byte) = refl
+period-idle (Held matched clocks) = refl
 
 period-phase : (p : Phase) → phaseFits (phaseAtPeriod p) ≡ phaseFits p
 unfolding phaseAtPeriod phaseFits
 period-phase Idle = refl
 period-phase (Address count bits) = refl
-period-phase (Addressed bits ninth) = refl
+period-phase (Addressed matched bits ninth) = refl
 period-phase Ignoring = refl
-period-phase (Receive count bits) = refl
-period-phase (Transmit count byte) = refl
-period-phase (Held clocks) = refl
+period-phase (Receive matched count bits) = refl
+period-phase (Transmit matched count byte) = refl
+period-phase (Held matched clocks) = refl
 
 period-fits : (m : Mode) (p : Phase) (s : Shifter) → busFits m (phaseAtPeriod p) s ≡ busFits m p s
 unfolding busFits

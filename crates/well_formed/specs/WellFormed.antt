@@ -56,20 +56,20 @@ gatheredFits count bits = ltb bits (2 ^ pick (ltb count 9) count 8)
 unfoldable pub phaseFits : Phase → Bool
 phaseFits Idle = true
 phaseFits (Address count bits) = ltb count 8 && gatheredFits count bits
-phaseFits (Addressed bits ninth) = gatheredFits 8 bits
+phaseFits (Addressed matched bits ninth) = gatheredFits 8 bits
 phaseFits Ignoring = true
-phaseFits (Receive count bits) = ltb count 11 && gatheredFits count bits
-phaseFits (Transmit count byte) = ltb 0 count && ltb count 11
-phaseFits (Held clocks) = true
+phaseFits (Receive matched count bits) = ltb count 11 && gatheredFits count bits
+phaseFits (Transmit matched count byte) = ltb 0 count && ltb count 11
+phaseFits (Held matched clocks) = true
 
 unfoldable pub isIdle : Phase → Bool
 isIdle Idle = true
 isIdle (Address count bits) = false
-isIdle (Addressed bits ninth) = false
+isIdle (Addressed matched bits ninth) = false
 isIdle Ignoring = false
-isIdle (Receive count bits) = false
-isIdle (Transmit count byte) = false
-isIdle (Held clocks) = false
+isIdle (Receive matched count bits) = false
+isIdle (Transmit matched count byte) = false
+isIdle (Held matched clocks) = false
 
 -- the shift register unused since the last release
 unfoldable pub isUnused : Shifter → Bool

@@ -137,11 +137,26 @@ fn phase_fits(phase: Phase) -> bool
     match phase {
         Phase::Idle => true,
         Phase::Address { count, bits } => (count < 8) & gathered_fits(count, bits),
-        Phase::Addressed { bits, ninth: _ } => gathered_fits(8, bits),
+        Phase::Addressed {
+            matched: _,
+            bits,
+            ninth: _,
+        } => gathered_fits(8, bits),
         Phase::Ignoring => true,
-        Phase::Receive { count, bits } => (count < 11) & gathered_fits(count, bits),
-        Phase::Transmit { count, byte: _ } => (0 < count) & (count < 11),
-        Phase::Held { clocks: _ } => true,
+        Phase::Receive {
+            matched: _,
+            count,
+            bits,
+        } => (count < 11) & gathered_fits(count, bits),
+        Phase::Transmit {
+            matched: _,
+            count,
+            byte: _,
+        } => (0 < count) & (count < 11),
+        Phase::Held {
+            matched: _,
+            clocks: _,
+        } => true,
     }
 }
 
@@ -151,11 +166,26 @@ fn is_idle(phase: Phase) -> bool
     match phase {
         Phase::Idle => true,
         Phase::Address { count: _, bits: _ } => false,
-        Phase::Addressed { bits: _, ninth: _ } => false,
+        Phase::Addressed {
+            matched: _,
+            bits: _,
+            ninth: _,
+        } => false,
         Phase::Ignoring => false,
-        Phase::Receive { count: _, bits: _ } => false,
-        Phase::Transmit { count: _, byte: _ } => false,
-        Phase::Held { clocks: _ } => false,
+        Phase::Receive {
+            matched: _,
+            count: _,
+            bits: _,
+        } => false,
+        Phase::Transmit {
+            matched: _,
+            count: _,
+            byte: _,
+        } => false,
+        Phase::Held {
+            matched: _,
+            clocks: _,
+        } => false,
     }
 }
 

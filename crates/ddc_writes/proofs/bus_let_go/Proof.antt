@@ -11,4 +11,5 @@ bus-let-go-spec =
     (λ c κs. search needs)
     (λ c κs. search needs)
     (λ c κs. search needs)
-    (λ c. simp (c .phase-let-go .ensures, c .before .bit .ensures, c .before .before .updated .ensures)))
+    (λ c κs. search needs)
+    (λ c. simp (c .phase-let-go .ensures, c .before .bit .ensures, c .before .before .compared-in .ensures, c .before .before .before .updated .ensures)))

@@ -1,6 +1,7 @@
 -- `ddc_writes::bus_risen` meets its contract.
 -- Assumes nothing.
 use Rattle.ddc_writes.specs.DdcWrites.{busRisen}
+use Rattle.edges.proofs.Risen.{bus-outside}
 use borrow.Author.Needs.{needs}
 use Rattle.ddc_writes.proofs.bus_risen.Statement.{statement}
 use Rattle.ddc_writes.proofs.bus_risen.Tie as tie
@@ -11,6 +12,5 @@ bus-risen-spec =
     tie.close
     (tie.spec
     (λ c κs. search needs)
-    (λ c κs. search needs)
-    (λ c. simp (c .bus-at-rise .ensures, c .before .sda-line .ensures, c .before .before .if1 .taken))
+    (λ c. simp (c .bus-at-rise .ensures, c .before .if1 .taken, bus-outside))
     (λ c. simp (c .if1 .left)))

@@ -1,22 +1,23 @@
 -- `edges::sda_moved` meets its contract.
 -- Assumes nothing.
-use Rattle.edges.specs.Edges.{sdaMoved}
+use Rattle.edges.specs.Edges.{sdaMoved, onSda}
+use Rattle.bus.specs.Bus.{sdaPulled, sclPulled}
 use borrow.Author.Needs.{needs}
 use Rattle.edges.proofs.sda_moved.Statement.{statement}
 use Rattle.edges.proofs.sda_moved.Tie as tie
 
 pub sda-moved-spec : {M : Type 1} → statement M
-unfolding sdaMoved
+unfolding sdaMoved onSda sdaPulled sclPulled
 sda-moved-spec =
     tie.close
     (tie.spec
     (λ c κs. search needs)
+    (λ c. search needs)
     (λ c κs. search needs)
+    (λ c. search needs)
     (λ c κs. search needs)
+    (λ c. search needs)
     (λ c κs. search needs)
-    (λ c κs. search needs)
-    (λ c κs. search needs)
-    (λ c κs. search needs)
-    (λ c κs. search needs)
-    (λ c κs. search needs)
-    (λ c. simp (c .on-sda .ensures, c .before .with-sda .ensures, c .before .before .edge-between .ensures, c .before .before .before .line-level3 .ensures, c .before .before .before .before .line-level2 .ensures, c .before .before .before .before .before .line-level .ensures, c .before .before .before .before .before .before .scl-pulled .ensures, c .before .before .before .before .before .before .before .sda-pulled .ensures, c .before .before .before .before .before .before .before .before .active-mode .ensures)))
+    (λ c. simp (c .with-sda .ensures, ← (c .before .before .before .active-mode .ensures), c .before .enum-told .given .1))
+    (λ c. simp (c .with-sda2 .ensures, ← (c .before .before .before .active-mode .ensures), c .before .enum-told2 .given .1))
+    (λ c. simp (c .sda-moved-in-ddc2b .ensures, ← (c .before .before .before .active-mode .ensures), c .before .enum-told3 .given .1)))
