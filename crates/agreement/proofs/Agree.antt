@@ -2,7 +2,7 @@
 -- Assumes nothing.
 use Prim.Native.Nat.{ℕ, zero, suc, _+_, _-_, _/_, _%_, _<_, _≤_}
 use mathlib.Core.Path.{_≡_, refl, ap, ap₂, sym, _∙_}
-use mathlib.Core.List.{List, [], _∷_, _++_, map, map-append}
+use mathlib.Core.List.{List, [], _∷_, _++_}
 use mathlib.Core.Bool.{Bool, true, false, _||_, true≢false}
 use native.Mathlib.Omega.{arith}
 use lib.ListN.{length, getD, take, drop}
@@ -29,9 +29,10 @@ use Rattle.isolation.proofs.Related.{frame}
 use Rattle.isolation.proofs.Theorems.{flags-lt}
 use Rattle.plain_bus.specs.declared.Fault.{Fault}
 use Rattle.plain_bus.specs.declared.Fault.the-variants.{NoFault, OtherLine, OtherLevel}
-use Rattle.plain_bus.specs.Plain.{SDA, SCL, lineOf, levelOf, lineAt, highAt, levelBefore, sclBefore, sdaBefore, Found, addressesFrom, addresses, changesFrom, changesToStop}
+use Rattle.events.specs.Pins.{SDA, SCL}
+use Rattle.plain_bus.specs.Plain.{lineOf, levelOf, lineAt, highAt, levelBefore, sclBefore, sdaBefore, Found, addressesFrom, addresses, changesFrom, changesToStop}
 use Rattle.plain_bus.specs.Reading.{levelFault, faultOf, orElse, firstFault}
-use Rattle.agreement.specs.Stepping.{Completed, lacksOne, toldBy, completes, eventOf, completedBy, Begins, shown}
+use Rattle.agreement.specs.Stepping.{completes, eventOf, completedBy, Begins}
 use Rattle.agreement.proofs.Heard.{Kind, At, sdaKind, sclKind, at-sda, at-scl, Heard, quiet, heardNext, foundNext, stopsNext, foundIn, readIn, Turn, turn, last-turn, Few, end-found, end-reads}
 use Rattle.agreement.proofs.Follows.{Phased, idle, few, Follows, follows, completesCore, Moved, sda-follows, scl-follows, stop-completes}
 
@@ -134,7 +135,7 @@ module _ (own : ℕ) (cs : List ℕ) (i : ℕ) (c : Chip) (w : wellFormed c ≡ 
 
 pub record Agrees (own : ℕ) (cs : List ℕ) (i n : ℕ) (c : Chip) (h : Heard) : Type 0 where
   pub within : i ≤ readIn own cs i n h
-  pub same : map shown (foundIn own cs i n h) ≡ completedBy c (take (readIn own cs i n h - i) (drop i cs))
+  pub same : foundIn own cs i n h ≡ completedBy c (take (readIn own cs i n h - i) (drop i cs))
 
 -- changes from place i on, one of them taken
 taken : (cs : List ℕ) (i m : ℕ) → i < length cs → suc i ≤ m → take (m - i) (drop i cs) ≡ getD cs i 0 ∷ take (m - suc i) (drop (suc i) cs)
@@ -152,9 +153,9 @@ module _ (own : ℕ) (cs : List ℕ) (i n : ℕ) (c : Chip) {h : Heard} (m : len
       record {
         within = omega (arith, last .1);
         same =
-            ap (map shown) (last .0)
+            last .0
             ∙ rw (last .1, taken cs i (suc i) (omega arith) (omega arith))
-            (let none : suc i - suc i ≡ 0 = omega arith in rw none (ap (λ (l : List Completed). l ++ []) (stop-none f k s (step c (eventOf (getD cs i 0)) .chip .core))));
+            (let none : suc i - suc i ≡ 0 = omega arith in rw none (ap (λ (l : List Found). l ++ []) (stop-none f k s (step c (eventOf (getD cs i 0)) .chip .core))));
       }
   agrees-by k a go false s rest =
       let place = turn own cs i n h m a (follows-few f) s in
@@ -163,9 +164,8 @@ module _ (own : ℕ) (cs : List ℕ) (i n : ℕ) (c : Chip) {h : Heard} (m : len
       record {
         within = omega (arith, place .reads, later .within);
         same =
-            ap (map shown) (place .same)
-            ∙ map-append shown (foundNext own k h) (foundIn own cs (suc i) n (heardNext own k h))
-            ∙ ap₂ (λ (a b : List Completed). a ++ b) (moved .same) (later .same)
+            place .same
+            ∙ ap₂ (λ (a b : List Found). a ++ b) (moved .same) (later .same)
             ∙ rw (place .reads, taken cs i (readIn own cs (suc i) n (heardNext own k h)) (omega arith) (later .within));
       }
 
@@ -182,7 +182,7 @@ agrees : (own : ℕ) (cs : List ℕ) (n i : ℕ) (c : Chip) (h : Heard) → leng
 agrees own cs zero i c h m w g f =
     let ends = end-reads own cs i h (follows-few f) in
     let none : i - i ≡ 0 = omega arith in
-    record { within = omega (arith, ends); same = ap (map shown) (end-found own cs i h (follows-few f)) ∙ rw (ends, none) }
+    record { within = omega (arith, ends); same = end-found own cs i h (follows-few f) ∙ rw (ends, none) }
 agrees own cs (suc n) i c h m w g f =
     let changes = all-good (getD cs i 0) (drop (suc i) cs) (rw (drop-cons cs i 0 (omega arith)) at g) in
     agrees-good own cs i n c m f w (changes .0)
@@ -199,9 +199,9 @@ first-by c q s x z b e h i j =
 first : {own : ℕ} (c : Chip) → Begins own c → Follows own (c .core) true true quiet
 first c b = first-by c (c .core .bus .phase) (c .core .scl) (c .core .sda) (c .core .reset) b (b .idle) (b .scl-high) (b .sda-high) (b .reset-high)
 
--- the addresses that the plain reading lists, their order and matches are those that the stepping engine completes, up to the stop
+-- the addresses that the plain reading lists, their order and their outcomes are those that the stepping engine completes, up to the stop
 pub agree : (own : ℕ) (c : Chip) → Begins own c → (cs : List ℕ) → firstFault cs ≡ NoFault
-    → map shown (addresses own cs) ≡ completedBy c (take (changesToStop own cs) cs)
+    → addresses own cs ≡ completedBy c (take (changesToStop own cs) cs)
 unfolding levelBefore
 agree own c b cs g =
     let all = agrees own cs (length cs) 0 c quiet (omega arith) (b .well) g (first c b) in

@@ -2,8 +2,8 @@
 -- Assumes nothing.
 use Prim.Native.Nat.{ℕ, suc, _+_, _*_, _%_, _^_, _<_}
 use mathlib.Core.Path.{_≡_, refl, ap, sym, _∙_}
-use mathlib.Core.List.{List, [], _∷_, _++_, map}
-use mathlib.Core.Bool.{Bool, true, false, not, _||_, true≢false}
+use mathlib.Core.List.{List, [], _∷_, _++_}
+use mathlib.Core.Bool.{Bool, true, false, true≢false}
 use native.Mathlib.Omega.{arith}
 use native.Mathlib.Nat.{mod-eq-of-lt, pow-suc}
 use native.Mathlib.Numerals.{add-one}
@@ -16,17 +16,21 @@ use Rattle.bits.proofs.Bitwise.{bit-or}
 use Rattle.bits.proofs.Mask.{num-lt}
 use Rattle.bus.specs.declared.Edge.{Edge}
 use Rattle.bus.specs.declared.Edge.the-variants.{Flat, Rise, Fall}
+use Rattle.bus.specs.declared.OwnAddress.{OwnAddress}
+use Rattle.bus.specs.declared.Comparison.{Comparison}
+use Rattle.bus.specs.declared.Comparison.the-variants.{None, Own}
 use Rattle.bus.specs.declared.Phase.{Phase}
 use Rattle.bus.specs.declared.Phase.the-variants.{Idle, Address, Addressed, Ignoring}
-use Rattle.bus.specs.Bus.{pullsSda, pullsScl, sdaPulled, sclPulled}
-use Rattle.ddc2b.specs.Ddc2b.{addressBits, matches, gathered, phaseAtRise, dataAtRise, matchesAtRise, statusAtRise, holdsAtFall, phaseAtFall, startStatus, stopStatus}
+use Rattle.bus.specs.Bus.{isOwn, pullsSda, pullsScl, sdaPulled, sclPulled}
+use Rattle.ddc2b.specs.Ddc2b.{addressBits, compared, gathered, phaseAtRise, dataAtRise, matchesAtRise, statusAtRise, holdsAtFall, phaseAtFall, startStatus, stopStatus}
+use Rattle.ddc2b.proofs.Own.{own-matches}
 use Rattle.chip.specs.declared.Core.{Core}
 use Rattle.chip.specs.declared.Chip.{Chip}
 use Rattle.chip.specs.State.{busOf, chipOf, raised, withBus}
 use Rattle.edges.specs.Edges.{busAtRise, sclRise, sclFall, onScl, onSclDdc2b, sclMoved, started, stopped, onSda, onSdaDdc2b, sdaMoved}
 use Rattle.isolation.proofs.Related.{frame, KeptBy, enddc-low, kept-status, kept-raised}
-use Rattle.plain_bus.specs.Plain.{appended, byteOf, outcomeNumber, Found, found}
-use Rattle.agreement.specs.Stepping.{Completed, lacksOne, toldBy, shown}
+use Rattle.plain_bus.specs.Plain.{appended, byteOf, Found, found}
+use Rattle.agreement.specs.Stepping.{lacksOne, told, toldBy}
 use Rattle.agreement.proofs.Heard.{Kind, start, stop, rise, other, sdaKind, sclKind, Heard, quiet, since, ours, Few, isOurs, heardEight, heardRise, heardNext, foundRise, foundNext, stopsRise, stopsNext}
 
 -- ---- the byte of levels
@@ -56,28 +60,28 @@ pub data Phased : Bool → Phase → Heard → Type 0 where
   idle : (s : Bool) → Phased s Idle quiet
   ignores : (s : Bool) → Phased s Ignoring quiet
   gathers : (s : Bool) (ls : List Bool) → ltb (length ls) 8 ≡ true → Phased s (Address (length ls) (byteOf ls)) (since ls)
-  waits : (byte : ℕ) → Phased true (Addressed byte false) ours
-  pulls : (byte : ℕ) → Phased false (Addressed byte true) ours
+  waits : (matched : OwnAddress) (byte : ℕ) → Phased true (Addressed matched byte false) ours
+  pulls : (matched : OwnAddress) (byte : ℕ) → Phased false (Addressed matched byte true) ours
 
 pub few : {s : Bool} {q : Phase} {h : Heard} → Phased s q h → Few h
 few (idle s) = tt
 few (ignores s) = tt
 few (gathers s ls f) = f
-few (waits byte) = tt
-few (pulls byte) = tt
+few (waits matched byte) = tt
+few (pulls matched byte) = tt
 
 -- a core that follows the list, with RESET high
 pub data Follows (own : ℕ) : Core → Bool → Bool → Heard → Type 0 where
   follows : (g : Core) (s x : Bool) (y : ℕ) {q : Phase} {h : Heard} → Phased s q h → KeptBy g own → Follows own (frame g true s x q y) s x h
 
 -- what a step from one core to another completes
-abbrev pub completesCore : Core → Core → List Completed
+abbrev pub completesCore : Core → Core → List Found
 completesCore c d = pick (lacksOne (c .bus .phase)) (toldBy (d .bus .phase) (d .bus .iidat)) []
 
 -- a change, and what is completed by it
 pub record Moved (own : ℕ) (c d : Core) (s x : Bool) (h : Heard) (fs : List Found) : Type 0 where
   pub core : Follows own d s x h
-  pub same : map shown fs ≡ completesCore c d
+  pub same : fs ≡ completesCore c d
 
 -- ---- what the phases do to the lines
 
@@ -86,19 +90,19 @@ unfolding pullsScl
 scl-free (idle s) = refl
 scl-free (ignores s) = refl
 scl-free (gathers s ls f) = refl
-scl-free (waits byte) = refl
-scl-free (pulls byte) = refl
+scl-free (waits matched byte) = refl
+scl-free (pulls matched byte) = refl
 
 sda-free : {q : Phase} {h : Heard} → Phased true q h → pullsSda q ≡ false
 unfolding pullsSda
 sda-free (idle s) = refl
 sda-free (ignores s) = refl
 sda-free (gathers s ls f) = refl
-sda-free (waits byte) = refl
+sda-free (waits matched byte) = refl
 
 -- ---- a phase that stays completes nothing
 
-pick-none : (t : Bool) → _≡_ {A = List Completed} [] (pick t [] [])
+pick-none : (t : Bool) → _≡_ {A = List Found} [] (pick t [] [])
 pick-none true = refl
 pick-none false = refl
 
@@ -106,8 +110,8 @@ stays : {s : Bool} {q : Phase} {h : Heard} → Phased s q h → (y : ℕ) → []
 stays (idle s) y = refl
 stays (ignores s) y = refl
 stays (gathers s ls f) y = pick-none (eqb (length ls) 7)
-stays (waits byte) y = refl
-stays (pulls byte) y = refl
+stays (waits matched byte) y = refl
+stays (pulls matched byte) y = refl
 
 -- ---- SDA
 
@@ -153,20 +157,9 @@ before-last : (n : ℕ) → ltb n 8 ≡ true → eqb n 7 ≡ false → ltb n 7 �
 before-last n h e = lt-ltb n 7 (omega (arith, ltb-true n 8 h, eqb-false n 7 e))
 
 -- an address is compared with bits 7..1 of II ADR alone
-matches-by-bits : (own own′ byte : ℕ) → addressBits own ≡ addressBits own′ → matches own byte ≡ matches own′ byte
-unfolding matches
-matches-by-bits own own′ byte h = rw h
-
--- the chip's match is the outcome that is not none
-ours-by : (a b : Bool) → (a || b) ≡ not (eqb (num a + 2 * num b) 0)
-ours-by true true = refl
-ours-by true false = refl
-ours-by false true = refl
-ours-by false false = refl
-
-matches-ours : (own byte : ℕ) → matches own byte ≡ isOurs own byte
-unfolding matches outcomeNumber
-matches-ours own byte = ours-by (eqb (addressBits byte) 80) (eqb (addressBits byte) (addressBits own))
+compared-by-bits : (own own′ byte : ℕ) → addressBits own ≡ addressBits own′ → compared own byte ≡ compared own′ byte
+unfolding compared
+compared-by-bits own own′ byte h = rw h
 
 module _ {own : ℕ} (g : Core) (x : Bool) (y : ℕ) (k : KeptBy g own) where
   fall-follows : {q : Phase} {h : Heard} → Phased true q h → Moved own (frame g true true x q y) (sclFall (frame g true false x q y)) false x h []
@@ -175,18 +168,13 @@ module _ {own : ℕ} (g : Core) (x : Bool) (y : ℕ) (k : KeptBy g own) where
   fall-follows (ignores s) = record { core = follows (raised g 0x20) false x y (ignores false) (kept-raised 0x20 (omega arith) k); same = refl }
   fall-follows (gathers s ls f) =
       record { core = follows (raised g 0x20) false x y (gathers false ls f) (kept-raised 0x20 (omega arith) k); same = pick-none (eqb (length ls) 7) }
-  fall-follows (waits byte) = record { core = follows (raised g 0x20) false x y (pulls byte) (kept-raised 0x20 (omega arith) k); same = refl }
-
-  compared : (byte : ℕ) (matched : Bool) → isOurs own byte ≡ matched → matches (g .bus .iiadr) byte ≡ matched
-  compared byte matched e = matches-by-bits (g .bus .iiadr) own byte (k .address-bits) ∙ matches-ours own byte ∙ e
+  fall-follows (waits matched byte) = record { core = follows (raised g 0x20) false x y (pulls matched byte) (kept-raised 0x20 (omega arith) k); same = refl }
 
   -- one more bit of an address
-  gather-follows : (ls : List Bool) (f : ltb (length ls) 8 ≡ true) (last matched : Bool) → eqb (length ls) 7 ≡ last → isOurs own (byteOf (ls ++ (x ∷ []))) ≡ matched
-      → Moved own (frame g true false x (Address (length ls) (byteOf ls)) y) (sclRise (frame g true true x (Address (length ls) (byteOf ls)) y)) true x
-      (pick last (heardEight matched) (since (ls ++ (x ∷ []))))
-      (pick last (found own (byteOf (ls ++ (x ∷ []))) ∷ []) [])
+  gather-more : (ls : List Bool) (f : ltb (length ls) 8 ≡ true) → eqb (length ls) 7 ≡ false
+      → Moved own (frame g true false x (Address (length ls) (byteOf ls)) y) (sclRise (frame g true true x (Address (length ls) (byteOf ls)) y)) true x (since (ls ++ (x ∷ []))) []
   unfolding sclRise busAtRise phaseAtRise dataAtRise matchesAtRise statusAtRise pullsSda
-  gather-follows ls f false matched l m =
+  gather-more ls f l =
       let small : ltb (length ls) 7 ≡ true = before-last (length ls) f l in
       let longer : length ls + 1 ≡ length (ls ++ (x ∷ [])) = sym (length-append ls (x ∷ [])) in
       rw (small, gathered-level ls x f, longer)
@@ -196,20 +184,33 @@ module _ {own : ℕ} (g : Core) (x : Bool) (y : ℕ) (k : KeptBy g own) where
             (kept-raised 0 (omega arith) k);
         same = rw l;
       })
-  gather-follows ls f true true l m =
-      rw (eqb-true (length ls) 7 l, gathered-level ls x f, compared (byteOf (ls ++ (x ∷ []))) true m)
-      (record { core = follows (raised g 0x08) true x (byteOf (ls ++ (x ∷ []))) (waits (byteOf (ls ++ (x ∷ [])))) (kept-raised 0x08 (omega arith) k); same = rw m })
-  gather-follows ls f true false l m =
-      rw (eqb-true (length ls) 7 l, gathered-level ls x f, compared (byteOf (ls ++ (x ∷ []))) false m)
-      (record { core = follows (raised g 0) true x (byteOf (ls ++ (x ∷ []))) (ignores true) (kept-raised 0 (omega arith) k); same = rw m })
+
+  -- the eighth bit, by the outcome of the comparison
+  gather-last : (ls : List Bool) (f : ltb (length ls) 8 ≡ true) → eqb (length ls) 7 ≡ true → (outcome : Comparison) → compared own (byteOf (ls ++ (x ∷ []))) ≡ outcome
+      → Moved own (frame g true false x (Address (length ls) (byteOf ls)) y) (sclRise (frame g true true x (Address (length ls) (byteOf ls)) y)) true x
+      (heardEight (isOwn outcome)) (told (byteOf (ls ++ (x ∷ []))) outcome ∷ [])
+  unfolding sclRise busAtRise phaseAtRise dataAtRise matchesAtRise statusAtRise pullsSda
+  gather-last ls f l None m =
+      rw (eqb-true (length ls) 7 l, gathered-level ls x f, ← own-matches (g .bus .iiadr) (byteOf (ls ++ (x ∷ []))), compared-by-bits (g .bus .iiadr) own (byteOf (ls ++ (x ∷ []))) (k .address-bits), m)
+      (record { core = follows (raised g 0) true x (byteOf (ls ++ (x ∷ []))) (ignores true) (kept-raised 0 (omega arith) k); same = refl })
+  gather-last ls f l (Own matched) m =
+      rw (eqb-true (length ls) 7 l, gathered-level ls x f, ← own-matches (g .bus .iiadr) (byteOf (ls ++ (x ∷ []))), compared-by-bits (g .bus .iiadr) own (byteOf (ls ++ (x ∷ []))) (k .address-bits), m)
+      (record { core = follows (raised g 0x08) true x (byteOf (ls ++ (x ∷ []))) (waits matched (byteOf (ls ++ (x ∷ [])))) (kept-raised 0x08 (omega arith) k); same = refl })
+
+  gather-follows : (ls : List Bool) (f : ltb (length ls) 8 ≡ true) (last : Bool) → eqb (length ls) 7 ≡ last
+      → Moved own (frame g true false x (Address (length ls) (byteOf ls)) y) (sclRise (frame g true true x (Address (length ls) (byteOf ls)) y)) true x
+      (pick last (heardEight (isOurs own (byteOf (ls ++ (x ∷ []))))) (since (ls ++ (x ∷ []))))
+      (pick last (found own (byteOf (ls ++ (x ∷ []))) ∷ []) [])
+  gather-follows ls f false l = gather-more ls f l
+  gather-follows ls f true l = gather-last ls f l (compared own (byteOf (ls ++ (x ∷ [])))) refl
 
   rise-follows : {q : Phase} {h : Heard} → Phased false q h → stopsRise h ≡ false
       → Moved own (frame g true false x q y) (sclRise (frame g true true x q y)) true x (heardRise own x h) (foundRise own x h)
   unfolding sclRise busAtRise phaseAtRise dataAtRise matchesAtRise statusAtRise
   rise-follows (idle s) e = record { core = follows (raised g 0) true x y (idle true) (kept-raised 0 (omega arith) k); same = refl }
   rise-follows (ignores s) e = record { core = follows (raised g 0) true x y (ignores true) (kept-raised 0 (omega arith) k); same = refl }
-  rise-follows (gathers s ls f) e = gather-follows ls f (eqb (length ls) 7) (isOurs own (byteOf (ls ++ (x ∷ [])))) refl refl
-  rise-follows (pulls byte) e = absurd (true≢false e)
+  rise-follows (gathers s ls f) e = gather-follows ls f (eqb (length ls) 7) refl
+  rise-follows (pulls matched byte) e = absurd (true≢false e)
 
   pub scl-follows : (s l : Bool) {q : Phase} {h : Heard} → Phased s q h → stopsNext (sclKind s x l) h ≡ false
       → Moved own (frame g true s x q y) (sclMoved (frame g true s x q y) l) l x (heardNext own (sclKind s x l) h) (foundNext own (sclKind s x l) h)
@@ -227,5 +228,5 @@ stop-completes p other e = absurd (true≢false (sym e))
 stop-completes (idle s) (rise x) e = absurd (true≢false (sym e))
 stop-completes (ignores s) (rise x) e = absurd (true≢false (sym e))
 stop-completes (gathers s ls f) (rise x) e = absurd (true≢false (sym e))
-stop-completes (waits byte) (rise x) e = refl
-stop-completes (pulls byte) (rise x) e = refl
+stop-completes (waits matched byte) (rise x) e = refl
+stop-completes (pulls matched byte) (rise x) e = refl

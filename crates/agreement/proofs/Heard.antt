@@ -10,7 +10,10 @@ use lib.Seq.{take-at}
 use lib.Dec.{eqb, ltb}
 use borrow.Author.Tests.{ltb-true, ltb-false, lt-ltb, le-ltb, eqb-true, eqb-false, eq-eqb, ne-eqb}
 use Rattle.bits.specs.Byte.{pick}
-use Rattle.plain_bus.specs.Plain.{SDA, SCL, lineAt, highAt, levelBefore, sclBefore, sdaBefore, riseAt, startAt, stopAt, risesFrom, risesSince, levelsAt, byteOf, addressOf, outcomeNumber, Found, found, addressAt, endsAt, addressesFrom, changesFrom}
+use Rattle.events.specs.Pins.{SDA, SCL}
+use Rattle.bus.specs.Bus.{isOwn}
+use Rattle.ddc2b.specs.Ddc2b.{compared}
+use Rattle.plain_bus.specs.Plain.{lineAt, highAt, levelBefore, sclBefore, sdaBefore, riseAt, startAt, stopAt, risesFrom, risesSince, levelsAt, byteOf, addressOf, Found, found, addressAt, endsAt, addressesFrom, changesFrom}
 
 -- ---- what a place is
 
@@ -80,7 +83,7 @@ Few (since ls) = ltb (length ls) 8 ≡ true
 Few ours = Unit
 
 abbrev pub isOurs : ℕ → ℕ → Bool
-isOurs own byte = not (eqb (outcomeNumber own byte) 0)
+isOurs own byte = isOwn (compared own byte)
 
 abbrev pub heardEight : Bool → Heard
 heardEight true = ours

@@ -1,13 +1,14 @@
 -- The addresses that the stepping engine completes, told from its states alone (document 02, Wish 11).
-use Prim.Native.Nat.{ℕ, suc}
+use Prim.Native.Nat.{ℕ}
 use mathlib.Core.Path.{_≡_}
-use mathlib.Core.Bool.{Bool, true, false, not}
-use mathlib.Core.List.{List, [], _∷_, _++_, map}
+use mathlib.Core.Bool.{Bool, true, false}
+use mathlib.Core.List.{List, [], _∷_, _++_}
 use lib.Dec.{eqb}
-use lib.ListN.{take}
 use Rattle.bits.specs.Byte.{pick}
 use Rattle.events.specs.Word.{eventWord}
 use Rattle.bus.specs.declared.Mode.the-variants.{Ddc2b}
+use Rattle.bus.specs.declared.Comparison.{Comparison}
+use Rattle.bus.specs.declared.Comparison.the-variants.{None, Own}
 use Rattle.bus.specs.declared.Phase.{Phase}
 use Rattle.bus.specs.declared.Phase.the-variants.{Idle, Address, Addressed, Ignoring, Receive, Transmit, Held}
 use Rattle.ddc2b.specs.Ddc2b.{addressBits}
@@ -17,36 +18,32 @@ use Rattle.well_formed.specs.WellFormed.{wellFormed}
 use Rattle.step.specs.Step.{step}
 use Rattle.plain_bus.specs.Plain.{lineOf, levelOf, Found}
 
--- an address that was completed, and whether it matched
-pub record Completed : Type 0 where
-  pub byte : ℕ
-  pub matched : Bool
-
-abbrev pub completed : ℕ → Bool → Completed
-completed byte matched = record { byte = byte; matched = matched }
-
 -- seven bits of an address are gathered
 abbrev pub lacksOne : Phase → Bool
 lacksOne Idle = false
 lacksOne (Address count bits) = eqb count 7
-lacksOne (Addressed bits ninth) = false
+lacksOne (Addressed matched bits ninth) = false
 lacksOne Ignoring = false
-lacksOne (Receive count bits) = false
-lacksOne (Transmit count byte) = false
-lacksOne (Held clocks) = false
+lacksOne (Receive matched count bits) = false
+lacksOne (Transmit matched count byte) = false
+lacksOne (Held matched clocks) = false
+
+-- an address and what its comparison gave
+abbrev pub told : ℕ → Comparison → Found
+told byte outcome = record { byte = byte; outcome = outcome }
 
 -- the address that the phase after the eighth bit tells of, its byte being in II DAT
-abbrev pub toldBy : Phase → ℕ → List Completed
+abbrev pub toldBy : Phase → ℕ → List Found
 toldBy Idle byte = []
 toldBy (Address count bits) byte = []
-toldBy (Addressed bits ninth) byte = completed byte true ∷ []
-toldBy Ignoring byte = completed byte false ∷ []
-toldBy (Receive count bits) byte = []
-toldBy (Transmit count sent) byte = []
-toldBy (Held clocks) byte = []
+toldBy (Addressed matched bits ninth) byte = told byte (Own matched) ∷ []
+toldBy Ignoring byte = told byte None ∷ []
+toldBy (Receive matched count bits) byte = []
+toldBy (Transmit matched count sent) byte = []
+toldBy (Held matched clocks) byte = []
 
 -- what a step from one state to the next completes
-abbrev pub completes : Chip → Chip → List Completed
+abbrev pub completes : Chip → Chip → List Found
 completes c d = pick (lacksOne (c .core .bus .phase)) (toldBy (d .core .bus .phase) (d .core .bus .iidat)) []
 
 -- the event word of a change
@@ -54,7 +51,7 @@ abbrev pub eventOf : ℕ → ℕ
 eventOf change = eventWord 3 (lineOf change) (levelOf change)
 
 -- what the chip completes when the changes are given to it one by one
-abbrev pub completedBy : Chip → List ℕ → List Completed
+abbrev pub completedBy : Chip → List ℕ → List Found
 completedBy c [] = []
 completedBy c (change ∷ changes) = completes c (step c (eventOf change) .chip) ++ completedBy (step c (eventOf change) .chip) changes
 
@@ -67,7 +64,3 @@ pub record Begins (own : ℕ) (c : Chip) : Type 0 where
   pub sda-high : c .core .sda ≡ true
   pub reset-high : c .core .reset ≡ true
   pub address : addressBits (c .core .bus .iiadr) ≡ addressBits own
-
--- an address of the plain reading, as far as the states tell
-abbrev pub shown : Found → Completed
-shown f = completed (f .byte) (not (eqb (f .outcome) 0))

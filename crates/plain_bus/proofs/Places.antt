@@ -12,7 +12,9 @@ use lib.Seq.{take-all, length-take-le, take-suc-set, drop-set-lt, drop-drop}
 use borrow.Author.Tests.{ltb-true, ltb-false, lt-ltb, le-ltb, eq-eqb, ne-eqb}
 use Rattle.bits.specs.Byte.{pick, num}
 use Rattle.bits.proofs.Mask.{num-lt}
-use Rattle.plain_bus.specs.Plain.{sdaBefore, startAt, risesSince, levelsAt, byteOf, outcomeNumber, Found, found, addressAt, endsAt, addressesFrom, addresses}
+use Rattle.bus.specs.Bus.{isOwn}
+use Rattle.ddc2b.specs.Ddc2b.{compared}
+use Rattle.plain_bus.specs.Plain.{sdaBefore, startAt, risesSince, levelsAt, byteOf, Found, found, addressAt, endsAt, addressesFrom, addresses}
 use Rattle.plain_bus.specs.Reading.{transferOf, transferAt, hasAddress, endsBy, wordOf}
 use Rattle.plain_bus.specs.declared.Transfer.{Transfer}
 
@@ -47,7 +49,7 @@ address-by own false levels n e = refl
 address-by own true levels n e = rw (e, eight-by levels (ltb (length levels) 8) refl)
 
 ends-by : (own : ℕ) (start : Bool) (levels : List Bool) (n : ℕ) → n ≡ length levels
-    → ((start && not (ltb n 9)) && not (eqb (outcomeNumber own (byteOf (take 8 levels))) 0)) ≡ endsBy own (transferOf (pick start levels []))
+    → ((start && not (ltb n 9)) && isOwn (compared own (byteOf (take 8 levels)))) ≡ endsBy own (transferOf (pick start levels []))
 unfolding endsBy
 ends-by own false levels n e = refl
 ends-by own true levels n e = rw (e, nine-by levels (ltb (length levels) 9) refl)

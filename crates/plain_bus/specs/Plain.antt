@@ -6,17 +6,14 @@ use mathlib.Core.List.{List, [], _∷_, _++_, map}
 use lib.Dec.{eqb, ltb}
 use lib.ListN.{length, getD, take}
 use Rattle.bits.specs.Byte.{pick, num}
+use Rattle.events.specs.Pins.{SDA, SCL}
+use Rattle.bus.specs.declared.Comparison.{Comparison}
+use Rattle.bus.specs.Bus.{isOwn}
+use Rattle.ddc2b.specs.Ddc2b.{compared}
 
 -- ---- a change
 
--- the pin numbers of the two lines, as in event words
-abbrev pub SDA : ℕ
-SDA = 24
-
-abbrev pub SCL : ℕ
-SCL = 25
-
--- a change is a pair in one number: the line in the upper byte, the level in the lower
+-- a change is a pair in one number: the line, by its pin number, in the upper byte, and the level in the lower
 abbrev pub lineOf : ℕ → ℕ
 lineOf change = change / 256
 
@@ -87,23 +84,13 @@ addressOf cs s = byteOf (take 8 (levelsAt cs (risesSince cs s)))
 abbrev pub hasRises : ℕ → List ℕ → ℕ → Bool
 hasRises n cs s = startAt cs s && not (ltb (length (risesSince cs s)) n)
 
--- ---- the comparison
-
--- bits 7..1: the address without its direction bit
-abbrev pub addressBits : ℕ → ℕ
-addressBits byte = byte / 2 % 128
-
--- none (0), A0H (1), II ADR (2) or both (3)
-unfoldable pub outcomeNumber : ℕ → ℕ → ℕ
-outcomeNumber own byte = num (eqb (addressBits byte) 80) + 2 * num (eqb (addressBits byte) (addressBits own))
-
--- an address as it is listed
+-- an address as it is listed, with the outcome of its comparison: bits 7..1, with A0H and II ADR
 pub record Found : Type 0 where
   pub byte : ℕ
-  pub outcome : ℕ
+  pub outcome : Comparison
 
 abbrev pub found : ℕ → ℕ → Found
-found own byte = record { byte = byte; outcome = outcomeNumber own byte }
+found own byte = record { byte = byte; outcome = compared own byte }
 
 -- ---- the addresses of a list
 
@@ -113,7 +100,7 @@ addressAt own cs s = pick (hasRises 8 cs s) (found own (addressOf cs s) ∷ []) 
 
 -- the reading stops after the ninth rise since the START of an address that matched
 unfoldable pub endsAt : ℕ → List ℕ → ℕ → Bool
-endsAt own cs s = hasRises 9 cs s && not (eqb (outcomeNumber own (addressOf cs s)) 0)
+endsAt own cs s = hasRises 9 cs s && isOwn (compared own (addressOf cs s))
 
 -- those of the STARTs from place s on, n places far, up to the stop
 unfoldable pub addressesFrom : ℕ → List ℕ → ℕ → ℕ → List Found

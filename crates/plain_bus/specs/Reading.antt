@@ -5,7 +5,14 @@ use mathlib.Core.List.{List, [], _∷_, _++_, map}
 use lib.Dec.{eqb, ltb}
 use lib.ListN.{length, drop, take}
 use Rattle.bits.specs.Byte.{pick, num}
-use Rattle.plain_bus.specs.Plain.{SDA, SCL, lineOf, levelOf, risesSince, levelsAt, byteOf, sdaBefore, riseAt, startAt, outcomeNumber, Found, addresses}
+use Rattle.events.specs.Pins.{SDA, SCL}
+use Rattle.bus.specs.declared.OwnAddress.{OwnAddress}
+use Rattle.bus.specs.declared.OwnAddress.the-variants.{A0, IiAdr, Both}
+use Rattle.bus.specs.declared.Comparison.{Comparison}
+use Rattle.bus.specs.declared.Comparison.the-variants.{None, Own}
+use Rattle.bus.specs.Bus.{isOwn}
+use Rattle.ddc2b.specs.Ddc2b.{compared}
+use Rattle.plain_bus.specs.Plain.{lineOf, levelOf, risesSince, levelsAt, byteOf, sdaBefore, riseAt, startAt, Found, addresses}
 use Rattle.plain_bus.specs.declared.Fault.{Fault}
 use Rattle.plain_bus.specs.declared.Fault.the-variants.{NoFault, OtherLine, OtherLevel}
 use Rattle.plain_bus.specs.declared.Reading.{Reading}
@@ -49,9 +56,19 @@ readingBy OtherLevel room count = BadLevel
 unfoldable pub reading : ℕ → List ℕ → List ℕ → Reading
 reading own cs places = readingBy (firstFault cs) (length places) (length (addresses own cs))
 
+-- the number of each outcome
+abbrev pub ownNumber : OwnAddress → ℕ
+ownNumber A0 = 1
+ownNumber IiAdr = 2
+ownNumber Both = 3
+
+abbrev pub outcomeNumber : Comparison → ℕ
+outcomeNumber None = 0
+outcomeNumber (Own matched) = ownNumber matched
+
 -- an address in one number: the byte above, the number of its outcome below
 abbrev pub wordOf : Found → ℕ
-wordOf a = a .byte * 256 + a .outcome
+wordOf a = a .byte * 256 + outcomeNumber (a .outcome)
 
 -- the places after an answer: as they were where it is a refusal; else the addresses, and what was there past them
 abbrev pub written : Reading → List ℕ → List ℕ → List ℕ
@@ -87,4 +104,4 @@ hasAddress t = ltb 7 (t .rises)
 
 -- the reading stops at a transfer with a ninth rise and an address that matched
 unfoldable pub endsBy : ℕ → Transfer → Bool
-endsBy own t = eqb (t .rises) 9 && not (eqb (outcomeNumber own (t .byte)) 0)
+endsBy own t = eqb (t .rises) 9 && isOwn (compared own (t .byte))

@@ -5,9 +5,12 @@ ghost use Prim.Native.Nat.{_+_, _*_, _%_, _<_, _≤_};
 ghost use mathlib.Core.List.{map, _++_};
 ghost use lib.ListN.{length, drop, set};
 ghost use Rattle.bits.specs.Byte.{pick, num};
-ghost use Rattle.plain_bus.specs.Plain.{levelBefore, riseAt, startAt, stopAt, risesSince, levelsAt, outcomeNumber, found, addresses};
-ghost use Rattle.plain_bus.specs.Reading.{levelFault, faultOf, firstFault, numberOf, readingBy, reading, wordOf, written, placesLeft, transferOf, transferAt, risenOf, takenAt, hasAddress, endsBy};
+ghost use Rattle.plain_bus.specs.Plain.{levelBefore, riseAt, startAt, stopAt, risesSince, levelsAt, found, addresses};
+ghost use Rattle.plain_bus.specs.Reading.{levelFault, faultOf, firstFault, numberOf, readingBy, reading, ownNumber, outcomeNumber, wordOf, written, placesLeft, transferOf, transferAt, risenOf, takenAt, hasAddress, endsBy};
+ghost use Rattle.bus.specs.Bus.{isOwn};
 ghost use Rattle.plain_bus.specs.declared.Fault.{Fault};
+use bus::Comparison;
+use bus::OwnAddress;
 
 const SDA: u16 = 24;
 
@@ -165,15 +168,31 @@ fn transfer_at(changes: &[u16], place: usize) -> Transfer
 
 // ---- the addresses
 
-fn outcome(own: u8, byte: u8) -> u8
-    ensures { λ r. ⌜ r ≡ outcomeNumber own byte ⌝ }
+fn own_number(matched: OwnAddress) -> u8
+    ensures { λ r. ⌜ r ≡ ownNumber matched ⌝ }
 {
-    let a0 = byte / 2 % 128 == 80;
-    let ours = byte / 2 % 128 == own / 2 % 128;
-    if a0 {
-        if ours { 3 } else { 1 }
-    } else {
-        if ours { 2 } else { 0 }
+    match matched {
+        OwnAddress::A0 => 1,
+        OwnAddress::IiAdr => 2,
+        OwnAddress::Both => 3,
+    }
+}
+
+fn outcome_number(outcome: Comparison) -> u8
+    ensures { λ r. ⌜ r ≡ outcomeNumber outcome ⌝ }
+{
+    match outcome {
+        Comparison::None => 0,
+        Comparison::Own(matched) => own_number(matched),
+    }
+}
+
+fn is_own(outcome: Comparison) -> bool
+    ensures { λ r. ⌜ r ≡ isOwn outcome ⌝ }
+{
+    match outcome {
+        Comparison::None => false,
+        Comparison::Own(_) => true,
     }
 }
 
@@ -183,7 +202,7 @@ fn ends(own: u8, t: Transfer) -> bool
 {
     if t.rises == 9 {
         let byte = t.byte;
-        return outcome(own, byte) != 0;
+        return is_own(ddc2b::compared(own, byte));
     }
     false
 }
@@ -216,7 +235,7 @@ fn count(own: u8, changes: &[u16]) -> usize
 fn word(own: u8, byte: u8) -> u16
     ensures { λ r. ⌜ r ≡ wordOf (found own byte) ⌝ }
 {
-    byte as u16 * 256 + outcome(own, byte) as u16
+    byte as u16 * 256 + outcome_number(ddc2b::compared(own, byte)) as u16
 }
 
 // The address of a transfer that has eight rises, to this place.

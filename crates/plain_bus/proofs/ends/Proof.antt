@@ -12,5 +12,6 @@ ends-spec =
     tie.close
     (tie.spec
     (λ c κs. search needs)
-    (λ c. simp (c .outcome .ensures, eq-eqb _ _ (c .before .if1 .taken)))
+    (λ c κs. search needs)
+    (λ c. simp (c .is-own .ensures, c .before .compared .ensures, eq-eqb _ _ (c .before .before .if1 .taken)))
     (λ c. simp (ne-eqb _ _ (c .if1 .left))))
