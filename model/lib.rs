@@ -3,6 +3,7 @@
 //! It is written from document 01, the wishes of document 02 that touch the chip, and the readings in docs/DECISIONS.md, and
 //! shares no code with the proved crates.
 
+pub mod addresses;
 pub mod chip;
 pub mod counters6862;
 pub mod coverage;
