@@ -337,7 +337,7 @@ fn listed(own: u8, changes: &[u16], places: &mut [u16]) -> Reading
 }
 
 // The reading: each address with its outcome to the start of the places, up to the stop; or a refusal, and nothing written.
-// Wrong answers: a place past the addresses written; a list refused only up to its stop.
+// Wrong answers: the eighth rise of a matched address taken for the stop; a list refused only up to its stop.
 pub fn read(own: u8, changes: &[u16], places: &mut [u16]) -> Reading
     ensures { λ r. ⌜ (r ≡ reading own (now (changes .entry)) (now (places .entry))) × (now (places .exit) ≡ placesLeft own (now (changes .entry)) (now (places .entry))) ⌝ }
 {
