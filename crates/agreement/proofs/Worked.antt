@@ -2,7 +2,6 @@
 -- Assumes nothing.
 use Prim.Native.Nat.{ℕ}
 use mathlib.Core.Path.{_≡_, refl, sym, _∙_}
-use mathlib.Core.Bool.{true, false}
 use mathlib.Core.List.{List, [], _∷_, _++_}
 use lib.ListN.{take}
 use Rattle.bus.specs.declared.OwnAddress.the-variants.{A0, IiAdr}
@@ -12,6 +11,9 @@ use Rattle.plain_bus.specs.Plain.{levelBefore, riseAt, startAt, stopAt, risesFr
 use Rattle.plain_bus.specs.Reading.{faultOf, firstFault}
 use Rattle.plain_bus.specs.declared.Fault.the-variants.{NoFault}
 use Rattle.chip.specs.declared.Chip.{Chip}
+use Rattle.chip.specs.State.{fresh}
+use Rattle.run.specs.Run.{after}
+use Rattle.cases.proofs.Opened.{opened}
 use Rattle.agreement.specs.Stepping.{told, completedBy, Begins}
 use Rattle.agreement.proofs.Agree.{agree}
 
@@ -37,6 +39,14 @@ pub example-good : firstFault example ≡ NoFault
 unfolding firstFault faultOf
 example-good = refl
 
--- and so the chip completes these three, whatever else its state is
+-- so that a chip completes these three, whatever else its state is
 pub example-completed : (c : Chip) → Begins 0x6e c → completedBy c (take (changesToStop 0x6e example) example) ≡ told 0x50 None ∷ told 0xa1 (Own A0) ∷ told 0x6e (Own IiAdr) ∷ []
 example-completed c b = sym (agree 0x6e c b example example-good) ∙ example-found
+
+-- MDCON and II STS written 0, and 6EH to II ADR: this is such a state
+unfoldable pub ready : Chip
+ready = after fresh (0x02000500 ∷ 0x02001500 ∷ 0x0200136e ∷ [])
+
+pub ready-begins : Begins 0x6e ready
+unfolding opened ready
+ready-begins = record { well = refl; ddc2b = refl; idle = refl; scl-high = refl; sda-high = refl; reset-high = refl; address = refl }
