@@ -3,17 +3,19 @@
 use Prim.Native.Nat.{ℕ, suc, _+_, _*_, _%_, _^_, _<_}
 use mathlib.Core.Path.{_≡_, refl, ap, sym, _∙_}
 use mathlib.Core.List.{List, [], _∷_, _++_}
-use mathlib.Core.Bool.{Bool, true, false, true≢false}
+use mathlib.Core.Bool.{Bool, true, false, true≢false, or-true}
 use native.Mathlib.Omega.{arith}
 use native.Mathlib.Nat.{mod-eq-of-lt, pow-suc}
 use native.Mathlib.Numerals.{add-one}
 use lib.Pow.{pow-mono}
 use lib.ListN.{length, length-append}
+use lib.Bits.{bitOr}
 use lib.Dec.{eqb, ltb}
 use borrow.Author.Tests.{ltb-true, lt-ltb, eqb-true, eqb-false, ne-eqb}
 use Rattle.bits.specs.Byte.{pick, num, bit}
 use Rattle.bits.proofs.Bitwise.{bit-or}
 use Rattle.bits.proofs.Mask.{num-lt}
+use Rattle.registers.specs.Names.{INTA}
 use Rattle.bus.specs.declared.Edge.{Edge}
 use Rattle.bus.specs.declared.Edge.the-variants.{Flat, Rise, Fall}
 use Rattle.bus.specs.declared.OwnAddress.{OwnAddress}
@@ -76,7 +78,7 @@ pub data Follows (own : ℕ) : Core → Bool → Bool → Heard → Type 0 where
 
 -- what a step from one core to another completes
 abbrev pub completesCore : Core → Core → List Found
-completesCore c d = pick (lacksOne (c .bus .phase)) (toldBy (d .bus .phase) (d .bus .iidat)) []
+completesCore c d = pick (lacksOne (c .bus .phase)) (toldBy (bit INTA (d .irqx)) (d .bus .phase) (d .bus .iidat)) []
 
 -- a change, and what is completed by it
 pub record Moved (own : ℕ) (c d : Core) (s x : Bool) (h : Heard) (fs : List Found) : Type 0 where
@@ -106,12 +108,12 @@ pick-none : (t : Bool) → _≡_ {A = List Found} [] (pick t [] [])
 pick-none true = refl
 pick-none false = refl
 
-stays : {s : Bool} {q : Phase} {h : Heard} → Phased s q h → (y : ℕ) → [] ≡ pick (lacksOne q) (toldBy q y) []
-stays (idle s) y = refl
-stays (ignores s) y = refl
-stays (gathers s ls f) y = pick-none (eqb (length ls) 7)
-stays (waits matched byte) y = refl
-stays (pulls matched byte) y = refl
+stays : {s : Bool} {q : Phase} {h : Heard} → Phased s q h → (flag : Bool) (y : ℕ) → [] ≡ pick (lacksOne q) (toldBy flag q y) []
+stays (idle s) flag y = refl
+stays (ignores s) flag y = refl
+stays (gathers s ls f) flag y = pick-none (eqb (length ls) 7)
+stays (waits matched byte) flag y = refl
+stays (pulls matched byte) flag y = refl
 
 -- ---- SDA
 
@@ -133,9 +135,9 @@ module _ {own : ℕ} (g : Core) (y : ℕ) (k : KeptBy g own) where
   pub sda-follows : (s x l : Bool) {q : Phase} {h : Heard} → Phased s q h
       → Moved own (frame g true s x q y) (sdaMoved (frame g true s x q y) l) s l (heardNext own (sdaKind s x l) h) (foundNext own (sdaKind s x l) h)
   unfolding sdaMoved onSda onSdaDdc2b sdaPulled sclPulled started stopped
-  sda-follows false x l p = rw (k .ddc2b, scl-free p, unmoved-at-low) (record { core = follows g false l y p k; same = stays p y })
-  sda-follows true true true p = rw (k .ddc2b, scl-free p, sda-free p) (record { core = follows g true true y p k; same = stays p y })
-  sda-follows true false false p = rw (k .ddc2b, scl-free p, sda-free p) (record { core = follows g true false y p k; same = stays p y })
+  sda-follows false x l p = rw (k .ddc2b, scl-free p, unmoved-at-low) (record { core = follows g false l y p k; same = stays p _ y })
+  sda-follows true true true p = rw (k .ddc2b, scl-free p, sda-free p) (record { core = follows g true true y p k; same = stays p _ y })
+  sda-follows true false false p = rw (k .ddc2b, scl-free p, sda-free p) (record { core = follows g true false y p k; same = stays p _ y })
   sda-follows true true false {q} p =
       rw (k .ddc2b, scl-free p, sda-free p)
       (record {
@@ -160,6 +162,14 @@ before-last n h e = lt-ltb n 7 (omega (arith, ltb-true n 8 h, eqb-false n 7 e))
 compared-by-bits : (own own′ byte : ℕ) → addressBits own ≡ addressBits own′ → compared own byte ≡ compared own′ byte
 unfolding compared
 compared-by-bits own own′ byte h = rw h
+
+-- flag A is set where 08H is put into IRQX
+eight-flag : bit INTA 0x08 ≡ true
+unfolding bit
+eight-flag = refl
+
+flag-raised : (irqx : ℕ) → bit INTA (bitOr irqx 0x08) ≡ true
+flag-raised irqx = rw (bit-or, eight-flag, or-true)
 
 module _ {own : ℕ} (g : Core) (x : Bool) (y : ℕ) (k : KeptBy g own) where
   fall-follows : {q : Phase} {h : Heard} → Phased true q h → Moved own (frame g true true x q y) (sclFall (frame g true false x q y)) false x h []
@@ -195,7 +205,7 @@ module _ {own : ℕ} (g : Core) (x : Bool) (y : ℕ) (k : KeptBy g own) where
       (record { core = follows (raised g 0) true x (byteOf (ls ++ (x ∷ []))) (ignores true) (kept-raised 0 (omega arith) k); same = refl })
   gather-last ls f l (Own matched) m =
       rw (eqb-true (length ls) 7 l, gathered-level ls x f, ← own-matches (g .bus .iiadr) (byteOf (ls ++ (x ∷ []))), compared-by-bits (g .bus .iiadr) own (byteOf (ls ++ (x ∷ []))) (k .address-bits), m)
-      (record { core = follows (raised g 0x08) true x (byteOf (ls ++ (x ∷ []))) (waits matched (byteOf (ls ++ (x ∷ [])))) (kept-raised 0x08 (omega arith) k); same = refl })
+      (record { core = follows (raised g 0x08) true x (byteOf (ls ++ (x ∷ []))) (waits matched (byteOf (ls ++ (x ∷ [])))) (kept-raised 0x08 (omega arith) k); same = rw (flag-raised (g .irqx)) })
 
   gather-follows : (ls : List Bool) (f : ltb (length ls) 8 ≡ true) (last : Bool) → eqb (length ls) 7 ≡ last
       → Moved own (frame g true false x (Address (length ls) (byteOf ls)) y) (sclRise (frame g true true x (Address (length ls) (byteOf ls)) y)) true x
@@ -215,8 +225,8 @@ module _ {own : ℕ} (g : Core) (x : Bool) (y : ℕ) (k : KeptBy g own) where
   pub scl-follows : (s l : Bool) {q : Phase} {h : Heard} → Phased s q h → stopsNext (sclKind s x l) h ≡ false
       → Moved own (frame g true s x q y) (sclMoved (frame g true s x q y) l) l x (heardNext own (sclKind s x l) h) (foundNext own (sclKind s x l) h)
   unfolding sclMoved onScl onSclDdc2b sclPulled
-  scl-follows true true p e = rw (k .ddc2b, scl-free p) (record { core = follows g true x y p k; same = stays p y })
-  scl-follows false false p e = rw (k .ddc2b, scl-free p) (record { core = follows g false x y p k; same = stays p y })
+  scl-follows true true p e = rw (k .ddc2b, scl-free p) (record { core = follows g true x y p k; same = stays p _ y })
+  scl-follows false false p e = rw (k .ddc2b, scl-free p) (record { core = follows g false x y p k; same = stays p _ y })
   scl-follows true false p e = rw (k .ddc2b, scl-free p) (fall-follows p)
   scl-follows false true p e = rw (k .ddc2b, scl-free p) (rise-follows p e)
 

@@ -4,7 +4,8 @@ use mathlib.Core.Path.{_≡_}
 use mathlib.Core.Bool.{Bool, true, false}
 use mathlib.Core.List.{List, [], _∷_, _++_}
 use lib.Dec.{eqb}
-use Rattle.bits.specs.Byte.{pick}
+use Rattle.bits.specs.Byte.{pick, bit}
+use Rattle.registers.specs.Names.{INTA}
 use Rattle.events.specs.Word.{eventWord}
 use Rattle.bus.specs.declared.Mode.the-variants.{Ddc2b}
 use Rattle.bus.specs.declared.Comparison.{Comparison}
@@ -32,19 +33,19 @@ lacksOne (Held matched clocks) = false
 abbrev pub told : ℕ → Comparison → Found
 told byte outcome = record { byte = byte; outcome = outcome }
 
--- the address that the phase after the eighth bit tells of, its byte being in II DAT
-abbrev pub toldBy : Phase → ℕ → List Found
-toldBy Idle byte = []
-toldBy (Address count bits) byte = []
-toldBy (Addressed matched bits ninth) byte = told byte (Own matched) ∷ []
-toldBy Ignoring byte = told byte None ∷ []
-toldBy (Receive matched count bits) byte = []
-toldBy (Transmit matched count sent) byte = []
-toldBy (Held matched clocks) byte = []
+-- the address that the phase after the eighth bit tells of, its byte being in II DAT; one that matched has set flag A
+abbrev pub toldBy : Bool → Phase → ℕ → List Found
+toldBy flag Idle byte = []
+toldBy flag (Address count bits) byte = []
+toldBy flag (Addressed matched bits ninth) byte = pick flag (told byte (Own matched) ∷ []) []
+toldBy flag Ignoring byte = told byte None ∷ []
+toldBy flag (Receive matched count bits) byte = []
+toldBy flag (Transmit matched count sent) byte = []
+toldBy flag (Held matched clocks) byte = []
 
 -- what a step from one state to the next completes
 abbrev pub completes : Chip → Chip → List Found
-completes c d = pick (lacksOne (c .core .bus .phase)) (toldBy (d .core .bus .phase) (d .core .bus .iidat)) []
+completes c d = pick (lacksOne (c .core .bus .phase)) (toldBy (bit INTA (d .core .irqx)) (d .core .bus .phase) (d .core .bus .iidat)) []
 
 -- the event word of a change
 abbrev pub eventOf : ℕ → ℕ
