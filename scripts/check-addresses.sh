@@ -1,6 +1,6 @@
 #!/usr/bin/env bash
 # Compares the proved reading of the bus with the independent one and with both chips, on every list of toggles to a depth and on
-# generated lists; runs the worked cases of tests/addresses/cases.txt by ./addresses. Ends in 'addresses: ..', or names the first
+# generated lists; calls it from C; runs the worked cases of tests/addresses/cases.txt by ./addresses. Ends in 'addresses: ..', or names the first
 # difference and fails.
 set -euo pipefail
 cd "$(dirname "$0")/.."
@@ -12,6 +12,8 @@ done
 cargo test --offline --quiet --release --lib addresses > "$work/log" 2>&1 || { cat "$work/log"; exit 1; }
 cargo build --offline --quiet --release --features proved --bin addresses --bin addresses_compare
 target/cargo/release/addresses_compare
+cc -std=c99 -Wall -Wextra -Werror -Iinclude -o "$work/addresses" tests/addresses.c target/staticlib/libaddresses_capi.a
+"$work/addresses"
 
 python3 - <<'PYTHON'
 import re, subprocess, sys

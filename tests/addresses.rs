@@ -227,7 +227,45 @@ fn generated(rng: &mut Rng, own: u8) -> Vec<Change> {
     bus.changes
 }
 
+/// Times of the proved reading and the independent one, best of five: transfers to other devices, and SDA toggled at low SCL, where
+/// each place looks back to the list's beginning.
+fn bench() {
+    let best = |run: &mut dyn FnMut()| {
+        let time = |_| {
+            let start = std::time::Instant::now();
+            run();
+            start.elapsed().as_secs_f64()
+        };
+        (0..5).map(time).fold(f64::MAX, f64::min)
+    };
+    for length in [1_000, 10_000, 40_000] {
+        let mut transfers = Bus::new();
+        while transfers.changes.len() < length {
+            transfers.start();
+            for bit in [0, 1, 0, 1, 0, 0, 0, 0, 1] {
+                transfers.clock(bit);
+            }
+        }
+        let mut low = Bus::new();
+        low.put(SCL, 0);
+        while low.changes.len() < length {
+            low.toggle(false);
+        }
+        for (name, list) in [("transfers", &transfers.changes[..length]), ("SDA at low SCL", &low.changes[..length])] {
+            let words: Vec<u16> = list.iter().map(|c| u16::from_be_bytes([c.0, c.1])).collect();
+            let mut places = vec![0; length / 16 + 1];
+            let mut count = 0;
+            let proved = best(&mut || assert_eq!(addresses(0x6E, &words, &mut places, &mut count), 0));
+            let plain = best(&mut || assert_eq!(read(0x6E, list, places.len()).map(|l| l.len()), Ok(count)));
+            println!("{name}, {length} changes: proved {:.3} ms, independent {:.3} ms", proved * 1e3, plain * 1e3);
+        }
+    }
+}
+
 fn main() {
+    if std::env::args().nth(1).is_some_and(|word| word == "bench") {
+        return bench();
+    }
     let mut tally = Tally::default();
     let mut proved = Proved { words: Vec::new(), answers: Vec::new() };
     for own in [0x00, 0x6E] {
