@@ -1,14 +1,14 @@
 -- The plain reading lists what the stepping engine completes, up to the stop (document 02, Wish 11).
 -- Assumes nothing.
-use Prim.Native.Nat.{ℕ, zero, suc, _+_, _-_, _/_, _%_, _<_, _≤_}
+use Prim.Native.Nat.{ℕ, zero, suc, _+_, _-_, _<_, _≤_}
 use mathlib.Core.Path.{_≡_, refl, ap, ap₂, sym, _∙_}
 use mathlib.Core.List.{List, [], _∷_, _++_}
-use mathlib.Core.Bool.{Bool, true, false, _||_, true≢false}
+use mathlib.Core.Bool.{Bool, true, false, _||_}
 use native.Mathlib.Omega.{arith}
 use lib.ListN.{length, getD, take, drop}
-use lib.Seq.{drop-cons, drop-length}
+use lib.Seq.{drop-cons}
 use lib.Dec.{eqb, ltb}
-use borrow.Author.Tests.{ltb-false, eqb-true, eq-eqb, ne-eqb}
+use borrow.Author.Tests.{ltb-false, eqb-true}
 use Rattle.bits.specs.Byte.{pick, num}
 use Rattle.bits.proofs.Level.{num-eqb}
 use Rattle.events.specs.declared.Decoded.{Decoded}
@@ -18,10 +18,9 @@ use Rattle.bus.specs.declared.Phase.{Phase}
 use Rattle.bus.specs.declared.Phase.the-variants.{Idle}
 use Rattle.chip.specs.declared.Core.{Core}
 use Rattle.chip.specs.declared.Chip.{Chip}
-use Rattle.chip.specs.State.{chipOf, keep}
 use Rattle.edges.specs.Edges.{sclMoved, sdaMoved}
 use Rattle.pins.specs.Pins.{pinKind, pinMovedAs, pinMoved}
-use Rattle.outcome.specs.Outcome.{coreAfter, wasReset, keptAfter, next}
+use Rattle.outcome.specs.Outcome.{coreAfter, next}
 use Rattle.well_formed.specs.WellFormed.{wellFormed}
 use Rattle.step.specs.Step.{advance, step}
 use Rattle.invariant.proofs.WellFormed.{step-well-formed}
@@ -30,11 +29,11 @@ use Rattle.isolation.proofs.Theorems.{flags-lt}
 use Rattle.plain_bus.specs.declared.Fault.{Fault}
 use Rattle.plain_bus.specs.declared.Fault.the-variants.{NoFault, OtherLine, OtherLevel}
 use Rattle.events.specs.Pins.{SDA, SCL}
-use Rattle.plain_bus.specs.Plain.{lineOf, levelOf, lineAt, highAt, levelBefore, sclBefore, sdaBefore, Found, addressesFrom, addresses, changesFrom, changesToStop}
-use Rattle.plain_bus.specs.Reading.{levelFault, faultOf, orElse, firstFault}
-use Rattle.agreement.specs.Stepping.{completes, eventOf, completedBy, Begins}
-use Rattle.agreement.proofs.Heard.{Kind, At, sdaKind, sclKind, at-sda, at-scl, Heard, quiet, heardNext, foundNext, stopsNext, foundIn, readIn, Turn, turn, last-turn, Few, end-found, end-reads}
-use Rattle.agreement.proofs.Follows.{Phased, idle, few, Follows, follows, completesCore, Moved, sda-follows, scl-follows, stop-completes}
+use Rattle.plain_bus.specs.Plain.{lineOf, levelOf, lineAt, highAt, levelBefore, sclBefore, sdaBefore, Found, addresses, changesToStop}
+use Rattle.plain_bus.specs.Reading.{faultOf, orElse, firstFault}
+use Rattle.agreement.specs.Stepping.{eventOf, completedBy, Begins}
+use Rattle.agreement.proofs.Heard.{Kind, At, sdaKind, sclKind, at-sda, at-scl, Heard, quiet, heardNext, foundNext, stopsNext, foundIn, readIn, turn, last-turn, Few, end-found, end-reads}
+use Rattle.agreement.proofs.Follows.{idle, few, Follows, follows, completesCore, Moved, sda-follows, scl-follows, stop-completes}
 
 -- ---- a change with no fault
 

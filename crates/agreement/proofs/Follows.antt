@@ -1,6 +1,6 @@
 -- The chip's phase by what is heard in the list (document 01, "The bus").
 -- Assumes nothing.
-use Prim.Native.Nat.{ℕ, suc, _+_, _*_, _%_, _^_, _<_}
+use Prim.Native.Nat.{ℕ, suc, _+_, _*_, _^_, _<_}
 use mathlib.Core.Path.{_≡_, refl, ap, sym, _∙_}
 use mathlib.Core.List.{List, [], _∷_, _++_}
 use mathlib.Core.Bool.{Bool, true, false, true≢false, or-true}
@@ -11,7 +11,7 @@ use lib.Pow.{pow-mono}
 use lib.ListN.{length, length-append}
 use lib.Bits.{bitOr}
 use lib.Dec.{eqb, ltb}
-use borrow.Author.Tests.{ltb-true, lt-ltb, eqb-true, eqb-false, ne-eqb}
+use borrow.Author.Tests.{ltb-true, lt-ltb, eqb-true, eqb-false}
 use Rattle.bits.specs.Byte.{pick, num, bit}
 use Rattle.bits.proofs.Bitwise.{bit-or}
 use Rattle.bits.proofs.Mask.{num-lt}
@@ -27,8 +27,7 @@ use Rattle.bus.specs.Bus.{isOwn, pullsSda, pullsScl, sdaPulled, sclPulled}
 use Rattle.ddc2b.specs.Ddc2b.{addressBits, compared, gathered, phaseAtRise, dataAtRise, matchesAtRise, statusAtRise, holdsAtFall, phaseAtFall, startStatus, stopStatus}
 use Rattle.ddc2b.proofs.Own.{own-matches}
 use Rattle.chip.specs.declared.Core.{Core}
-use Rattle.chip.specs.declared.Chip.{Chip}
-use Rattle.chip.specs.State.{busOf, chipOf, raised, withBus}
+use Rattle.chip.specs.State.{busOf, raised, withBus}
 use Rattle.edges.specs.Edges.{busAtRise, sclRise, sclFall, onScl, onSclDdc2b, sclMoved, started, stopped, onSda, onSdaDdc2b, sdaMoved}
 use Rattle.isolation.proofs.Related.{frame, KeptBy, enddc-low, kept-status, kept-raised}
 use Rattle.plain_bus.specs.Plain.{appended, byteOf, Found, found}

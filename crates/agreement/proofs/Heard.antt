@@ -1,19 +1,19 @@
 -- What is heard before a place of the list, and what the plain reading finds from that place on.
 -- Assumes nothing.
-use Prim.Native.Nat.{ℕ, zero, suc, _+_, _-_, _<_, _≤_}
-use mathlib.Core.Path.{_≡_, refl, ap, ap₂, sym, _∙_}
-use mathlib.Core.List.{List, [], _∷_, _++_, map, append-assoc, append-nil}
+use Prim.Native.Nat.{ℕ, suc, _+_, _-_}
+use mathlib.Core.Path.{_≡_, refl, ap, sym, _∙_}
+use mathlib.Core.List.{List, [], _∷_, _++_, append-assoc, append-nil}
 use mathlib.Core.Bool.{Bool, true, false, not, _&&_, _||_, and-true, and-false, true≢false}
 use native.Mathlib.Omega.{arith}
 use lib.ListN.{length, getD, take, length-append, length-map}
 use lib.Seq.{take-at}
 use lib.Dec.{eqb, ltb}
-use borrow.Author.Tests.{ltb-true, ltb-false, lt-ltb, le-ltb, eqb-true, eqb-false, eq-eqb, ne-eqb}
+use borrow.Author.Tests.{ltb-true, ltb-false, lt-ltb, le-ltb, eqb-true, eqb-false}
 use Rattle.bits.specs.Byte.{pick}
 use Rattle.events.specs.Pins.{SDA, SCL}
 use Rattle.bus.specs.Bus.{isOwn}
 use Rattle.ddc2b.specs.Ddc2b.{compared}
-use Rattle.plain_bus.specs.Plain.{lineAt, highAt, levelBefore, sclBefore, sdaBefore, riseAt, startAt, stopAt, risesFrom, risesSince, levelsAt, byteOf, addressOf, Found, found, addressAt, endsAt, addressesFrom, changesFrom}
+use Rattle.plain_bus.specs.Plain.{lineAt, highAt, sclBefore, sdaBefore, riseAt, startAt, stopAt, risesFrom, levelsAt, byteOf, Found, found, addressAt, endsAt, addressesFrom, changesFrom}
 
 -- ---- what a place is
 
@@ -47,24 +47,22 @@ sclKind false x false = other
 module _ (cs : List ℕ) (i : ℕ) where
   at-sda-by : lineAt cs i ≡ SDA → (s x l : Bool) → sclBefore cs i ≡ s → sdaBefore cs i ≡ x → highAt cs i ≡ l → At cs i (sdaKind s x l)
   unfolding startAt stopAt riseAt
-  at-sda-by e false true true a b c = others (simp (e, a, b, c)) (simp (e, a, b, c)) (simp (e, a, b, c))
-  at-sda-by e false true false a b c = others (simp (e, a, b, c)) (simp (e, a, b, c)) (simp (e, a, b, c))
-  at-sda-by e false false true a b c = others (simp (e, a, b, c)) (simp (e, a, b, c)) (simp (e, a, b, c))
-  at-sda-by e false false false a b c = others (simp (e, a, b, c)) (simp (e, a, b, c)) (simp (e, a, b, c))
-  at-sda-by e true true true a b c = others (simp (e, a, b, c)) (simp (e, a, b, c)) (simp (e, a, b, c))
-  at-sda-by e true true false a b c = starts (simp (e, a, b, c))
-  at-sda-by e true false true a b c = stops (simp (e, a, b, c)) (simp (e, a, b, c))
-  at-sda-by e true false false a b c = others (simp (e, a, b, c)) (simp (e, a, b, c)) (simp (e, a, b, c))
+  at-sda-by e false x true a b c = others (rw (e, c)) (rw (e, c, a)) (rw e)
+  at-sda-by e false x false a b c = others (rw (e, c, a)) (rw (e, c)) (rw e)
+  at-sda-by e true true true a b c = others (rw (e, c)) (rw (e, c, a, b)) (rw e)
+  at-sda-by e true true false a b c = starts (rw (e, c, a, b))
+  at-sda-by e true false true a b c = stops (rw (e, c)) (rw (e, c, a, b))
+  at-sda-by e true false false a b c = others (rw (e, c, a, b)) (rw (e, c)) (rw e)
 
   pub at-sda : lineAt cs i ≡ SDA → At cs i (sdaKind (sclBefore cs i) (sdaBefore cs i) (highAt cs i))
   at-sda e = at-sda-by e (sclBefore cs i) (sdaBefore cs i) (highAt cs i) refl refl refl
 
   at-scl-by : lineAt cs i ≡ SCL → (s l : Bool) → sclBefore cs i ≡ s → highAt cs i ≡ l → At cs i (sclKind s (sdaBefore cs i) l)
   unfolding startAt stopAt riseAt
-  at-scl-by e true true a c = others (rw e) (rw e) (simp (e, a, c))
-  at-scl-by e true false a c = others (rw e) (rw e) (simp (e, a, c))
-  at-scl-by e false true a c = rises (rw e) (rw e) (simp (e, a, c))
-  at-scl-by e false false a c = others (rw e) (rw e) (simp (e, a, c))
+  at-scl-by e true true a c = others (rw e) (rw e) (rw (e, c, a))
+  at-scl-by e true false a c = others (rw e) (rw e) (rw (e, c))
+  at-scl-by e false true a c = rises (rw e) (rw e) (rw (e, c, a))
+  at-scl-by e false false a c = others (rw e) (rw e) (rw (e, c))
 
   pub at-scl : lineAt cs i ≡ SCL → At cs i (sclKind (sclBefore cs i) (sdaBefore cs i) (highAt cs i))
   at-scl e = at-scl-by e (sclBefore cs i) (highAt cs i) refl refl

@@ -7,7 +7,7 @@ use lib.ListN.{take}
 use Rattle.bus.specs.declared.OwnAddress.the-variants.{A0, IiAdr}
 use Rattle.bus.specs.declared.Comparison.the-variants.{None, Own}
 use Rattle.ddc2b.specs.Ddc2b.{compared}
-use Rattle.plain_bus.specs.Plain.{levelBefore, riseAt, startAt, stopAt, risesFrom, addressAt, endsAt, addressesFrom, addresses, changesFrom, changesToStop}
+use Rattle.plain_bus.specs.Plain.{levelBefore, riseAt, startAt, stopAt, risesFrom, addressAt, endsAt, addressesFrom, addresses, changesToStop}
 use Rattle.plain_bus.specs.Reading.{faultOf, firstFault}
 use Rattle.plain_bus.specs.declared.Fault.the-variants.{NoFault}
 use Rattle.chip.specs.declared.Chip.{Chip}

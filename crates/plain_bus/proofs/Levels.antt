@@ -1,20 +1,17 @@
 -- The level of a line before a place, and the first fault, from one place to the next.
 -- Assumes nothing.
-use Prim.Native.Nat.{ℕ, suc, _+_, _-_, _<_, _≤_, _/_, _%_}
-use mathlib.Core.Path.{_≡_, refl, sym, ap, _∙_}
-use mathlib.Core.Bool.{Bool, true, false}
-use mathlib.Core.List.{List, [], _∷_}
-use native.Mathlib.Omega.{arith}
+use Prim.Native.Nat.{ℕ, suc, _+_, _-_, _<_, _≤_}
+use mathlib.Core.Path.{_≡_}
+use mathlib.Core.Bool.{true}
+use mathlib.Core.List.{List}
 use native.Mathlib.Numerals.{add-one}
-use lib.Dec.{eqb}
 use lib.ListN.{length, getD, drop, drop-of-length-le}
 use lib.Seq.{drop-cons}
 use borrow.Author.Tests.{eq-eqb, ne-eqb}
-use Rattle.bits.specs.Byte.{pick}
 use Rattle.plain_bus.specs.Plain.{lineAt, highAt, levelBefore}
 use Rattle.plain_bus.specs.Reading.{faultOf, firstFault, orElse}
 use Rattle.plain_bus.specs.declared.Fault.{Fault}
-use Rattle.plain_bus.specs.declared.Fault.the-variants.{NoFault, OtherLine, OtherLevel}
+use Rattle.plain_bus.specs.declared.Fault.the-variants.{NoFault}
 
 -- ---- looking back from a place, one change at a time
 

@@ -1,7 +1,7 @@
 -- A plain reading of the bus (document 02, Wish 11): STARTs, STOPs and addresses in a list of outside changes of SCL and SDA. Each
 -- definition is of the list and of a place in it, counted from 0; no phase is kept from one place to the next.
 use Prim.Native.Nat.{ℕ, zero, suc, _+_, _-_, _*_, _/_, _%_}
-use mathlib.Core.Bool.{Bool, true, false, not, _&&_, _||_}
+use mathlib.Core.Bool.{Bool, true, not, _&&_, _||_}
 use mathlib.Core.List.{List, [], _∷_, _++_, map}
 use lib.Dec.{eqb, ltb}
 use lib.ListN.{length, getD, take}

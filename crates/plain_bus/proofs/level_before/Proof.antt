@@ -1,7 +1,7 @@
 -- `plain_bus::level_before` meets its contract. The loop's invariant: the changes passed are not of the line.
 -- Assumes nothing.
 use Prim.Native.Nat.{_≤_}
-use mathlib.Core.Path.{_≡_, refl, sym, _∙_}
+use mathlib.Core.Path.{_≡_, refl, _∙_}
 use native.Mathlib.Omega.{arith}
 use borrow.Author.Needs.{needs}
 use Rattle.plain_bus.specs.Plain.{levelBefore}

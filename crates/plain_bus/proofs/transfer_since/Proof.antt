@@ -1,7 +1,7 @@
 -- `plain_bus::transfer_since` meets its contract. The loop's invariant: what was taken, followed by the rises left, is the whole.
 -- Assumes nothing.
 use Prim.Native.Nat.{_-_}
-use mathlib.Core.Path.{_≡_, refl, sym, _∙_}
+use mathlib.Core.Path.{_≡_, sym, _∙_}
 use native.Mathlib.Omega.{arith}
 use borrow.Author.Needs.{needs}
 use lib.ListN.{length}
