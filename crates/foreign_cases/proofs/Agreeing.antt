@@ -1,0 +1,152 @@
+-- The premises one by one are those of `several-transfers`: where none fails the runs agree.
+use Prim.Native.Nat.{ℕ}
+use mathlib.Core.Path.{_≡_, refl, ap, sym}
+use mathlib.Core.List.{List, [], _∷_}
+use mathlib.Core.Bool.{Bool, true, false, not, _&&_, _||_, Bool·beq, true≢false}
+use native.Mathlib.Omega.{arith}
+use lib.Dec.{eqb}
+use lib.ListN.{length}
+use borrow.Author.Tests.{eqb-true}
+use Rattle.bits.specs.Byte.{pick}
+use Rattle.bits.proofs.Finite.{both}
+use Rattle.events.specs.Pins as pin
+use Rattle.events.specs.declared.Decoded.{Decoded}
+use Rattle.events.specs.declared.Decoded.the-variants.{Read, Write, Pin, Clock, Polarity, Refused}
+use Rattle.events.specs.Word.{decode}
+use Rattle.bus.specs.declared.Mode.{Mode}
+use Rattle.bus.specs.declared.Mode.the-variants.{Off, Ddc1, Ddc2b}
+use Rattle.bus.specs.declared.Phase.{Phase}
+use Rattle.bus.specs.declared.Phase.the-variants.{Idle, Address, Addressed, Ignoring, Receive, Transmit, Held}
+use Rattle.chip.specs.declared.Chip.{Chip}
+use Rattle.chip.specs.State.{modeOf}
+use Rattle.isolation.specs.Foreign.{sameButSda, alike, Observer, observe, permitted, untouched, throughout, equalAtHigh, equalThroughout, SeveralTransfers, Begun, start-seen, bus-idle}
+use Rattle.isolation.proofs.Theorems.{several-transfers}
+use Rattle.foreign_cases.specs.Premises.{Pair, Premise, isDdc2b, begun, traceAt, observerAt, equallyLong, sameWords, keepsOn, keepsDdc2b, matchesNone, keepsReset, watchdogWaits, alongside, sameEvent, equalBefore, premises, holds, failingOf, failing, Agreeing, in-ddc2b, start-or-idle, equal-lengths, equal-words, ddc-on, no-ddc1, no-match, no-reset, no-watchdog, same-events, equal-sda}
+
+-- ---- the first state
+
+ddc2b-of : (m : Mode) → isDdc2b m ≡ true → m ≡ Ddc2b
+ddc2b-of Off h = absurd (true≢false (sym h))
+ddc2b-of Ddc1 h = absurd (true≢false (sym h))
+ddc2b-of Ddc2b h = refl
+
+start-of : (count bits : ℕ) → count ≡ 0 → bits ≡ 0 → Begun (Address count bits) (traceAt (Address count bits))
+start-of count bits e e′ = rw (e, e′) start-seen
+
+begun-of : (q : Phase) → begun q ≡ true → Begun q (traceAt q)
+begun-of Idle h = bus-idle
+begun-of (Address count bits) h = start-of count bits (eqb-true count 0 (both (eqb count 0) _ h .0)) (eqb-true bits 0 (both (eqb count 0) _ h .1))
+begun-of (Addressed bits ninth) h = absurd (true≢false (sym h))
+begun-of Ignoring h = absurd (true≢false (sym h))
+begun-of (Receive count bits) h = absurd (true≢false (sym h))
+begun-of (Transmit count byte) h = absurd (true≢false (sym h))
+begun-of (Held clocks) h = absurd (true≢false (sym h))
+
+-- ---- the two lists
+
+alike-of : (ws vs : List ℕ) → equallyLong ws vs ≡ true → sameWords ws vs ≡ true → alike ws vs ≡ true
+alike-of [] [] h k = refl
+alike-of [] (v ∷ vs) h k = h
+alike-of (w ∷ ws) [] h k = h
+alike-of (w ∷ ws) (v ∷ vs) h k = rw (both (sameButSda w v) _ k .0) (alike-of ws vs h (both (sameButSda w v) _ k .1))
+
+-- ---- each run by itself
+
+-- the five tests at an event
+record Kept (o : Observer) (e : Decoded) : Type 0 where
+  on : keepsOn o e ≡ true
+  ddc2b : keepsDdc2b o e ≡ true
+  foreign : matchesNone o e ≡ true
+  reset : keepsReset o e ≡ true
+  watchdog : watchdogWaits o e ≡ true
+
+pins-permitted : (scl reset match falls : Bool) → not (scl && match) ≡ true → not (reset && falls) ≡ true → pick scl (not match) (pick reset (not falls) true) ≡ true
+pins-permitted true reset match falls h k = h
+pins-permitted false true match falls h k = k
+pins-permitted false false match falls h k = refl
+
+permitted-of : (o : Observer) (e : Decoded) → Kept o e → permitted o e ≡ true
+unfolding permitted keepsOn keepsDdc2b matchesNone keepsReset watchdogWaits
+permitted-of o (Read a) k = refl
+permitted-of o (Write a b) k = rw (k .on, k .ddc2b)
+permitted-of o (Pin p level) k = pins-permitted (eqb p pin.SCL) (eqb p pin.RESET) _ _ (k .foreign) (k .reset)
+permitted-of o (Clock n) k = k .watchdog
+permitted-of o (Polarity vertical level) k = refl
+permitted-of o (Refused n) k = refl
+
+-- the five tests through a run
+record KeptThroughout (o : Observer) (ws : List ℕ) : Type 0 where
+  on : throughout keepsOn o ws ≡ true
+  ddc2b : throughout keepsDdc2b o ws ≡ true
+  foreign : throughout matchesNone o ws ≡ true
+  reset : throughout keepsReset o ws ≡ true
+  watchdog : throughout watchdogWaits o ws ≡ true
+
+kept-first : (o : Observer) (w : ℕ) (ws : List ℕ) → KeptThroughout o (w ∷ ws) → Kept o (decode w)
+kept-first o w ws k =
+    record {
+      on = both (keepsOn o (decode w)) _ (k .on) .0;
+      ddc2b = both (keepsDdc2b o (decode w)) _ (k .ddc2b) .0;
+      foreign = both (matchesNone o (decode w)) _ (k .foreign) .0;
+      reset = both (keepsReset o (decode w)) _ (k .reset) .0;
+      watchdog = both (watchdogWaits o (decode w)) _ (k .watchdog) .0;
+    }
+
+kept-rest : (o : Observer) (w : ℕ) (ws : List ℕ) → KeptThroughout o (w ∷ ws) → KeptThroughout (observe o (decode w)) ws
+kept-rest o w ws k =
+    record {
+      on = both (keepsOn o (decode w)) _ (k .on) .1;
+      ddc2b = both (keepsDdc2b o (decode w)) _ (k .ddc2b) .1;
+      foreign = both (matchesNone o (decode w)) _ (k .foreign) .1;
+      reset = both (keepsReset o (decode w)) _ (k .reset) .1;
+      watchdog = both (watchdogWaits o (decode w)) _ (k .watchdog) .1;
+    }
+
+permitted-throughout : (o : Observer) (ws : List ℕ) → KeptThroughout o ws → throughout permitted o ws ≡ true
+permitted-throughout o [] k = refl
+permitted-throughout o (w ∷ ws) k = rw (permitted-of o (decode w) (kept-first o w ws k)) (permitted-throughout (observe o (decode w)) ws (kept-rest o w ws k))
+
+-- ---- SDA while SCL is high
+
+high-by : (free same equal : Bool) → (free || same) ≡ true → (free || equal) ≡ true → (free || (same && equal)) ≡ true
+high-by true same equal h k = refl
+high-by false same equal h k = rw (h, k)
+
+equal-throughout : (o p : Observer) (ws vs : List ℕ) → alongside sameEvent o p ws vs ≡ true → alongside equalBefore o p ws vs ≡ true → equalThroughout o p ws vs ≡ true
+equal-throughout o p [] vs h k = refl
+equal-throughout o p (w ∷ ws) [] h k = refl
+equal-throughout o p (w ∷ ws) (v ∷ vs) h k =
+    let here : equalAtHigh o p w v ≡ true = high-by (untouched o (decode w)) (eqb w v) (Bool·beq (o .sda) (p .sda)) (both (sameEvent o p w v) _ h .0) (both (equalBefore o p w v) _ k .0) in
+    rw here (equal-throughout (observe o (decode w)) (observe p (decode v)) ws vs (both (sameEvent o p w v) _ h .1) (both (equalBefore o p w v) _ k .1))
+
+-- ---- none fails
+
+none-by : (k : Premise) (rest : List Premise) (t : Bool) → pick t rest (k ∷ rest) ≡ [] → (t ≡ true) × (rest ≡ [])
+none-by k rest true h = (refl, h)
+none-by k rest false h = absurd (let e : _≡_ {A = ℕ} (length (k ∷ rest)) 0 = ap length h in omega arith)
+
+-- a test that holds in both runs
+kept-by : (o : Observer) (ws : List ℕ) → throughout keepsOn o ws ≡ true → throughout keepsDdc2b o ws ≡ true → throughout matchesNone o ws ≡ true → throughout keepsReset o ws ≡ true → throughout watchdogWaits o ws ≡ true
+    → throughout permitted o ws ≡ true
+kept-by o ws on ddc2b foreign reset watchdog = permitted-throughout o ws (record { on = on; ddc2b = ddc2b; foreign = foreign; reset = reset; watchdog = watchdog })
+
+pub met : (p : Pair) → failing p ≡ [] → Agreeing p
+met p h =
+    let o : Observer = observerAt (p .first) in
+    let mode = none-by in-ddc2b _ (holds p in-ddc2b) h in
+    let begin = none-by start-or-idle _ (holds p start-or-idle) (mode .1) in
+    let lengths = none-by equal-lengths _ (holds p equal-lengths) (begin .1) in
+    let words = none-by equal-words _ (holds p equal-words) (lengths .1) in
+    let on = none-by ddc-on _ (holds p ddc-on) (words .1) in
+    let ddc1 = none-by no-ddc1 _ (holds p no-ddc1) (on .1) in
+    let foreign = none-by no-match _ (holds p no-match) (ddc1 .1) in
+    let reset = none-by no-reset _ (holds p no-reset) (foreign .1) in
+    let watchdog = none-by no-watchdog _ (holds p no-watchdog) (reset .1) in
+    let events = none-by same-events _ (holds p same-events) (watchdog .1) in
+    let before = none-by equal-sda _ (holds p equal-sda) (events .1) in
+    several-transfers (p .first) (ddc2b-of _ (mode .0)) (begun-of _ (begin .0)) (p .left) (p .right) (record {
+      words = alike-of (p .left) (p .right) (lengths .0) (words .0);
+      left = kept-by o (p .left) (both (throughout keepsOn o (p .left)) _ (on .0) .0) (both (throughout keepsDdc2b o (p .left)) _ (ddc1 .0) .0) (both (throughout matchesNone o (p .left)) _ (foreign .0) .0) (both (throughout keepsReset o (p .left)) _ (reset .0) .0) (both (throughout watchdogWaits o (p .left)) _ (watchdog .0) .0);
+      right = kept-by o (p .right) (both (throughout keepsOn o (p .left)) _ (on .0) .1) (both (throughout keepsDdc2b o (p .left)) _ (ddc1 .0) .1) (both (throughout matchesNone o (p .left)) _ (foreign .0) .1) (both (throughout keepsReset o (p .left)) _ (reset .0) .1) (both (throughout watchdogWaits o (p .left)) _ (watchdog .0) .1);
+      sda = equal-throughout o o (p .left) (p .right) (events .0) (before .0);
+    })
