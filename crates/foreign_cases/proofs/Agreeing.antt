@@ -19,9 +19,10 @@ use Rattle.bus.specs.declared.Phase.{Phase}
 use Rattle.bus.specs.declared.Phase.the-variants.{Idle, Address, Addressed, Ignoring, Receive, Transmit, Held}
 use Rattle.chip.specs.declared.Chip.{Chip}
 use Rattle.chip.specs.State.{modeOf}
-use Rattle.isolation.specs.Foreign.{sameButSda, alike, Observer, observe, permitted, untouched, throughout, equalAtHigh, equalThroughout, SeveralTransfers, Begun, start-seen, bus-idle}
-use Rattle.isolation.proofs.Theorems.{several-transfers}
-use Rattle.foreign_cases.specs.Premises.{Pair, Premise, isDdc2b, begun, traceAt, observerAt, equallyLong, sameWords, keepsOn, keepsDdc2b, matchesNone, keepsReset, watchdogWaits, alongside, sameEvent, equalBefore, premises, holds, failingOf, failing, Agreeing, in-ddc2b, start-or-idle, equal-lengths, equal-words, ddc-on, no-ddc1, no-match, no-reset, no-watchdog, same-events, equal-sda}
+use Rattle.isolation.specs.Foreign.{sameButSda, alike, Observer, observe, permitted, untouched, throughout, equalAtHigh, equalThroughout, SeveralTransfers, CallsAgree, Begun, start-seen, bus-idle}
+use Rattle.run.specs.Run.{run}
+use Rattle.isolation.proofs.Theorems.{several-transfers, several-transfers-called}
+use Rattle.foreign_cases.specs.Premises.{Pair, Premise, isDdc2b, begun, traceAt, observerAt, equallyLong, sameWords, keepsOn, keepsDdc2b, matchesNone, keepsReset, watchdogWaits, inBoth, alongside, sameEvent, equalBefore, premises, holds, failingOf, failing, Agreeing, in-ddc2b, start-or-idle, equal-lengths, equal-words, ddc-on, no-ddc1, no-match, no-reset, no-watchdog, same-events, equal-sda}
 
 -- ---- the first state
 
@@ -125,13 +126,29 @@ none-by : (k : Premise) (rest : List Premise) (t : Bool) → pick t rest (k ∷ 
 none-by k rest true h = (refl, h)
 none-by k rest false h = absurd (let e : _≡_ {A = ℕ} (length (k ∷ rest)) 0 = ap length h in omega arith)
 
--- a test that holds in both runs
-kept-by : (o : Observer) (ws : List ℕ) → throughout keepsOn o ws ≡ true → throughout keepsDdc2b o ws ≡ true → throughout matchesNone o ws ≡ true → throughout keepsReset o ws ≡ true → throughout watchdogWaits o ws ≡ true
-    → throughout permitted o ws ≡ true
-kept-by o ws on ddc2b foreign reset watchdog = permitted-throughout o ws (record { on = on; ddc2b = ddc2b; foreign = foreign; reset = reset; watchdog = watchdog })
+-- the five tests in both runs
+permitted-both : (p : Pair) → inBoth keepsOn p ≡ true → inBoth keepsDdc2b p ≡ true → inBoth matchesNone p ≡ true → inBoth keepsReset p ≡ true → inBoth watchdogWaits p ≡ true
+    → (throughout permitted (observerAt (p .first)) (p .left) ≡ true) × (throughout permitted (observerAt (p .first)) (p .right) ≡ true)
+permitted-both p a b c d e =
+    let o : Observer = observerAt (p .first) in
+    let on = both (throughout keepsOn o (p .left)) (throughout keepsOn o (p .right)) a in
+    let ddc2b = both (throughout keepsDdc2b o (p .left)) (throughout keepsDdc2b o (p .right)) b in
+    let foreign = both (throughout matchesNone o (p .left)) (throughout matchesNone o (p .right)) c in
+    let reset = both (throughout keepsReset o (p .left)) (throughout keepsReset o (p .right)) d in
+    let watchdog = both (throughout watchdogWaits o (p .left)) (throughout watchdogWaits o (p .right)) e in
+    (
+      permitted-throughout o (p .left) (record { on = on .0; ddc2b = ddc2b .0; foreign = foreign .0; reset = reset .0; watchdog = watchdog .0 }),
+      permitted-throughout o (p .right) (record { on = on .1; ddc2b = ddc2b .1; foreign = foreign .1; reset = reset .1; watchdog = watchdog .1 }),
+    )
 
-pub met : (p : Pair) → failing p ≡ [] → Agreeing p
-met p h =
+-- the premises of `several-transfers`
+record Presumed (p : Pair) : Type 0 where
+  mode : modeOf (p .first .core) ≡ Ddc2b
+  begin : Begun (p .first .core .bus .phase) (traceAt (p .first .core .bus .phase))
+  transfers : SeveralTransfers (observerAt (p .first)) (observerAt (p .first)) (p .left) (p .right)
+
+presumed : (p : Pair) → failing p ≡ [] → Presumed p
+presumed p h =
     let o : Observer = observerAt (p .first) in
     let mode = none-by in-ddc2b _ (holds p in-ddc2b) h in
     let begin = none-by start-or-idle _ (holds p start-or-idle) (mode .1) in
@@ -144,9 +161,23 @@ met p h =
     let watchdog = none-by no-watchdog _ (holds p no-watchdog) (reset .1) in
     let events = none-by same-events _ (holds p same-events) (watchdog .1) in
     let before = none-by equal-sda _ (holds p equal-sda) (events .1) in
-    several-transfers (p .first) (ddc2b-of _ (mode .0)) (begun-of _ (begin .0)) (p .left) (p .right) (record {
-      words = alike-of (p .left) (p .right) (lengths .0) (words .0);
-      left = kept-by o (p .left) (both (throughout keepsOn o (p .left)) _ (on .0) .0) (both (throughout keepsDdc2b o (p .left)) _ (ddc1 .0) .0) (both (throughout matchesNone o (p .left)) _ (foreign .0) .0) (both (throughout keepsReset o (p .left)) _ (reset .0) .0) (both (throughout watchdogWaits o (p .left)) _ (watchdog .0) .0);
-      right = kept-by o (p .right) (both (throughout keepsOn o (p .left)) _ (on .0) .1) (both (throughout keepsDdc2b o (p .left)) _ (ddc1 .0) .1) (both (throughout matchesNone o (p .left)) _ (foreign .0) .1) (both (throughout keepsReset o (p .left)) _ (reset .0) .1) (both (throughout watchdogWaits o (p .left)) _ (watchdog .0) .1);
-      sda = equal-throughout o o (p .left) (p .right) (events .0) (before .0);
-    })
+    let runs = permitted-both p (on .0) (ddc1 .0) (foreign .0) (reset .0) (watchdog .0) in
+    record {
+      mode = ddc2b-of (modeOf (p .first .core)) (mode .0);
+      begin = begun-of (p .first .core .bus .phase) (begin .0);
+      transfers = record {
+        words = alike-of (p .left) (p .right) (lengths .0) (words .0);
+        left = runs .0;
+        right = runs .1;
+        sda = equal-throughout o o (p .left) (p .right) (events .0) (before .0);
+      };
+    }
+
+-- by the step
+pub none-failing : (p : Pair) → failing p ≡ [] → Agreeing p
+none-failing p h = let k = presumed p h in several-transfers (p .first) (k .mode) (k .begin) (p .left) (p .right) (k .transfers)
+
+-- by two list calls that return 0, with the answer places xs and ys
+pub none-failing-called : (p : Pair) → failing p ≡ [] → (xs ys : List ℕ) → run (p .first) (p .left) xs .number ≡ 0 → run (p .first) (p .right) ys .number ≡ 0
+    → CallsAgree (p .first) (p .left) (p .right) xs ys
+none-failing-called p h xs ys n n′ = let k = presumed p h in several-transfers-called (p .first) (k .mode) (k .begin) (p .left) (p .right) xs ys (k .transfers) n n′

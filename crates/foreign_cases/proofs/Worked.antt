@@ -13,7 +13,7 @@ use Rattle.isolation.specs.Foreign.{observe, untouched, comparedAnswers}
 use Rattle.cases.proofs.Opened.{opened}
 use Rattle.foreign_cases.specs.Premises.{Pair, Premise, keepsOn, keepsDdc2b, matchesNone, keepsReset, watchdogWaits, failing, Agreeing, Needed, in-ddc2b, start-or-idle, equal-lengths, equal-words, ddc-on, no-ddc1, no-match, no-reset, no-watchdog, same-events, equal-sda}
 use Rattle.foreign_cases.specs.Pairs.{idleState, startedState, lowState, gatheredState, lateState, several, pairFor}
-use Rattle.foreign_cases.proofs.Agreeing.{met}
+use Rattle.foreign_cases.proofs.Agreeing.{none-failing}
 
 -- ---- several transfers
 
@@ -22,7 +22,7 @@ unfolding opened observe untouched keepsOn keepsDdc2b matchesNone keepsReset wat
 several-met = refl
 
 pub several-agree : Agreeing several
-several-agree = met several several-met
+several-agree = none-failing several several-met
 
 -- what is left to differ: both end with three bits of an unfinished address, other ones, another II DAT and another level of SDA
 pub several-ends : _≡_ {A = Phase × Phase} (after (several .first) (several .left) .core .bus .phase, after (several .first) (several .right) .core .bus .phase) (Address 3 5, Address 3 4)
