@@ -135,8 +135,7 @@ permitted-both p a b c d e =
     let ddc2b = both (throughout keepsDdc2b o (p .left)) (throughout keepsDdc2b o (p .right)) b in
     let foreign = both (throughout matchesNone o (p .left)) (throughout matchesNone o (p .right)) c in
     let reset = both (throughout keepsReset o (p .left)) (throughout keepsReset o (p .right)) d in
-    let watchdog = both (throughout watchdogWaits o (p .left)) (throughout watchdogWaits o (p .right)) e in
-    (
+    let watchdog = both (throughout watchdogWaits o (p .left)) (throughout watchdogWaits o (p .right)) e in (
       permitted-throughout o (p .left) (record { on = on .0; ddc2b = ddc2b .0; foreign = foreign .0; reset = reset .0; watchdog = watchdog .0 }),
       permitted-throughout o (p .right) (record { on = on .1; ddc2b = ddc2b .1; foreign = foreign .1; reset = reset .1; watchdog = watchdog .1 }),
     )
