@@ -19,7 +19,7 @@ use Rattle.bus.specs.declared.Phase.{Phase}
 use Rattle.bus.specs.declared.Phase.the-variants.{Idle, Address, Addressed, Ignoring, Receive, Transmit, Held}
 use Rattle.chip.specs.declared.Chip.{Chip}
 use Rattle.chip.specs.State.{modeOf}
-use Rattle.isolation.specs.Foreign.{sameButSda, alike, Observer, observe, permitted, untouched, throughout, equalAtHigh, equalThroughout, SeveralTransfers, CallsAgree, Begun, start-seen, bus-idle}
+use Rattle.isolation.specs.Foreign.{sameButSda, alike, Trace, Observer, observerOf, accepted, turnsOff, asksDdc1, sclRises, completesMatch, resetFalls, observe, permitted, untouched, throughout, equalAtHigh, equalThroughout, SeveralTransfers, CallsAgree, Begun, start-seen, bus-idle}
 use Rattle.run.specs.Run.{run}
 use Rattle.isolation.proofs.Theorems.{several-transfers, several-transfers-called}
 use Rattle.foreign_cases.specs.Premises.{Pair, Premise, isDdc2b, begun, traceAt, observerAt, equallyLong, sameWords, keepsOn, keepsDdc2b, matchesNone, keepsReset, watchdogWaits, inBoth, alongside, sameEvent, equalBefore, premises, holds, failingOf, failing, Agreeing, in-ddc2b, start-or-idle, equal-lengths, equal-words, ddc-on, no-ddc1, no-match, no-reset, no-watchdog, same-events, equal-sda}
@@ -126,6 +126,9 @@ none-by : (k : Premise) (rest : List Premise) (t : Bool) → pick t rest (k ∷ 
 none-by k rest true h = (refl, h)
 none-by k rest false h = absurd (let e : _≡_ {A = ℕ} (length (k ∷ rest)) 0 = ap length h in omega arith)
 
+holds-first : (p : Pair) (k : Premise) (ks : List Premise) → failingOf p (k ∷ ks) ≡ [] → (holds p k ≡ true) × (failingOf p ks ≡ [])
+holds-first p k ks h = none-by k (failingOf p ks) (holds p k) h
+
 -- the five tests in both runs
 permitted-both : (p : Pair) → inBoth keepsOn p ≡ true → inBoth keepsDdc2b p ≡ true → inBoth matchesNone p ≡ true → inBoth keepsReset p ≡ true → inBoth watchdogWaits p ≡ true
     → (throughout permitted (observerAt (p .first)) (p .left) ≡ true) × (throughout permitted (observerAt (p .first)) (p .right) ≡ true)
@@ -149,17 +152,17 @@ record Presumed (p : Pair) : Type 0 where
 presumed : (p : Pair) → failing p ≡ [] → Presumed p
 presumed p h =
     let o : Observer = observerAt (p .first) in
-    let mode = none-by in-ddc2b _ (holds p in-ddc2b) h in
-    let begin = none-by start-or-idle _ (holds p start-or-idle) (mode .1) in
-    let lengths = none-by equal-lengths _ (holds p equal-lengths) (begin .1) in
-    let words = none-by equal-words _ (holds p equal-words) (lengths .1) in
-    let on = none-by ddc-on _ (holds p ddc-on) (words .1) in
-    let ddc1 = none-by no-ddc1 _ (holds p no-ddc1) (on .1) in
-    let foreign = none-by no-match _ (holds p no-match) (ddc1 .1) in
-    let reset = none-by no-reset _ (holds p no-reset) (foreign .1) in
-    let watchdog = none-by no-watchdog _ (holds p no-watchdog) (reset .1) in
-    let events = none-by same-events _ (holds p same-events) (watchdog .1) in
-    let before = none-by equal-sda _ (holds p equal-sda) (events .1) in
+    let mode = holds-first p in-ddc2b _ h in
+    let begin = holds-first p start-or-idle _ (mode .1) in
+    let lengths = holds-first p equal-lengths _ (begin .1) in
+    let words = holds-first p equal-words _ (lengths .1) in
+    let on = holds-first p ddc-on _ (words .1) in
+    let ddc1 = holds-first p no-ddc1 _ (on .1) in
+    let foreign = holds-first p no-match _ (ddc1 .1) in
+    let reset = holds-first p no-reset _ (foreign .1) in
+    let watchdog = holds-first p no-watchdog _ (reset .1) in
+    let events = holds-first p same-events _ (watchdog .1) in
+    let before = holds-first p equal-sda _ (events .1) in
     let runs = permitted-both p (on .0) (ddc1 .0) (foreign .0) (reset .0) (watchdog .0) in
     record {
       mode = ddc2b-of (modeOf (p .first .core)) (mode .0);
@@ -172,6 +175,74 @@ presumed p h =
       };
     }
 
+-- ---- and no more than those
+
+reset-kept : (reset falls : Bool) → pick reset (not falls) true ≡ true → not (reset && falls) ≡ true
+reset-kept true falls h = h
+reset-kept false falls h = refl
+
+pins-kept : (p : ℕ) (scl match falls : Bool) → eqb p pin.SCL ≡ scl → pick scl (not match) (pick (eqb p pin.RESET) (not falls) true) ≡ true
+    → (not (scl && match) ≡ true) × (not (eqb p pin.RESET && falls) ≡ true)
+pins-kept p true match falls e h = (h, rw (eqb-true p pin.SCL e) refl)
+pins-kept p false match falls e h = (refl, reset-kept (eqb p pin.RESET) falls h)
+
+kept-of : (o : Observer) (e : Decoded) → permitted o e ≡ true → Kept o e
+unfolding permitted keepsOn keepsDdc2b matchesNone keepsReset watchdogWaits
+kept-of o (Read a) h = record { on = refl; ddc2b = refl; foreign = refl; reset = refl; watchdog = refl }
+kept-of o (Write a b) h =
+    let two = both (not (accepted o a && turnsOff a b)) (not (accepted o a && asksDdc1 a b)) h in
+    record { on = two .0; ddc2b = two .1; foreign = refl; reset = refl; watchdog = refl }
+kept-of o (Pin p level) h =
+    let two = pins-kept p (eqb p pin.SCL) (sclRises o level && completesMatch (o .own) (o .sda) (o .trace)) (resetFalls o level) refl h in
+    record { on = refl; ddc2b = refl; foreign = two .0; reset = two .1; watchdog = refl }
+kept-of o (Clock n) h = record { on = refl; ddc2b = refl; foreign = refl; reset = refl; watchdog = h }
+kept-of o (Polarity vertical level) h = record { on = refl; ddc2b = refl; foreign = refl; reset = refl; watchdog = refl }
+kept-of o (Refused n) h = record { on = refl; ddc2b = refl; foreign = refl; reset = refl; watchdog = refl }
+
+kept-throughout : (o : Observer) (ws : List ℕ) → throughout permitted o ws ≡ true → KeptThroughout o ws
+kept-throughout o [] h = record { on = refl; ddc2b = refl; foreign = refl; reset = refl; watchdog = refl }
+kept-throughout o (w ∷ ws) h =
+    let one = kept-of o (decode w) (both (permitted o (decode w)) _ h .0) in
+    let rest = kept-throughout (observe o (decode w)) ws (both (permitted o (decode w)) _ h .1) in
+    record {
+      on = rw (one .on) (rest .on);
+      ddc2b = rw (one .ddc2b) (rest .ddc2b);
+      foreign = rw (one .foreign) (rest .foreign);
+      reset = rw (one .reset) (rest .reset);
+      watchdog = rw (one .watchdog) (rest .watchdog);
+    }
+
+alike-long : (ws vs : List ℕ) → alike ws vs ≡ true → equallyLong ws vs ≡ true
+alike-long [] [] h = refl
+alike-long [] (v ∷ vs) h = h
+alike-long (w ∷ ws) [] h = h
+alike-long (w ∷ ws) (v ∷ vs) h = alike-long ws vs (both (sameButSda w v) _ h .1)
+
+alike-same : (ws vs : List ℕ) → alike ws vs ≡ true → sameWords ws vs ≡ true
+alike-same [] vs h = refl
+alike-same (w ∷ ws) [] h = refl
+alike-same (w ∷ ws) (v ∷ vs) h = rw (both (sameButSda w v) _ h .0) (alike-same ws vs (both (sameButSda w v) _ h .1))
+
+high-apart : (free same equal : Bool) → (free || (same && equal)) ≡ true → ((free || same) ≡ true) × ((free || equal) ≡ true)
+high-apart true same equal h = (refl, refl)
+high-apart false same equal h = both same equal h
+
+high-throughout : (o p : Observer) (ws vs : List ℕ) → equalThroughout o p ws vs ≡ true → (alongside sameEvent o p ws vs ≡ true) × (alongside equalBefore o p ws vs ≡ true)
+high-throughout o p [] vs h = (refl, refl)
+high-throughout o p (w ∷ ws) [] h = (refl, refl)
+high-throughout o p (w ∷ ws) (v ∷ vs) h =
+    let here = high-apart (untouched o (decode w)) (eqb w v) (Bool·beq (o .sda) (p .sda)) (both (equalAtHigh o p w v) _ h .0) in
+    let rest = high-throughout (observe o (decode w)) (observe p (decode v)) ws vs (both (equalAtHigh o p w v) _ h .1) in
+    (rw (here .0) (rest .0), rw (here .1) (rest .1))
+
+begun-is : {q : Phase} {t : Trace} → Begun q t → begun q ≡ true
+begun-is start-seen = refl
+begun-is bus-idle = refl
+
+begun-trace : {q : Phase} {t : Trace} → Begun q t → traceAt q ≡ t
+begun-trace start-seen = refl
+begun-trace bus-idle = refl
+
 -- by the step
 pub none-failing : (p : Pair) → failing p ≡ [] → Agreeing p
 none-failing p h = let k = presumed p h in several-transfers (p .first) (k .mode) (k .begin) (p .left) (p .right) (k .transfers)
@@ -180,3 +251,13 @@ none-failing p h = let k = presumed p h in several-transfers (p .first) (k .mode
 pub none-failing-called : (p : Pair) → failing p ≡ [] → (xs ys : List ℕ) → run (p .first) (p .left) xs .number ≡ 0 → run (p .first) (p .right) ys .number ≡ 0
     → CallsAgree (p .first) (p .left) (p .right) xs ys
 none-failing-called p h xs ys n n′ = let k = presumed p h in several-transfers-called (p .first) (k .mode) (k .begin) (p .left) (p .right) xs ys (k .transfers) n n′
+
+-- the premises of `several-transfers` fail none of these
+pub none-failing-of : (c : Chip) → modeOf (c .core) ≡ Ddc2b → {t : Trace} → Begun (c .core .bus .phase) t → (ws vs : List ℕ) → SeveralTransfers (observerOf c t) (observerOf c t) ws vs
+    → failing (record { first = c; left = ws; right = vs }) ≡ []
+none-failing-of c h {t} b ws vs p =
+    let o : Observer = observerOf c t in
+    let left = kept-throughout o ws (p .left) in
+    let right = kept-throughout o vs (p .right) in
+    let sda = high-throughout o o ws vs (p .sda) in
+    rw (h, begun-is b, begun-trace b, alike-long ws vs (p .words), alike-same ws vs (p .words), left .on, left .ddc2b, left .foreign, left .reset, left .watchdog, right .on, right .ddc2b, right .foreign, right .reset, right .watchdog, sda .0, sda .1) refl
