@@ -126,8 +126,30 @@ none-by : (k : Premise) (rest : List Premise) (t : Bool) → pick t rest (k ∷ 
 none-by k rest true h = (refl, h)
 none-by k rest false h = absurd (let e : _≡_ {A = ℕ} (length (k ∷ rest)) 0 = ap length h in omega arith)
 
-holds-first : (p : Pair) (k : Premise) (ks : List Premise) → failingOf p (k ∷ ks) ≡ [] → (holds p k ≡ true) × (failingOf p ks ≡ [])
-holds-first p k ks h = none-by k (failingOf p ks) (holds p k) h
+-- the list has every premise
+data Among : Premise → List Premise → Type 0 where
+  here : {k : Premise} {ks : List Premise} → Among k (k ∷ ks)
+  there : {k j : Premise} {ks : List Premise} → Among k ks → Among k (j ∷ ks)
+
+among : (k : Premise) → Among k premises
+among in-ddc2b = here
+among start-or-idle = there here
+among equal-lengths = there (there here)
+among equal-words = there (there (there here))
+among ddc-on = there (there (there (there here)))
+among no-ddc1 = there (there (there (there (there here))))
+among no-match = there (there (there (there (there (there here)))))
+among no-reset = there (there (there (there (there (there (there here))))))
+among no-watchdog = there (there (there (there (there (there (there (there here)))))))
+among same-events = there (there (there (there (there (there (there (there (there here))))))))
+among equal-sda = there (there (there (there (there (there (there (there (there (there here)))))))))
+
+holds-of : {k : Premise} {ks : List Premise} (p : Pair) → Among k ks → failingOf p ks ≡ [] → holds p k ≡ true
+holds-of p (here {k} {ks}) h = none-by k (failingOf p ks) (holds p k) h .0
+holds-of p (there {k} {j} {ks} a) h = holds-of p a (none-by j (failingOf p ks) (holds p j) h .1)
+
+pub every-holds : (p : Pair) → failing p ≡ [] → (k : Premise) → holds p k ≡ true
+every-holds p h k = holds-of p (among k) h
 
 -- the five tests in both runs
 permitted-both : (p : Pair) → inBoth keepsOn p ≡ true → inBoth keepsDdc2b p ≡ true → inBoth matchesNone p ≡ true → inBoth keepsReset p ≡ true → inBoth watchdogWaits p ≡ true
@@ -149,29 +171,18 @@ record Presumed (p : Pair) : Type 0 where
   begin : Begun (p .first .core .bus .phase) (traceAt (p .first .core .bus .phase))
   transfers : SeveralTransfers (observerAt (p .first)) (observerAt (p .first)) (p .left) (p .right)
 
-presumed : (p : Pair) → failing p ≡ [] → Presumed p
+presumed : (p : Pair) → ((k : Premise) → holds p k ≡ true) → Presumed p
 presumed p h =
     let o : Observer = observerAt (p .first) in
-    let mode = holds-first p in-ddc2b _ h in
-    let begin = holds-first p start-or-idle _ (mode .1) in
-    let lengths = holds-first p equal-lengths _ (begin .1) in
-    let words = holds-first p equal-words _ (lengths .1) in
-    let on = holds-first p ddc-on _ (words .1) in
-    let ddc1 = holds-first p no-ddc1 _ (on .1) in
-    let foreign = holds-first p no-match _ (ddc1 .1) in
-    let reset = holds-first p no-reset _ (foreign .1) in
-    let watchdog = holds-first p no-watchdog _ (reset .1) in
-    let events = holds-first p same-events _ (watchdog .1) in
-    let before = holds-first p equal-sda _ (events .1) in
-    let runs = permitted-both p (on .0) (ddc1 .0) (foreign .0) (reset .0) (watchdog .0) in
+    let runs = permitted-both p (h ddc-on) (h no-ddc1) (h no-match) (h no-reset) (h no-watchdog) in
     record {
-      mode = ddc2b-of (modeOf (p .first .core)) (mode .0);
-      begin = begun-of (p .first .core .bus .phase) (begin .0);
+      mode = ddc2b-of (modeOf (p .first .core)) (h in-ddc2b);
+      begin = begun-of (p .first .core .bus .phase) (h start-or-idle);
       transfers = record {
-        words = alike-of (p .left) (p .right) (lengths .0) (words .0);
+        words = alike-of (p .left) (p .right) (h equal-lengths) (h equal-words);
         left = runs .0;
         right = runs .1;
-        sda = equal-throughout o o (p .left) (p .right) (events .0) (before .0);
+        sda = equal-throughout o o (p .left) (p .right) (h same-events) (h equal-sda);
       };
     }
 
@@ -245,12 +256,12 @@ begun-trace bus-idle = refl
 
 -- by the step
 pub none-failing : (p : Pair) → failing p ≡ [] → Agreeing p
-none-failing p h = let k = presumed p h in several-transfers (p .first) (k .mode) (k .begin) (p .left) (p .right) (k .transfers)
+none-failing p h = let k = presumed p (every-holds p h) in several-transfers (p .first) (k .mode) (k .begin) (p .left) (p .right) (k .transfers)
 
 -- by two list calls that return 0, with the answer places xs and ys
 pub none-failing-called : (p : Pair) → failing p ≡ [] → (xs ys : List ℕ) → run (p .first) (p .left) xs .number ≡ 0 → run (p .first) (p .right) ys .number ≡ 0
     → CallsAgree (p .first) (p .left) (p .right) xs ys
-none-failing-called p h xs ys n n′ = let k = presumed p h in several-transfers-called (p .first) (k .mode) (k .begin) (p .left) (p .right) xs ys (k .transfers) n n′
+none-failing-called p h xs ys n n′ = let k = presumed p (every-holds p h) in several-transfers-called (p .first) (k .mode) (k .begin) (p .left) (p .right) xs ys (k .transfers) n n′
 
 -- the premises of `several-transfers` fail none of these
 pub none-failing-of : (c : Chip) → modeOf (c .core) ≡ Ddc2b → {t : Trace} → Begun (c .core .bus .phase) t → (ws vs : List ℕ) → SeveralTransfers (observerOf c t) (observerOf c t) ws vs
