@@ -2,7 +2,7 @@
 use Prim.Native.Nat.{ℕ}
 use mathlib.Core.Bool.{Bool, true, false}
 use mathlib.Core.List.{List, [], _∷_, _++_}
-use Rattle.registers.specs.Names.{PT3, MDCON, IRQX, IIADR, IIDAT, IISTS}
+use Rattle.registers.specs.Names.{PT3, MDCON, IIADR, IIDAT, IISTS}
 use Rattle.events.specs.Pins.{SDA, SCL, VSYNCI, RESET}
 use Rattle.events.specs.Clocks.{period, watchdog}
 use Rattle.chip.specs.declared.Chip.{Chip}

@@ -3,7 +3,6 @@ use Prim.Native.Nat.{ℕ}
 use mathlib.Core.Path.{_≡_, refl, sym, _∙_}
 use mathlib.Core.List.{List, [], _∷_}
 use mathlib.Core.Bool.{Bool, true, false, true≢false}
-use Rattle.events.specs.Word.{decode}
 use Rattle.bus.specs.declared.Mode.the-variants.{Ddc2b}
 use Rattle.bus.specs.declared.Phase.{Phase}
 use Rattle.bus.specs.Bus.{pullsSda, pullsScl, sdaPulled, sclPulled}
