@@ -19,6 +19,7 @@ use Rattle.bus.specs.declared.Phase.{Phase}
 use Rattle.bus.specs.declared.Phase.the-variants.{Idle, Address, Addressed, Ignoring, Receive, Transmit, Held}
 use Rattle.chip.specs.declared.Chip.{Chip}
 use Rattle.chip.specs.State.{modeOf}
+use Rattle.well_formed.specs.WellFormed.{isIdle}
 use Rattle.isolation.specs.Foreign.{sameButSda, alike, Trace, Observer, observerOf, accepted, turnsOff, asksDdc1, sclRises, completesMatch, resetFalls, observe, permitted, untouched, throughout, equalAtHigh, equalThroughout, SeveralTransfers, CallsAgree, Begun, start-seen, bus-idle}
 use Rattle.run.specs.Run.{run}
 use Rattle.isolation.proofs.Theorems.{several-transfers, several-transfers-called}
@@ -32,9 +33,11 @@ ddc2b-of Ddc1 h = absurd (true≢false (sym h))
 ddc2b-of Ddc2b h = refl
 
 start-of : (count bits : ℕ) → count ≡ 0 → bits ≡ 0 → Begun (Address count bits) (traceAt (Address count bits))
+unfolding isIdle
 start-of count bits e e′ = rw (e, e′) start-seen
 
 begun-of : (q : Phase) → begun q ≡ true → Begun q (traceAt q)
+unfolding isIdle
 begun-of Idle h = bus-idle
 begun-of (Address count bits) h = start-of count bits (eqb-true count 0 (both (eqb count 0) _ h .0)) (eqb-true bits 0 (both (eqb count 0) _ h .1))
 begun-of (Addressed bits ninth) h = absurd (true≢false (sym h))
@@ -251,6 +254,7 @@ begun-is start-seen = refl
 begun-is bus-idle = refl
 
 begun-trace : {q : Phase} {t : Trace} → Begun q t → traceAt q ≡ t
+unfolding isIdle
 begun-trace start-seen = refl
 begun-trace bus-idle = refl
 

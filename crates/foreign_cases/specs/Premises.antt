@@ -16,6 +16,7 @@ use Rattle.bus.specs.declared.Phase.{Phase}
 use Rattle.bus.specs.declared.Phase.the-variants.{Idle, Address, Addressed, Ignoring, Receive, Transmit, Held}
 use Rattle.chip.specs.declared.Chip.{Chip}
 use Rattle.chip.specs.State.{modeOf}
+use Rattle.well_formed.specs.WellFormed.{isIdle}
 use Rattle.isolation.specs.Foreign.{Trace, none, since, Observer, observerOf, observe, sameButSda, accepted, turnsOff, asksDdc1, sclRises, completesMatch, resetFalls, watchdogExpires, untouched, throughout, RunsAgree}
 
 -- a first state, and the words of the two runs
@@ -43,13 +44,7 @@ begun (Held clocks) = false
 
 -- on a bus found idle no address is under way
 abbrev pub traceAt : Phase → Trace
-traceAt Idle = none
-traceAt (Address count bits) = since []
-traceAt (Addressed bits ninth) = none
-traceAt Ignoring = none
-traceAt (Receive count bits) = none
-traceAt (Transmit count byte) = none
-traceAt (Held clocks) = none
+traceAt phase = pick (isIdle phase) none (since [])
 
 -- what both observers begin with
 abbrev pub observerAt : Chip → Observer
