@@ -133,7 +133,9 @@ pub fn addresses(first: &Chip, words: &[u32]) -> Vec<(u8, u8)> {
                 if let Some(levels) = &mut levels {
                     levels.push(before.sda);
                     if levels.len() == 8 {
-                        let byte = levels.iter().fold(0, |byte, &level| byte << 1 | u8::from(level));
+                        let byte = levels
+                            .iter()
+                            .fold(0, |byte, &level| byte << 1 | u8::from(level));
                         completed.push((byte, own));
                     }
                 }
@@ -145,7 +147,11 @@ pub fn addresses(first: &Chip, words: &[u32]) -> Vec<(u8, u8)> {
 }
 
 fn start_just_seen(first: &Chip) -> bool {
-    let seen = Phase::Incoming { address: true, bits: 0, byte: 0 };
+    let seen = Phase::Incoming {
+        address: true,
+        bits: 0,
+        byte: 0,
+    };
     first.phase == seen
 }
 
@@ -217,7 +223,12 @@ pub fn holds(premise: Premise, pair: &Pair) -> bool {
 fn compared(mut chip: Chip) -> Chip {
     chip.levels &= !(1 << pin::SDA);
     chip.iidat = 0;
-    if let Phase::Incoming { address: true, bits: 0..=7, byte } = &mut chip.phase {
+    if let Phase::Incoming {
+        address: true,
+        bits: 0..=7,
+        byte,
+    } = &mut chip.phase
+    {
         *byte = 0;
     }
     chip
@@ -237,7 +248,11 @@ pub fn difference(pair: &Pair) -> (Option<Difference>, Chip, Chip) {
     let mut found = None;
     for (place, (&word, &other)) in pair.left.iter().zip(&pair.right).enumerate() {
         let (answer, another) = (left.step(word), right.step(other));
-        let hidden = if word == 0x0100_1400 && answer >> 24 == 0 { 0xFF } else { 0 };
+        let hidden = if word == 0x0100_1400 && answer >> 24 == 0 {
+            0xFF
+        } else {
+            0
+        };
         if answer | hidden != another | hidden && found.is_none() {
             found = Some(Difference::Answers(place, answer, another));
         }
