@@ -4,9 +4,14 @@
 //! shares no code with the proved crates.
 
 pub mod chip;
+pub mod core6502;
+#[cfg(test)]
+mod core6502_tests;
 pub mod counters6862;
 pub mod coverage;
 pub mod edid;
+pub mod opcodes;
+pub mod programs;
 pub mod recordings;
 pub mod replay;
 #[cfg(test)]
