@@ -10,6 +10,10 @@ mod core6502_tests;
 pub mod counters6862;
 pub mod coverage;
 pub mod edid;
+pub mod firmware;
+#[cfg(test)]
+mod firmware_tests;
+pub mod host;
 pub mod opcodes;
 pub mod programs;
 pub mod recordings;
