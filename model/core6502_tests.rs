@@ -1174,7 +1174,7 @@ fn reset_and_events_of_one_number() {
 // Runs in parts, and all opcodes from random states.
 
 fn random_rig(random: &mut Random, rom: &[u8; ROM_SIZE]) -> Rig {
-    let place = u16::from_le_bytes([rom[ROM_SIZE - 4], rom[ROM_SIZE - 3]]);
+    let place = programs::begin(random, rom);
     Rig {
         cpu: programs::cpu(random, place),
         ram: programs::ram(random),
@@ -1296,41 +1296,128 @@ fn transfer(bytes: &[u8]) -> Vec<(u32, u32)> {
     (20..).step_by(3).zip(words).collect()
 }
 
+/// What demand 3 speaks of: numbers and counts, accesses, answers, and the state but for II DAT.
+type Look = (
+    Told,
+    Vec<(char, u16, u8)>,
+    Vec<u32>,
+    (Cpu, [u8; RAM_SIZE], Chip),
+);
+
+/// A run of this code, DDC2B on and II ADR 6EH, with these events.
+fn look(code: &[u8], events: &[(u32, u32)]) -> Look {
+    let mut rig = Rig::new(code);
+    // The interrupt routine clears the flags.
+    rig.rom(0xC000, &[0x48, 0xA9, 0x3F, 0x85, 0x11, 0x68, 0x40]);
+    for (register, byte) in [(0x05, 0x06), (0x15, 0x00), (0x0F, 0x3F), (0x13, 0x6E)] {
+        rig.chip.write(register, byte).unwrap();
+    }
+    let mut events: Vec<Listed> = events
+        .iter()
+        .map(|&(number, word)| Listed { number, word })
+        .collect();
+    events.sort_by_key(|listed| listed.number);
+    let mut answers = vec![0; events.len()];
+    let (told, watch) = run_watched(
+        &mut rig.cpu,
+        &mut rig.ram,
+        &rig.rom,
+        &mut rig.chip,
+        &events,
+        &mut answers,
+        700,
+        Accesses::default(),
+    );
+    rig.chip.iidat = 0;
+    (told, watch.0, answers, rig.state())
+}
+
 #[test]
 fn foreign_transfers_look_the_same_to_firmware() {
-    let look = |bytes: &[u8]| {
-        let mut rig = Rig::new(&BUSY);
-        rig.rom(0xC000, &[0xA9, 0x3F, 0x85, 0x11, 0x40]);
-        rig.chip.write(0x05, 0x06).unwrap();
-        rig.chip.write(0x15, 0x00).unwrap();
-        rig.chip.write(0x0F, 0x3F).unwrap();
-        rig.chip.write(0x13, 0x6E).unwrap();
-        let events: Vec<Listed> = transfer(bytes)
-            .iter()
-            .map(|&(number, word)| Listed { number, word })
-            .collect();
-        let mut answers = vec![0; events.len()];
-        let (told, watch) = run_watched(
-            &mut rig.cpu,
-            &mut rig.ram,
-            &rig.rom,
-            &mut rig.chip,
-            &events,
-            &mut answers,
-            700,
-            Accesses::default(),
-        );
-        // II DAT alone may differ, and what a read of it would give.
-        rig.chip.iidat = 0;
-        (told, watch.0, answers, rig.state())
-    };
-    let one = look(&[0x42, 0x00, 0xFF]);
+    let one = look(&BUSY, &transfer(&[0x42, 0x00, 0xFF]));
     assert_eq!(one.0.number, 0);
     assert_eq!(one.0.given as usize, one.2.len());
-    for other in [[0x43, 0x12, 0x34], [0x10, 0xAA, 0x55], [0xFE, 0xA0, 0x6E]] {
-        assert!(one == look(&other), "{other:02X?}");
+    for other in [[0x43, 0x12, 0x34], [0x10, 0xAA, 0x55], [0xFE, 0xA1, 0x6E]] {
+        assert!(one == look(&BUSY, &transfer(&other)), "{other:02X?}");
     }
-    // One for us does not.
-    assert!(one != look(&[0x6E, 0x00, 0xFF]));
-    assert!(one != look(&[0xA0, 0x00, 0xFF]));
+}
+
+/// Two runs that meet all premises but one, and can be told from each other.
+#[test]
+fn each_premise_of_demand_3_is_needed() {
+    let foreign = [[0x42, 0x00, 0xFF], [0x11, 0xAA, 0x54]].map(|bytes| transfer(&bytes));
+    let told_apart = |name: &str, code: &[u8], extra: &[(u32, u32)]| {
+        let [one, other] = [0, 1].map(|place| {
+            let events = [&foreign[place][..], extra].concat();
+            look(code, &events)
+        });
+        assert!(one != other, "{name}");
+    };
+    // START is cleared again and again, so that a pointer in 14H has the high byte 0. No operand
+    // is fetched from 14H, since no opcode is from 12H or 13H, which only take writes.
+    let reads: [(&str, &[u8]); 4] = [
+        ("a read of 14H", &[0xA5, 0x14, 0x4C, 0x00, 0xA0]),
+        (
+            "a read-modify-write of 14H",
+            &[0xE6, 0x14, 0x4C, 0x00, 0xA0],
+        ),
+        (
+            "a pointer in 14H",
+            &[0xA9, 0x00, 0x85, 0x15, 0xA1, 0x14, 0x4C, 0x00, 0xA0],
+        ),
+        (
+            "an opcode at 14H",
+            &[
+                0xA2, 0x40, 0xCA, 0xD0, 0xFD, 0xA0, 0x40, 0x88, 0xD0, 0xFD, 0x4C, 0x14, 0x00,
+            ],
+        ),
+    ];
+    for (name, code) in reads {
+        told_apart(name, code, &[]);
+    }
+    // Refused with 21 in both runs, and only the byte that it read tells them from each other.
+    let refused = [0xA9, 0x00, 0x85, 0x15, 0xB1, 0x14, 0x4C, 0x00, 0xA0];
+    let [one, other] = [0x42, 0x50].map(|address| look(&refused, &transfer(&[address, 0, 0])));
+    assert_eq!((one.0.number, one.0), (21, other.0));
+    assert!((one.2, one.3) == (other.2, other.3) && one.1 != other.1);
+    // DDC turned off: port 3 then shows SDA. By the CPU, by a listed write, by a reset.
+    let port = [0xA5, 0x04, 0x4C, 0x00, 0xA0];
+    let off = [&[0xA9, 0x08, 0x85, 0x15][..], &port].concat();
+    told_apart("DDC turned off by the CPU", &off, &[]);
+    told_apart(
+        "DDC turned off by the list",
+        &port,
+        &[(60, write(0x15, 0x08))],
+    );
+    let reset = [(60, level(pin::RESET, 0)), (60, level(pin::RESET, 1))];
+    told_apart("a reset", &port, &reset);
+    let starved: Vec<(u32, u32)> = vec![(60, WATCHDOG); 64];
+    told_apart("a watchdog reset", &port, &starved);
+    // DDC1 asked for: II DAT goes into the shift register.
+    let fields: Vec<(u32, u32)> = (0..24)
+        .map(|place| (400 + place, level(pin::VSYNCI, (place & 1) as u8)))
+        .collect();
+    let idle = [0x4C, 0x00, 0xA0];
+    let ddc1 = [&[(390, write(0x05, 0x07))][..], &fields].concat();
+    told_apart("DDC1 asked for by the list", &idle, &ddc1);
+    // Not without it.
+    let [one, other] = [0, 1].map(|place| look(&idle, &[&foreign[place][..], &fields].concat()));
+    assert!(one == other);
+    // An address that matches, in one run: A0H, II ADR, II ADR as the CPU or the list wrote it.
+    let adr = [&[0xA9, 0x42, 0x85, 0x13][..], &idle].concat();
+    told_apart("II ADR written by the CPU", &adr, &[]);
+    told_apart(
+        "II ADR written by the list",
+        &idle,
+        &[(30, write(0x13, 0x10))],
+    );
+    for address in [0x6E, 0x6F, 0xA0, 0xA1] {
+        let matched = look(&BUSY, &transfer(&[address, 0x00, 0xFF]));
+        assert!(matched != look(&BUSY, &foreign[0]), "{address:02X}");
+    }
+    // SDA moved while SCL is high, in one run.
+    let mut moved = foreign[0].clone();
+    let last = moved.len() - 1;
+    moved[last].1 = level(pin::SDA, 0);
+    assert!(look(&BUSY, &moved) != look(&BUSY, &foreign[0]));
 }

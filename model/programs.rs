@@ -76,10 +76,13 @@ pub fn chip(random: &mut Random) -> Chip {
     for word in Traffic::new(random.bits() >> 8).take(words) {
         chip.step(word);
     }
-    if !random.once_in(16) {
-        chip.step(u32::from_be_bytes([3, 0, pin::RESET, 1]));
-    }
+    chip.step(reset_pin(!random.once_in(12)));
     chip
+}
+
+/// The event that gives RESET a level.
+fn reset_pin(level: bool) -> u32 {
+    u32::from_be_bytes([3, 0, pin::RESET, level as u8])
 }
 
 pub fn ram(random: &mut Random) -> [u8; RAM_SIZE] {
@@ -128,6 +131,12 @@ fn absolute(random: &mut Random, row: Row) -> u16 {
         _ if row.mode == Mode::Absolute => 0x0080 + random.below(0x180) as u16,
         _ => 0x0080 + random.below(0x80) as u16,
     }
+}
+
+/// Where a program may begin: at its reset vector or at the one that no line uses.
+pub fn begin(random: &mut Random, rom: &[u8; ROM_SIZE]) -> u16 {
+    let place = ROM_SIZE - if random.once_in(2) { 4 } else { 6 };
+    u16::from_le_bytes([rom[place], rom[place + 1]])
 }
 
 /// Where the interrupt routine lies.
@@ -226,6 +235,12 @@ pub fn events(random: &mut Random, count: usize) -> Vec<Listed> {
                 random.below(4)
             } else {
                 0
+            };
+            // RESET comes back again and again, so that few runs end low.
+            let word = if random.once_in(40) {
+                reset_pin(!random.once_in(4))
+            } else {
+                word
             };
             Listed {
                 number: number.saturating_sub(late),

@@ -298,7 +298,7 @@ fn random_programs(random: &mut Random, rounds: u32, seen: &mut Seen) {
         let rom = programs::rom(random);
         let count = random.below(400) as usize;
         let events = programs::events(random, count);
-        let start = u16::from_le_bytes([rom[ROM_SIZE - 4], rom[ROM_SIZE - 3]]);
+        let start = programs::begin(random, &rom);
         let case = Case {
             cpu: programs::cpu(random, start),
             ram: programs::ram(random),
