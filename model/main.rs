@@ -1,5 +1,5 @@
-//! The independent model as a program: it reads words and answers them, makes seeded words, and compares another program's
-//! answers with its own.
+//! The independent model as a program: it reads words and answers them, makes seeded words, compares another program's
+//! answers with its own, and runs firmware.
 
 use nt6861_model::chip::Chip;
 use nt6861_model::core6502::{Listed, ROM_SIZE};

@@ -2,7 +2,8 @@
 # Firmware images and their runs on the independent core: the images are what their sources make, where the assembler is installed;
 # the lists of events are what the hosts' descriptions make; the EDID block is what a host reads; the commands of docs/RECALL.md and
 # firmware/README.md print what these pages say; malformed files are told. Where crates.txt has the program `firmware`, the same runs
-# and refusals of the proved program print the same. Ends in a line for each part, or names the first difference and fails.
+# and refusals of the proved program print the same; where it has `firmware_capi`, the call for C is compared with the core. Ends in
+# a line for each part, or names the first difference and fails.
 set -euo pipefail
 cd "$(dirname "$0")/.."
 work=$(mktemp -d)
@@ -54,6 +55,13 @@ while read -r image list count; do
     runs=$((runs + 1))
 done < <(grep -v '^#' firmware/runs.txt)
 echo "firmware: $runs stored runs${proved:+, the proved program printing what the model prints}"
+
+# the call for C, beside the same core
+if grep -q '^firmware_capi:' crates.txt; then
+    rt staticlib firmware_capi > "$work/log" 2>&1 || { cat "$work/log"; exit 1; }
+    cargo build --offline --quiet --release --features proved,area --bin firmware_compare
+    target/cargo/release/firmware_compare
+fi
 
 # what a host reads, as lines of sixteen bytes
 od -An -v -tx1 -w16 firmware/edid.bin | sed 's/^ //' | tr a-f A-F > "$work/block"
