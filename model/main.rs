@@ -6,6 +6,7 @@ use nt6861_model::core6502::{Listed, ROM_SIZE};
 use nt6861_model::coverage;
 use nt6861_model::firmware;
 use nt6861_model::host::{self, ddc1_bytes};
+use nt6861_model::programs::{self, Random};
 use nt6861_model::replay::{generate, hold_text, outcome_text, replay, sample};
 use nt6861_model::traffic::Traffic;
 use std::fs;
@@ -30,6 +31,8 @@ const USAGE: &str = "usage:
                                          a trace
   model host ROM DESCRIPTION             the events of a host that does as described, as a list
   model bus ROM COUNT EVENTS             what passes over the bus in such a run, and what DDC1 sends
+  model image SEED                       a random program, as an image
+  model events SEED COUNT                random events, as a list
   model firmware-bench FOLDER            instructions a second of the images in the folder";
 
 fn main() -> ExitCode {
@@ -51,6 +54,8 @@ fn main() -> ExitCode {
         ["firmware", rom, count, events] => firmware(rom, count, Some(events), false),
         ["host", rom, description] => hosted(rom, description),
         ["bus", rom, count, events] => bus(rom, count, events),
+        ["image", seed] => random_image(seed),
+        ["events", seed, count] => random_events(seed, count),
         ["firmware-bench", folder] => firmware_bench(folder),
         _ => Err(USAGE.to_string()),
     };
@@ -207,6 +212,16 @@ fn hosted(rom: &str, description: &str) -> Result<bool, String> {
         .map_err(|_| format!("{description}: not text"))?;
     let hosted = host::host(&image, &text).map_err(|why| format!("{description}: {why}"))?;
     print_bytes(hosted.text.as_bytes())
+}
+
+fn random_image(seed: &str) -> Result<bool, String> {
+    print_bytes(&programs::rom(&mut Random::new(number(seed)?))[..])
+}
+
+fn random_events(seed: &str, count: &str) -> Result<bool, String> {
+    let events = programs::events(&mut Random::new(number(seed)?), number(count)?);
+    let line = |listed: &Listed| format!("{} {:08X}\n", listed.number, listed.word);
+    print_bytes(events.iter().map(line).collect::<String>().as_bytes())
 }
 
 /// A line of bytes as hex digits for every sixteen.

@@ -56,6 +56,20 @@ while read -r image list count; do
 done < <(grep -v '^#' firmware/runs.txt)
 echo "firmware: $runs stored runs${proved:+, the proved program printing what the model prints}"
 
+# random programs with random events, from power up
+seed=${SEED:-1}
+programs=40
+for _ in $(seq $programs); do
+    "$model" image "$seed" > "$work/random.rom"
+    "$model" events "$seed" 300 > "$work/random.events"
+    same -t "$work/random.rom" 1500 "$work/random.events"
+    same "$work/random.rom" 1500 "$work/random.events"
+    [ -s "$work/expected" ] || fail "random program $seed: $(cat "$work/told")"
+    tail -n 1 "$work/expected" >> "$work/ends"
+    seed=$((seed + 1))
+done
+echo "firmware: $programs random programs, of which $(grep -c '^number 0 ' "$work/ends") run to their end${proved:+; printed alike}"
+
 # the call for C, beside the same core
 if grep -q '^firmware_capi:' crates.txt; then
     rt staticlib firmware_capi > "$work/log" 2>&1 || { cat "$work/log"; exit 1; }
@@ -89,7 +103,19 @@ told "x: not a decimal number up to 4294967295" firmware/sort.rom x "$work/malfo
 told "4294967296: not a decimal number up to 4294967295" firmware/sort.rom 4294967296
 told "$work/malformed:3: not NUMBER WORD" firmware/sort.rom 1 "$work/malformed"
 told "$work/great:1: not NUMBER WORD" -t firmware/sort.rom 1 "$work/great"
-echo "firmware: malformed files are told"
+malformed=0
+for line in 1 '1 1234567' '1 123456789' '1 1234567G' '1 +1234567' '1 00000000 2' 'x 00000000' '-1 00000000' '+1 00000000' '1,00000000' '1 #00000000' \
+    '00000000' '1 0x000000' '99999999999999999999 00000000' '1 0000 0000'; do
+    printf '0 04000000 # a clock\n%s\n0 04000000\n' "$line" > "$work/malformed"
+    told "$work/malformed:2: not NUMBER WORD" firmware/sort.rom 1 "$work/malformed"
+    malformed=$((malformed + 1))
+done
+for line in '' ' ' '#' '# 1' '1 00000000#' '\t007\t0400000f \r' '4294967295 FFFFFFFF' '00000000000000000000 04000000'; do
+    printf "0 04000000\n$line\n0 04000000" > "$work/taken"
+    same firmware/sort.rom 9 "$work/taken"
+    [ -s "$work/expected" ] || fail "line '$line' is told: $(cat "$work/told")"
+done
+echo "firmware: malformed files are told, $malformed lines among them"
 
 # the commands of the pages, each with the lines that it prints
 PATH=$(dirname "$model"):$PATH python3 - docs/RECALL.md firmware/README.md <<'PYTHON'
