@@ -28,7 +28,7 @@ zero:   sta     seed,x
         dex
         bpl     zero
 
-pass:   lda     #FEED
+pass:   lda     #CLEAR
         sta     CLRWDT
         jsr     number
         lda     seed

@@ -42,7 +42,7 @@ byte:   lda     (from),y
         jsr     add
         iny
         bne     byte
-        lda     #FEED
+        lda     #CLEAR
         sta     CLRWDT
         inc     from+1
         dec     pages

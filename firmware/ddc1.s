@@ -26,7 +26,7 @@ copy:   lda     edid,x
         sta     IEX
         cli
 
-loop:   lda     #FEED
+loop:   lda     #CLEAR
         sta     CLRWDT
         jmp     loop
 

@@ -28,7 +28,7 @@ copy:   lda     edid,x
         cli
 
 ; Beside the bus: the watchdog, and the field count to two DACs.
-loop:   lda     #FEED
+loop:   lda     #CLEAR
         sta     CLRWDT
         lda     VCNTL
         sta     DACH0

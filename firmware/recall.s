@@ -22,14 +22,14 @@ reset:  sei
         sta     IEX
         cli
 
-wait:   lda     #FEED
+wait:   lda     #CLEAR
         sta     CLRWDT
         lda     spoken
         beq     wait
 
         lda     #$FF            ; P00 high: picture
         sta     PT0
-on:     lda     #FEED
+on:     lda     #CLEAR
         sta     CLRWDT
         jmp     on
 

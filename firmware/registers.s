@@ -23,7 +23,7 @@ reset:  sei
         lda     #0
         sta     BTCON
 
-loop:   lda     #FEED
+loop:   lda     #CLEAR
         sta     CLRWDT
         ldx     #12
 move:   lda     DACH0,x

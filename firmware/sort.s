@@ -26,7 +26,7 @@ reset:  sei
         sta     passes
         sta     passes+1
 
-pass:   lda     #FEED
+pass:   lda     #CLEAR
         sta     CLRWDT
         jsr     fill
         jsr     sort

@@ -1391,8 +1391,8 @@ fn each_premise_of_demand_3_is_needed() {
     );
     let reset = [(60, level(pin::RESET, 0)), (60, level(pin::RESET, 1))];
     told_apart("a reset", &port, &reset);
-    let starved: Vec<(u32, u32)> = vec![(60, WATCHDOG); 64];
-    told_apart("a watchdog reset", &port, &starved);
+    let clocks: Vec<(u32, u32)> = vec![(60, WATCHDOG); 64];
+    told_apart("a watchdog reset", &port, &clocks);
     // DDC1 asked for: II DAT goes into the shift register.
     let fields: Vec<(u32, u32)> = (0..24)
         .map(|place| (400 + place, level(pin::VSYNCI, (place & 1) as u8)))

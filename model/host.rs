@@ -48,7 +48,7 @@ struct Host<'a> {
 }
 
 /// Instructions for which a host waits for SCL.
-const PATIENCE: u32 = 20_000;
+const SCL_LIMIT: u32 = 20_000;
 /// Cycles for which SDA stays after a fall of SCL.
 const HOLD: u64 = 4;
 const READ: u8 = 1;
@@ -172,7 +172,7 @@ impl Host<'_> {
     fn raise_scl(&mut self) -> Result<(), String> {
         self.half()?;
         self.set(pin::SCL, true);
-        let until = self.machine.counted + PATIENCE;
+        let until = self.machine.counted + SCL_LIMIT;
         while !self.machine.chip.scl() {
             if self.machine.counted == until {
                 return Err("the chip does not let SCL go".to_string());
