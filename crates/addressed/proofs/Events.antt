@@ -150,3 +150,167 @@ pub data Effect (c : Chip) (e : Decoded) (after : Core) : Type 0 where
 -- an event that moves nothing of the bus
 plain : {c : Chip} {e : Decoded} {after : Core} → ends c e ≡ false → takesLevel c e ≡ false → after .bus ≡ c .core .bus → after .mdcon ≡ c .core .mdcon → Effect c e after
 plain {c = c} n t b m = still n t (rw b (kept-same (c .core .bus .phase))) (λ h. rw (b, m) h)
+
+-- ---- the mode
+
+-- the bits of the mode as they are written
+md-written : (old b : ℕ) → bit 0 (updated MDCON old b) ≡ bit 0 b
+unfolding writeMask rowOf table bit
+md-written old b = bit-merge 0 0x0f old b (omega arith) (omega arith)
+
+enddc-merged : (old b : ℕ) → bit 3 (updated IISTS old b) ≡ bit 3 b
+unfolding writeMask rowOf table bit
+enddc-merged old b = bit-merge 3 0x0d old b (omega arith) (omega arith)
+
+enddc-mask : bit 3 0xcf ≡ true
+unfolding bit
+enddc-mask = refl
+
+and-or : (x : Bool) → (x && (x || true)) ≡ x
+and-or true = refl
+and-or false = refl
+
+enddc-written : (old b : ℕ) → bit 3 (statusWritten old b) ≡ bit 3 b
+unfolding statusWritten
+enddc-written old b = rw (bit-and 3 (updated IISTS old b) (bitOr b 0xcf), enddc-merged old b, bit-or 3 b 0xcf, enddc-mask) (and-or (bit 3 b))
+
+-- the mode changes where MD1/2 is turned with DDC on, and where ENDDC is turned
+md-turns : (enddc old new : Bool) → ((((pick (not old) new (not new)) && not enddc) || false) || false) ≡ changesMode (modeBy enddc old) (modeBy enddc new)
+unfolding changesMode
+md-turns true true true = refl
+md-turns true true false = refl
+md-turns true false true = refl
+md-turns true false false = refl
+md-turns false true true = refl
+md-turns false true false = refl
+md-turns false false true = refl
+md-turns false false false = refl
+
+enddc-turns : (old new md : Bool) → ((pick (not old) new (not new) || false) || false) ≡ changesMode (modeBy old md) (modeBy new md)
+unfolding changesMode
+enddc-turns true true md = refl
+enddc-turns true false true = refl
+enddc-turns true false false = refl
+enddc-turns false true true = refl
+enddc-turns false true false = refl
+enddc-turns false false true = refl
+enddc-turns false false false = refl
+
+-- and where it does not, DDC2B stays
+bits-stay : (e m e′ m′ : Bool) → changesMode (modeBy e m) (modeBy e′ m′) ≡ false → (not e && not m) ≡ true → (not e′ && not m′) ≡ true
+unfolding changesMode
+bits-stay true m e′ m′ h k = clash _ k refl
+bits-stay false true e′ m′ h k = clash _ k refl
+bits-stay false false true m′ h k = clash _ refl h
+bits-stay false false false true h k = clash _ refl h
+bits-stay false false false false h k = refl
+
+mode-stays : (iists mdcon iists′ mdcon′ : ℕ) → changesMode (mode iists mdcon) (mode iists′ mdcon′) ≡ false → (not (bit 3 iists) && not (bit 0 mdcon)) ≡ true →
+    (not (bit 3 iists′) && not (bit 0 mdcon′)) ≡ true
+unfolding mode
+mode-stays iists mdcon iists′ mdcon′ h k = bits-stay (bit 3 iists) (bit 0 mdcon) (bit 3 iists′) (bit 0 mdcon′) h k
+
+mode-phase : (old new : Mode) (b : Bus) → busAtMode old new b .phase ≡ pick (changesMode old new) Idle (b .phase)
+unfolding busAtMode released
+mode-phase old new b = by-test (changesMode old new)
+  where
+    by-test : (t : Bool) → (pick t (released b) b) .phase ≡ pick t Idle (b .phase)
+    by-test true = refl
+    by-test false = refl
+
+mode-status : (old new : Mode) (b : Bus) → busAtMode old new b .iists ≡ b .iists
+unfolding busAtMode released
+mode-status old new b = pick-by (λ (x : Bus). x .iists ≡ b .iists) (changesMode old new) (λ _. refl) (λ _. refl)
+
+by-mode : {c : Chip} {e : Decoded} {after : Core} (t : Bool) → ends c e ≡ t → takesLevel c e ≡ false → after .bus .phase ≡ pick t Idle (c .core .bus .phase) → (t ≡ false → Stays c after) → Effect c e after
+by-mode true n k p s = over n k (rw p idle-none)
+by-mode {c = c} false n k p s = still n k (rw p (kept-same (c .core .bus .phase))) (s refl)
+
+-- ---- writes
+
+rxak-bit : (status : ℕ) (sda : Bool) → bit 3 (withBit status 1 sda) ≡ bit 3 status
+rxak-bit status sda = bit-withBit 3 1 status sda (omega arith) (omega arith)
+
+-- a rise of the SCL line leaves ENDDC
+status-bit : (sda : Bool) (p : Phase) (status : ℕ) → bit 3 (statusAtRise sda p status) ≡ bit 3 status
+unfolding statusAtRise
+status-bit sda Idle status = refl
+status-bit sda (Address count bits) status = refl
+status-bit sda (CalledAddress matched bits ninth) status = refl
+status-bit sda Ignoring status = refl
+status-bit sda (Receive matched count bits) status = refl
+status-bit sda (Transmit matched count byte) status = pick-by (λ (n : ℕ). bit 3 n ≡ bit 3 status) (eqb count 9) (λ _. rxak-bit status sda) (λ _. refl)
+status-bit sda (Held matched clocks) status = refl
+
+-- SCL let go, and the line risen where its outside level is 1
+risen-phase : (scl sda : Bool) (byte : ℕ) (b : Bus) → pullsScl (b .phase) ≡ true → Kept (b .phase) (busRisen scl sda (busLetGo byte b) .phase)
+unfolding busRisen busAtRise
+risen-phase true sda byte b h = kept-written (b .phase) true (bit 2 (b .iists)) _ (b .iiadr) byte h
+risen-phase false sda byte b h = kept-written (b .phase) false (bit 2 (b .iists)) sda (b .iiadr) byte h
+
+risen-status : (scl sda : Bool) (byte : ℕ) (b : Bus) → bit 3 (busRisen scl sda (busLetGo byte b) .iists) ≡ bit 3 (b .iists)
+unfolding busRisen busAtRise
+risen-status true sda byte b = status-bit _ _ (b .iists)
+risen-status false sda byte b = refl
+
+module _ (c : Chip) (b : ℕ) (r : c .core .reset ≡ true) where
+  ends-mdcon : ends c (Write MDCON b) ≡ changesMode (mode (c .core .bus .iists) (c .core .mdcon)) (mode (c .core .bus .iists) (updated MDCON (c .core .mdcon) b))
+  unfolding ends mode
+  ends-mdcon = rw (r, md-written (c .core .mdcon) b) (md-turns (bit 3 (c .core .bus .iists)) (bit 0 (c .core .mdcon)) (bit 0 b))
+
+  ends-iists : ends c (Write IISTS b) ≡ changesMode (mode (c .core .bus .iists) (c .core .mdcon)) (mode (statusWritten (c .core .bus .iists) b) (c .core .mdcon))
+  unfolding ends mode
+  ends-iists = rw (r, enddc-written (c .core .bus .iists) b) (enddc-turns (bit 3 (c .core .bus .iists)) (bit 3 b) (bit 0 (c .core .mdcon)))
+
+  to-mdcon : Effect c (Write MDCON b) (mdconWritten (c .core) b)
+  unfolding mdconWritten takesLevel
+  to-mdcon =
+      let bus : Bus = c .core .bus in
+      by-mode _ ends-mdcon refl (mode-phase _ _ bus)
+      (λ same h. rw (mode-status (mode (bus .iists) (c .core .mdcon)) (mode (bus .iists) (updated MDCON (c .core .mdcon) b)) bus) (mode-stays (bus .iists) (c .core .mdcon) (bus .iists) (updated MDCON (c .core .mdcon) b) same h))
+
+  to-iists : Effect c (Write IISTS b) (iistsWritten (c .core) b)
+  unfolding iistsWritten takesLevel
+  to-iists =
+      let bus : Bus = c .core .bus in
+      let put : Bus = busOf (statusWritten (bus .iists) b) (bus .iiadr) (bus .iidat) (bus .phase) (bus .shifter) in
+      by-mode _ ends-iists refl (mode-phase _ _ put)
+      (λ same h. rw (mode-status (mode (bus .iists) (c .core .mdcon)) (mode (statusWritten (bus .iists) b) (c .core .mdcon)) put) (mode-stays (bus .iists) (c .core .mdcon) (statusWritten (bus .iists) b) (c .core .mdcon) same h))
+
+  to-iidat : Effect c (Write IIDAT b) (iidatWritten (c .core) b)
+  unfolding iidatWritten busAtIidat ends takesLevel
+  to-iidat =
+      let bus : Bus = c .core .bus in
+      let parts =
+          pick-by (λ (x : Bus). Kept (bus .phase) (x .phase) × (bit 3 (x .iists) ≡ bit 3 (bus .iists))) (pullsScl (bus .phase))
+          (λ h. (risen-phase (c .core .scl) (c .core .sda) b bus h, risen-status (c .core .scl) (c .core .sda) b bus))
+          (λ _. (kept-same (bus .phase), refl))
+      in
+      still refl refl (parts .0) (λ h. rw (parts .1) h)
+
+  to-target : {t : Target} {a : ℕ} → Addressed t a → Effect c (Write a b) (pick (isWritable a) (writtenTo t (c .core) b) (c .core))
+  unfolding isWritable rowOf table writtenTo clrflgWritten clrwdtWritten iiadrWritten ends takesLevel
+  to-target at-mdcon = to-mdcon
+  to-target at-hvcon = plain refl refl refl refl
+  to-target at-clrflg = plain refl refl refl refl
+  to-target at-clrwdt = plain refl refl refl refl
+  to-target at-iiadr = still refl refl (kept-same (c .core .bus .phase)) (λ h. h)
+  to-target at-iidat = to-iidat
+  to-target at-iists = to-iists
+  to-target at-bt = plain refl refl refl refl
+  to-target {a = a} (at-plain p) = pick-by (Effect c (Write a b)) (isWritable a) (λ _. plain (rw (p .iists, p .mdcon)) refl refl refl) (λ _. plain (rw (p .iists, p .mdcon)) refl refl refl)
+
+-- while RESET is low a write is refused
+low-write : (c : Chip) (a b : ℕ) → c .core .reset ≡ false → Effect c (Write a b) (c .core)
+unfolding ends takesLevel
+low-write c a b r = plain (rw r (none (eqb a IISTS) (eqb a MDCON) (not (bit 3 (c .core .bus .iists))))) refl refl refl
+  where
+    none : (x y z : Bool) → (((x && false) || (((y && false) && z) || false)) || false) ≡ false
+    none true true z = refl
+    none true false z = refl
+    none false true z = refl
+    none false false z = refl
+
+at-write : (c : Chip) (a b : ℕ) → Effect c (Write a b) (next c (Write a b) .core)
+unfolding next coreAfter writeRegister written
+at-write c a b = pick-by (Effect c (Write a b)) (c .core .reset) (λ r. to-target c b r (addressed a)) (λ r. low-write c a b r)
