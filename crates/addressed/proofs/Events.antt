@@ -314,3 +314,250 @@ low-write c a b r = plain (rw r (none (eqb a IISTS) (eqb a MDCON) (not (bit 3 (c
 at-write : (c : Chip) (a b : ℕ) → Effect c (Write a b) (next c (Write a b) .core)
 unfolding next coreAfter writeRegister written
 at-write c a b = pick-by (Effect c (Write a b)) (c .core .reset) (λ r. to-target c b r (addressed a)) (λ r. low-write c a b r)
+
+-- ---- SCL
+
+-- what an edge of the SCL line does, by the mode: in DDC1 a fall leaves it, in DDC2B a rise takes a level
+abbrev leaves : Mode → Edge → Bool
+leaves Off e = false
+leaves Ddc1 Flat = false
+leaves Ddc1 Rise = false
+leaves Ddc1 Fall = true
+leaves Ddc2b e = false
+
+abbrev takes : Mode → Edge → Bool
+takes Off e = false
+takes Ddc1 e = false
+takes Ddc2b Flat = false
+takes Ddc2b Rise = true
+takes Ddc2b Fall = false
+
+abbrev pulledBy : Mode → Bool → Bool
+pulledBy Off held = false
+pulledBy Ddc1 held = false
+pulledBy Ddc2b held = held
+
+scl-pulled : (m : Mode) (p : Phase) → sclPulled m p ≡ pulledBy m (pullsScl p)
+unfolding sclPulled
+scl-pulled Off p = refl
+scl-pulled Ddc1 p = refl
+scl-pulled Ddc2b p = refl
+
+-- the edge by RESET, ENDDC, MD1/2, whether the phase holds SCL, and the levels before and after
+abbrev edgeBy : Mode → Bool → Bool → Bool → Edge
+edgeBy m held old new = edge (line (pulledBy m held) old) (line (pulledBy m held) new)
+
+abbrev modeAt : Bool → Bool → Bool → Mode
+modeAt reset enddc md = pick reset (modeBy enddc md) Off
+
+leaves-is : (reset enddc md held old new : Bool) →
+    (((not new && (reset && (old && not ((not enddc && not md) && held)))) && (not enddc && md)) || false)
+    ≡ leaves (modeAt reset enddc md) (edgeBy (modeAt reset enddc md) held old new)
+leaves-is reset enddc md held old new =
+    beq-eq _ _
+    (at-six
+    (λ r e m h o l. Bool·beq (((not l && (r && (o && not ((not e && not m) && h)))) && (not e && m)) || false) (leaves (modeAt r e m) (edgeBy (modeAt r e m) h o l)))
+    tt reset enddc md held old new)
+
+takes-is : (reset enddc md held old new : Bool) →
+    ((new && (reset && (not old && not ((not enddc && not md) && held)))) && (not enddc && not md))
+    ≡ takes (modeAt reset enddc md) (edgeBy (modeAt reset enddc md) held old new)
+takes-is reset enddc md held old new =
+    beq-eq _ _
+    (at-six
+    (λ r e m h o l. Bool·beq ((l && (r && (not o && not ((not e && not m) && h)))) && (not e && not m)) (takes (modeAt r e m) (edgeBy (modeAt r e m) h o l)))
+    tt reset enddc md held old new)
+
+module _ (c : Chip) (level : Bool) where
+  scl-by : (m : Mode) (e : Edge) → ends c (Pin 25 level) ≡ leaves m e → takesLevel c (Pin 25 level) ≡ takes m e → Effect c (Pin 25 level) (onScl m e (withScl (c .core) level))
+  unfolding onScl onSclDdc1 onSclDdc2b sclRise sclFall leaveDdc1 busAtRise released
+  scl-by Off e n t = plain n t refl refl
+  scl-by Ddc1 Flat n t = plain n t refl refl
+  scl-by Ddc1 Rise n t = plain n t refl refl
+  scl-by Ddc1 Fall n t = over n t idle-none
+  scl-by Ddc2b Flat n t = plain n t refl refl
+  scl-by Ddc2b Rise n t = taken n t refl (λ h. rw (status-bit (sdaLevel c) (c .core .bus .phase) (c .core .bus .iists)) h)
+  scl-by Ddc2b Fall n t = still n t (kept-fall (c .core .bus .iists) (c .core .bus .phase)) (λ h. h)
+
+  ends-scl : ends c (Pin 25 level) ≡ leaves (activeMode (c .core)) (edgeBy (activeMode (c .core)) (pullsScl (c .core .bus .phase)) (c .core .scl) level)
+  unfolding ends mode
+  ends-scl = leaves-is (c .core .reset) (bit 3 (c .core .bus .iists)) (bit 0 (c .core .mdcon)) (pullsScl (c .core .bus .phase)) (c .core .scl) level
+
+  takes-scl : takesLevel c (Pin 25 level) ≡ takes (activeMode (c .core)) (edgeBy (activeMode (c .core)) (pullsScl (c .core .bus .phase)) (c .core .scl) level)
+  unfolding takesLevel mode
+  takes-scl = takes-is (c .core .reset) (bit 3 (c .core .bus .iists)) (bit 0 (c .core .mdcon)) (pullsScl (c .core .bus .phase)) (c .core .scl) level
+
+  at-scl : Effect c (Pin 25 level) (sclMoved (c .core) level)
+  unfolding sclMoved
+  at-scl = rw (scl-pulled (activeMode (c .core)) (c .core .bus .phase)) (scl-by _ _ ends-scl takes-scl)
+
+-- ---- SDA
+
+-- START and STOP, by the mode and the level of the SCL line
+abbrev moved : Mode → Bool → Edge → Bool
+moved Off high e = false
+moved Ddc1 high e = false
+moved Ddc2b high Flat = false
+moved Ddc2b high Rise = high
+moved Ddc2b high Fall = high
+
+-- SDA pulled, by the mode: in DDC1 by the shift register
+abbrev sdaBy : Mode → Bool → Bool → Bool
+sdaBy Off top pulls = false
+sdaBy Ddc1 top pulls = top
+sdaBy Ddc2b top pulls = pulls
+
+sda-pulled : (m : Mode) (p : Phase) (top : ℕ) (edges : ℕ) → sdaPulled m p (record { register = top; edges = edges }) ≡ sdaBy m (not (bit 7 top)) (pullsSda p)
+unfolding sdaPulled
+sda-pulled Off p top edges = refl
+sda-pulled Ddc1 p top edges = refl
+sda-pulled Ddc2b p top edges = refl
+
+abbrev sdaEdge : Mode → Bool → Bool → Bool → Bool → Edge
+sdaEdge m top pulls old new = edge (line (sdaBy m top pulls) old) (line (sdaBy m top pulls) new)
+
+abbrev movesBy : Bool → Bool → Bool → Bool → Bool → Bool → Bool → Bool → Bool
+movesBy reset enddc md held pulls scl old new =
+    let seen : Bool = (not enddc && not md) && (scl && not ((not enddc && not md) && held)) in
+    (not new && (reset && ((old && not pulls) && seen))) || ((new && (reset && ((not old && not pulls) && seen))) || false)
+
+moved-is : (top reset enddc md held pulls scl old new : Bool) →
+    movesBy reset enddc md held pulls scl old new
+    ≡ moved (modeAt reset enddc md) (line (pulledBy (modeAt reset enddc md) held) scl) (sdaEdge (modeAt reset enddc md) top pulls old new)
+moved-is true reset enddc md held pulls scl old new =
+    beq-eq _ _
+    (at-eight
+    (λ r e m h p s o l. Bool·beq (movesBy r e m h p s o l) (moved (modeAt r e m) (line (pulledBy (modeAt r e m) h) s) (sdaEdge (modeAt r e m) true p o l)))
+    tt reset enddc md held pulls scl old new)
+moved-is false reset enddc md held pulls scl old new =
+    beq-eq _ _
+    (at-eight
+    (λ r e m h p s o l. Bool·beq (movesBy r e m h p s o l) (moved (modeAt r e m) (line (pulledBy (modeAt r e m) h) s) (sdaEdge (modeAt r e m) false p o l)))
+    tt reset enddc md held pulls scl old new)
+
+module _ (c : Chip) (level : Bool) where
+  sda-by : (m : Mode) (high : Bool) (e : Edge) → ends c (Pin 24 level) ≡ moved m high e → takesLevel c (Pin 24 level) ≡ false → Effect c (Pin 24 level) (onSda m high e (withSda (c .core) level))
+  unfolding onSda onSdaDdc2b started stopped comparedIn
+  sda-by Off high e n t = plain n t refl refl
+  sda-by Ddc1 high e n t = plain n t refl refl
+  sda-by Ddc2b high Flat n t = plain n t refl refl
+  sda-by Ddc2b true Rise n t = over n t refl
+  sda-by Ddc2b false Rise n t = plain n t refl refl
+  sda-by Ddc2b true Fall n t = over n t refl
+  sda-by Ddc2b false Fall n t = plain n t refl refl
+
+  ends-sda : ends c (Pin 24 level) ≡
+      moved (activeMode (c .core)) (line (pulledBy (activeMode (c .core)) (pullsScl (c .core .bus .phase))) (c .core .scl))
+      (sdaEdge (activeMode (c .core)) (not (bit 7 (c .core .bus .shifter .register))) (pullsSda (c .core .bus .phase)) (c .core .sda) level)
+  unfolding ends mode
+  ends-sda =
+      moved-is (not (bit 7 (c .core .bus .shifter .register))) (c .core .reset) (bit 3 (c .core .bus .iists)) (bit 0 (c .core .mdcon)) (pullsScl (c .core .bus .phase))
+      (pullsSda (c .core .bus .phase)) (c .core .scl) (c .core .sda) level
+
+  takes-sda : takesLevel c (Pin 24 level) ≡ false
+  unfolding takesLevel
+  takes-sda = refl
+
+  at-sda : Effect c (Pin 24 level) (sdaMoved (c .core) level)
+  unfolding sdaMoved
+  at-sda =
+      rw (scl-pulled (activeMode (c .core)) (c .core .bus .phase), sda-pulled (activeMode (c .core)) (c .core .bus .phase) (c .core .bus .shifter .register) (c .core .bus .shifter .edges))
+      (sda-by _ _ _ ends-sda takes-sda)
+
+-- ---- the other pins
+
+-- a pin that is none of SDA, SCL and RESET
+plain-pin : {c : Chip} {after : Core} (p : ℕ) (level : Bool) → eqb p 24 ≡ false → eqb p 25 ≡ false → eqb p 28 ≡ false → after .bus ≡ c .core .bus → after .mdcon ≡ c .core .mdcon →
+    Effect c (Pin p level) after
+unfolding ends takesLevel
+plain-pin p level sda scl reset b m = plain (rw (sda, scl, reset)) (rw scl) b m
+
+unnamed-pin : {c : Chip} {after : Core} {p : ℕ} (level : Bool) → Unnamed p → after .bus ≡ c .core .bus → after .mdcon ≡ c .core .mdcon → Effect c (Pin p level) after
+unnamed-pin {p = p} level u b m = plain-pin p level (u .sda) (u .scl) (u .reset) b m
+
+-- VSYNCI clocks the shift register in DDC1 alone
+vsync-kept : (m : Mode) (b : Bus) → Kept (b .phase) (busAtVsync m b .phase) × (busAtVsync m b .iists ≡ b .iists)
+unfolding busAtVsync
+vsync-kept Off b = (kept-same _, refl)
+vsync-kept Ddc1 b = (kept-same _, refl)
+vsync-kept Ddc2b b = (kept-same _, refl)
+
+module _ (c : Chip) (level : Bool) where
+  at-vsynci : Effect c (Pin 27 level) (vsyncMoved (c .core) level)
+  unfolding vsyncMoved vsyncRise ends takesLevel
+  at-vsynci =
+      let v = vsync-kept (modeOf (c .core)) (c .core .bus) in
+      pick-by (Effect c (Pin 27 level)) (rises (c .core .reset) (c .core .pins .vsynci) level)
+      (λ _. still refl refl (v .0) (λ h. rw (v .1) h))
+      (λ _. plain refl refl refl refl)
+
+  reset-by : (old new : Bool) → c .core .reset ≡ old → level ≡ new → Effect c (Pin 28 level) (onReset (edge old new) (withReset (c .core) new))
+  unfolding onReset resetCore resetAt ends takesLevel
+  reset-by true true r l = plain (rw (r, l)) refl refl refl
+  reset-by true false r l = over (rw (r, l)) refl idle-none
+  reset-by false true r l = plain (rw r) refl refl refl
+  reset-by false false r l = plain (rw r) refl refl refl
+
+  at-kind : {k : PinKind} {p : ℕ} → Numbered k p → Effect c (Pin p level) (pinMovedAs k (c .core) p level)
+  unfolding pinMovedAs port0Moved port1Moved port2Moved p16Moved hsyncMoved resetMoved
+  at-kind (port0-pin u high) = unnamed-pin level u refl refl
+  at-kind (port1-pin u low high) = unnamed-pin level u refl refl
+  at-kind (port2-pin u low high) = unnamed-pin level u refl refl
+  at-kind (no-pin u none) = unnamed-pin level u refl refl
+  at-kind p16-pin = plain-pin 14 level refl refl refl refl refl
+  at-kind sda-pin = at-sda c level
+  at-kind scl-pin = at-scl c level
+  at-kind hsynci-pin = plain-pin 26 level refl refl refl refl refl
+  at-kind vsynci-pin = at-vsynci
+  at-kind reset-pin = reset-by (c .core .reset) level refl refl
+
+at-pin : (c : Chip) (p : ℕ) (level : Bool) → Effect c (Pin p level) (next c (Pin p level) .core)
+unfolding next coreAfter pinMoved
+at-pin c p level = at-kind c level (numbered p)
+
+-- ---- clocks
+
+module _ (c : Chip) where
+  -- 8 µs
+  at-period : Effect c (Clock 0) (pick (c .core .reset) (periodClock (c .core)) (c .core))
+  unfolding ends takesLevel periodClock
+  at-period =
+      pick-by (Effect c (Clock 0)) (c .core .reset) (λ _. still refl refl (kept-period (c .core .bus .phase)) (λ h. h))
+      (λ _. plain refl refl refl refl)
+
+  -- base clocks
+  at-timer : (k : ℕ) → eqb k 3 ≡ false → Effect c (Clock k) (pick (c .core .reset) (timerClock (registerAt (c .registers) BTCON) (c .core) k) (c .core))
+  unfolding ends takesLevel timerClock timerStep
+  at-timer k w =
+      pick-by (Effect c (Clock k)) (c .core .reset)
+      (λ _. pick-by (Effect c (Clock k)) (timerRuns (registerAt (c .registers) BTCON) k) (λ _. plain (rw w) refl refl refl) (λ _. plain (rw w) refl refl refl))
+      (λ _. plain (rw w) refl refl refl)
+
+  -- the watchdog's
+  watchdog-by : (reset fires : Bool) (m : ℕ) → c .core .reset ≡ reset → watchdogFires (c .core .watchdog) ≡ fires →
+      Effect c (Clock 3) (pick reset (pick fires (resetCore (c .core)) (withWatchdog (c .core) m)) (c .core))
+  unfolding ends takesLevel resetCore resetAt
+  watchdog-by true true m r f = over (rw (r, ← (watchdog-last (c .core .watchdog)), f)) refl idle-none
+  watchdog-by true false m r f = plain (rw (r, ← (watchdog-last (c .core .watchdog)), f)) refl refl refl
+  watchdog-by false fires m r f = plain (rw r) refl refl refl
+
+  clock-by : (k : ℕ) (period watchdog : Bool) → eqb k 0 ≡ period → eqb k 3 ≡ watchdog → Effect c (Clock k) (next c (Clock k) .core)
+  unfolding next coreAfter clocked clockedAs watchdogClock
+  clock-by k true watchdog e f = rw (eqb-true k 0 e) at-period
+  clock-by k false true e f = rw (eqb-true k 3 f) (watchdog-by (c .core .reset) (watchdogFires (c .core .watchdog)) (watchdogNext (c .core .watchdog)) refl refl)
+  clock-by k false false e f = rw (e, f) (at-timer k f)
+
+-- ---- every event
+
+at-polarity : (c : Chip) (vertical level : Bool) → Effect c (Polarity vertical level) (next c (Polarity vertical level) .core)
+unfolding next coreAfter polarityFound ends takesLevel
+at-polarity c vertical level = pick-by (Effect c (Polarity vertical level)) (c .core .reset) (λ _. plain refl refl refl refl) (λ _. plain refl refl refl refl)
+
+pub effect : (c : Chip) (e : Decoded) → Effect c e (next c e .core)
+unfolding next coreAfter ends takesLevel
+effect c (Read a) = plain refl refl refl refl
+effect c (Write a b) = at-write c a b
+effect c (Pin p level) = at-pin c p level
+effect c (Clock k) = clock-by c k _ _ refl refl
+effect c (Polarity vertical level) = at-polarity c vertical level
+effect c (Refused n) = plain refl refl refl refl
