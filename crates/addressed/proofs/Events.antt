@@ -282,9 +282,9 @@ module _ (c : Chip) (b : ℕ) (r : c .core .reset ≡ true) where
   to-iidat =
       let bus : Bus = c .core .bus in
       let parts =
-          pick-by (λ (x : Bus). Kept (bus .phase) (x .phase) × (bit 3 (x .iists) ≡ bit 3 (bus .iists))) (pullsScl (bus .phase))
-          (λ h. (risen-phase (c .core .scl) (c .core .sda) b bus h, risen-status (c .core .scl) (c .core .sda) b bus))
-          (λ _. (kept-same (bus .phase), refl))
+      pick-by (λ (x : Bus). Kept (bus .phase) (x .phase) × (bit 3 (x .iists) ≡ bit 3 (bus .iists))) (pullsScl (bus .phase))
+      (λ h. (risen-phase (c .core .scl) (c .core .sda) b bus h, risen-status (c .core .scl) (c .core .sda) b bus))
+      (λ _. (kept-same (bus .phase), refl))
       in
       still refl refl (parts .0) (λ h. rw (parts .1) h)
 
