@@ -88,7 +88,7 @@ parts : (x y : Bool) → (not x && y) ≡ true → (x ≡ false) × (y ≡ true)
 parts true y h = clash _ h refl
 parts false y h = (refl, h)
 
-advanced-append : (c : Chip) (us vs : List ℕ) → advanced c (us ++ vs) ≡ advanced (advanced c us) vs
+pub advanced-append : (c : Chip) (us vs : List ℕ) → advanced c (us ++ vs) ≡ advanced (advanced c us) vs
 advanced-append c [] vs = refl
 advanced-append c (u ∷ us) vs = advanced-append (advance c (decode u) .chip) us vs
 

@@ -29,12 +29,10 @@ use Rattle.step.specs.Step.{advance}
 use Rattle.run.specs.Run.{advanced}
 use Rattle.causes.specs.Causes.{raises, flag, inDdc2b}
 use Rattle.causes.specs.Causes.Source.{AddressMatch}
-use Rattle.causes.proofs.Causes.{sets-exactly}
-use Rattle.events.proofs.Refusal.{decode-in-range}
 use Rattle.counting.specs.Counting.{never}
 use Rattle.addressed.specs.Addressed.{sdaLevel, takesLevel, awaitsEighth, completes, addressAt, starts, ends, levelsTaken, gatheredAll}
 use Rattle.addressed.proofs.Events.{clash, Effect, over, taken, still, effect}
-use Rattle.addressed.proofs.Addressed.{raised-exactly}
+use Rattle.addressed.proofs.Addressed.{apart, raised-exactly, flag-after, advanced-append}
 
 -- in DDC2B so many bits of an address are gathered, and these
 pub record Gathers (n bits : ℕ) (c : Chip) : Type 0 where
@@ -85,6 +83,15 @@ start-begins c (Clock k) h = clash _ h refl
 start-begins c (Polarity vertical level) h = clash _ h refl
 start-begins c (Refused n) h = clash _ h refl
 
+-- a START completes no address
+started-none : (c : Chip) (e : Decoded) → starts c e ≡ true → completes c e ≡ false
+unfolding ends
+started-none c e s = by-test (completes c e) refl
+  where
+    by-test : (t : Bool) → completes c e ≡ t → t ≡ false
+    by-test true h = clash (ends c e) (rw s) (apart c e h)
+    by-test false h = refl
+
 -- ---- one event
 
 rise-gathers : (own : ℕ) (sda : Bool) (n bits : ℕ) → n < 7 → phaseAtRise own sda (Address n bits) ≡ Address (n + 1) (gathered bits sda)
@@ -134,6 +141,39 @@ gathered-over c (w ∷ ws) n bits g q l =
     let k = parts (ends c (decode w)) _ q in
     by-level c (decode w) ws (gathered-over (next c (decode w)) ws) n bits (takesLevel c (decode w)) refl g (k .0) (k .1) l
 
+-- and none of these words completes an address
+abbrev NoneYet : Chip → List ℕ → Type 0
+NoneYet c ws = (n bits : ℕ) → Gathers n bits c → never ends c ws ≡ true → n + length (levelsTaken c ws) ≤ 7 → never completes c ws ≡ true
+
+not-yet : (x y : Bool) → x ≡ false → y ≡ true → (not x && y) ≡ true
+not-yet x y h k = rw (h, k)
+
+awaits-at : {n bits : ℕ} (p : Phase) → p ≡ Address n bits → awaitsEighth p ≡ not (ltb n 7)
+awaits-at p h = rw h
+
+few-await : {n bits : ℕ} (c : Chip) (e : Decoded) → Gathers n bits c → n < 7 → completes c e ≡ false
+few-await {n} c e g l = rw (awaits-at (c .core .bus .phase) (g .phase), lt-ltb n 7 l) (and-false (takesLevel c e))
+
+none-by : (c : Chip) (e : Decoded) (ws : List ℕ) → NoneYet (next c e) ws → (n bits : ℕ) (t : Bool) → takesLevel c e ≡ t → Gathers n bits c → ends c e ≡ false → never ends (next c e) ws ≡ true →
+    n + length (pick t (sdaLevel c ∷ levelsTaken (next c e) ws) (levelsTaken (next c e) ws)) ≤ 7 → (not (completes c e) && never completes (next c e) ws) ≡ true
+none-by c e ws rest n bits true t g stays q l =
+    not-yet (completes c e) _ (few-await c e g (omega arith)) (rest (n + 1) (gathered bits (sdaLevel c)) (level-taken c e g stays t (omega arith)) q (omega arith))
+none-by c e ws rest n bits false t g stays q l = not-yet (completes c e) _ (rw t) (rest n bits (level-kept c e g stays t) q l)
+
+none-over : (c : Chip) (ws : List ℕ) → NoneYet c ws
+none-over c [] n bits g q l = refl
+none-over c (w ∷ ws) n bits g q l =
+    let k = parts (ends c (decode w)) _ q in
+    none-by c (decode w) ws (none-over (next c (decode w)) ws) n bits (takesLevel c (decode w)) refl g (k .0) (k .1) l
+
+-- flag A stays 0 while no address is completed
+flag-low : (c : Chip) (ws : List ℕ) → flag AddressMatch c ≡ false → never completes c ws ≡ true → flag AddressMatch (advanced c ws) ≡ false
+unfolding advance
+flag-low c [] f q = f
+flag-low c (w ∷ ws) f q =
+    let k = parts (completes c (decode w)) _ q in
+    flag-low (next c (decode w)) ws (flag-after c w ∙ rw (k .0, f)) (k .1)
+
 -- after a START, with up to seven rises, the levels taken are the bits gathered
 pub gathered-since : (c : Chip) (w : ℕ) (us : List ℕ) → starts c (decode w) ≡ true → never ends (next c (decode w)) us ≡ true → length (levelsTaken (next c (decode w)) us) ≤ 7 →
     Gathers (length (levelsTaken (next c (decode w)) us)) (gatheredAll 0 (levelsTaken (next c (decode w)) us)) (advanced c (w ∷ us))
@@ -155,13 +195,6 @@ levels-append : (c : Chip) (us : List ℕ) (v : ℕ) → takesLevel (advanced c 
 unfolding advance
 levels-append c [] v t = rw t
 levels-append c (u ∷ us) v t = rw (levels-append (next c (decode u)) us v t) (pick-append (takesLevel c (decode u)) (sdaLevel c) (levelsTaken (next c (decode u)) us) _)
-
-awaits-at : {n bits : ℕ} (p : Phase) → p ≡ Address n bits → awaitsEighth p ≡ not (ltb n 7)
-awaits-at p h = rw h
-
-pulls-at : {n bits : ℕ} (p : Phase) → p ≡ Address n bits → pullsSda p ≡ false
-unfolding pullsSda
-pulls-at p h = rw h
 
 module _ (c : Chip) (w : ℕ) (us : List ℕ) (s : starts c (decode w) ≡ true) (q : never ends (next c (decode w)) us ≡ true) where
   -- with fewer than seven rises before it no event completes an address
@@ -186,13 +219,14 @@ module _ (c : Chip) (w : ℕ) (us : List ℕ) (s : starts c (decode w) ≡ true)
           rw (levels-append (next c (decode w)) us v t, gathered-append 0 (levelsTaken (next c (decode w)) us) (sdaLevel x), g .phase),
         )
 
-    -- flag A is set then, if it was 0, exactly where the byte of these levels matches A0H or II ADR as it is
-    pub decided-at-eighth : flag AddressMatch (advanced c (w ∷ us)) ≡ false →
-        flag AddressMatch (next (advanced c (w ∷ us)) (decode v))
+    -- flag A, if it was 0 before the START, is set by the eighth rise exactly where the byte of these levels matches A0H or II ADR as it is then
+    pub decided-at-eighth : flag AddressMatch c ≡ false →
+        flag AddressMatch (advanced c (w ∷ (us ++ (v ∷ []))))
         ≡ matches (advanced c (w ∷ us) .core .bus .iiadr) (gatheredAll 0 (levelsTaken (next c (decode w)) (us ++ (v ∷ []))))
+    unfolding advance
     decided-at-eighth f =
         let x : Chip = advanced c (w ∷ us) in
         let k = eighth-completes in
-        sets-exactly AddressMatch x (decode v) (decode-in-range v) f
-        ∙ raised-exactly x (decode v)
-        ∙ rw (k .0, k .1) (own-matches (x .core .bus .iiadr) _)
+        let low = flag-low (next c (decode w)) us (flag-after c w ∙ rw (started-none c (decode w) s, f)) (none-over (next c (decode w)) us 0 0 (start-begins c (decode w) s) q (omega arith)) in
+        rw (advanced-append (next c (decode w)) us (v ∷ []))
+        (flag-after x v ∙ rw (low, k .0, k .1) (or-false _ ∙ own-matches (x .core .bus .iiadr) _))
