@@ -26,7 +26,7 @@ use Rattle.causes.specs.Causes.{raises, clears, flag, completesMatch, risesScl,
 use Rattle.causes.specs.Causes.Source.{AddressMatch}
 use Rattle.causes.proofs.Causes.{causes-of-word}
 use Rattle.counting.specs.Counting.{never}
-use Rattle.addressed.specs.Addressed.{outcomeIn, sdaLevel, takesLevel, awaitsEighth, addressSoFar, completes, addressAt, ends, moves}
+use Rattle.addressed.specs.Addressed.{outcomeIn, sdaLevel, takesLevel, awaitsEighth, addressSoFar, completes, addressAt, ends, comparedBy, moves, LastAddress}
 use Rattle.addressed.proofs.Events.{clash, addressing, Kept, Effect, over, taken, still, effect}
 
 -- ---- a rise of the SCL line
@@ -61,13 +61,13 @@ rise-outcome own sda (Held matched clocks) = refl
 
 -- ---- every event
 
-by-effect : (c : Chip) (e : Decoded) (after : Core) → Effect c e after → comparedIn (after .bus .phase) ≡ pick (completes c e) (compared (c .core .bus .iiadr) (addressAt c)) (pick (ends c e) None (outcomeIn c))
+by-effect : (c : Chip) (e : Decoded) (after : Core) → Effect c e after → comparedIn (after .bus .phase) ≡ comparedBy c e (outcomeIn c)
 by-effect c e after (over n t o) = o ∙ rw (t, n)
 by-effect c e after (taken n t q s) = rw (t, n, q) (rise-outcome (c .core .bus .iiadr) (sdaLevel c) (c .core .bus .phase))
 by-effect c e after (still n t k s) = k .outcome ∙ rw (t, n)
 
--- the outcome after each event, at every chip: compared where an address is completed, with II ADR as it is then; none where the transfer ends; else as it was
-pub outcome-after : (c : Chip) (e : Decoded) → outcomeIn (next c e) ≡ pick (completes c e) (compared (c .core .bus .iiadr) (addressAt c)) (pick (ends c e) None (outcomeIn c))
+-- the outcome after each event, at every chip, well formed or not
+pub outcome-after : (c : Chip) (e : Decoded) → outcomeIn (next c e) ≡ comparedBy c e (outcomeIn c)
 outcome-after c e = by-effect c e (next c e .core) (effect c e)
 
 pub compared-then : (c : Chip) (e : Decoded) → completes c e ≡ true → outcomeIn (next c e) ≡ compared (c .core .bus .iiadr) (addressAt c)
@@ -84,7 +84,7 @@ apart c e h = by-parts (effect c e)
 
 -- ---- over a list of words
 
-parts : (x y : Bool) → (not x && y) ≡ true → (x ≡ false) × (y ≡ true)
+pub parts : (x y : Bool) → (not x && y) ≡ true → (x ≡ false) × (y ≡ true)
 parts true y h = clash _ h refl
 parts false y h = (refl, h)
 
@@ -187,7 +187,7 @@ module _ (c : Chip) (e : Decoded) where
   none-completes : addressing (c .core .bus .phase) ≡ false → completes c e ≡ false
   none-completes h = rw (not-awaiting (c .core .bus .phase) h) (and-false (takesLevel c e))
 
-not-yet : (x y : Bool) → x ≡ false → y ≡ true → (not x && y) ≡ true
+pub not-yet : (x y : Bool) → x ≡ false → y ≡ true → (not x && y) ≡ true
 not-yet x y h k = rw (h, k)
 
 never-completes : (c : Chip) (ws : List ℕ) → addressing (c .core .bus .phase) ≡ false → never ends c ws ≡ true → (never completes c ws ≡ true) × (never moves c ws ≡ true)
@@ -204,8 +204,7 @@ pub compared-once : (c : Chip) (w : ℕ) (ws : List ℕ) → completes c (decode
 compared-once c w ws h q = never-completes (next c (decode w)) ws (then-other c (decode w) h) q .0
 
 -- until the transfer ends the outcome is that of the last address completed, compared with II ADR as it was then
-pub compared-last : (c : Chip) (us : List ℕ) (w : ℕ) (vs : List ℕ) → completes (advanced c us) (decode w) ≡ true → never ends (next (advanced c us) (decode w)) vs ≡ true →
-    outcomeIn (advanced c (us ++ (w ∷ vs))) ≡ compared (advanced c us .core .bus .iiadr) (addressAt (advanced c us))
+pub compared-last : (c : Chip) (us : List ℕ) (w : ℕ) (vs : List ℕ) → LastAddress c us w vs
 unfolding advance
 compared-last c us w vs h q =
     let x : Chip = advanced c us in

@@ -32,7 +32,7 @@ use Rattle.causes.specs.Causes.Source.{AddressMatch}
 use Rattle.counting.specs.Counting.{never}
 use Rattle.addressed.specs.Addressed.{sdaLevel, takesLevel, awaitsEighth, completes, addressAt, starts, ends, levelsTaken, gatheredAll}
 use Rattle.addressed.proofs.Events.{clash, Effect, over, taken, still, effect}
-use Rattle.addressed.proofs.Addressed.{apart, raised-exactly, flag-after, advanced-append}
+use Rattle.addressed.proofs.Addressed.{apart, raised-exactly, flag-after, advanced-append, parts, not-yet}
 
 -- in DDC2B so many bits of an address are gathered, and these
 pub record Gathers (n bits : ℕ) (c : Chip) : Type 0 where
@@ -118,10 +118,6 @@ module _ (c : Chip) (e : Decoded) {n bits : ℕ} (g : Gathers n bits c) (stays :
 
 -- ---- over a list of words
 
-parts : (x y : Bool) → (not x && y) ≡ true → (x ≡ false) × (y ≡ true)
-parts true y h = clash _ h refl
-parts false y h = (refl, h)
-
 abbrev Claim : Chip → List ℕ → Type 0
 Claim c ws =
     (n bits : ℕ) → Gathers n bits c → never ends c ws ≡ true → n + length (levelsTaken c ws) ≤ 7 →
@@ -144,9 +140,6 @@ gathered-over c (w ∷ ws) n bits g q l =
 -- and none of these words completes an address
 abbrev NoneYet : Chip → List ℕ → Type 0
 NoneYet c ws = (n bits : ℕ) → Gathers n bits c → never ends c ws ≡ true → n + length (levelsTaken c ws) ≤ 7 → never completes c ws ≡ true
-
-not-yet : (x y : Bool) → x ≡ false → y ≡ true → (not x && y) ≡ true
-not-yet x y h k = rw (h, k)
 
 awaits-at : {n bits : ℕ} (p : Phase) → p ≡ Address n bits → awaitsEighth p ≡ not (ltb n 7)
 awaits-at p h = rw h

@@ -1,7 +1,8 @@
 -- The comparison of an address over a list of event words (document 02, Wish 12): when it is made and with what, and until when its outcome is kept.
 use Prim.Native.Nat.{ℕ}
-use mathlib.Core.Bool.{Bool, false, not, _&&_, _||_}
-use mathlib.Core.List.{List, [], _∷_}
+use mathlib.Core.Path.{_≡_}
+use mathlib.Core.Bool.{Bool, true, false, not, _&&_, _||_}
+use mathlib.Core.List.{List, [], _∷_, _++_}
 use lib.Dec.{ltb}
 use Rattle.bits.specs.Byte.{pick, bit}
 use Rattle.registers.specs.Names.{MDCON, IISTS, MD12, ENDDC}
@@ -9,12 +10,14 @@ use Rattle.events.specs.Pins as pin
 use Rattle.events.specs.declared.Decoded.{Decoded}
 use Rattle.events.specs.Word.{decode}
 use Rattle.bus.specs.declared.Comparison.{Comparison}
+use Rattle.bus.specs.declared.Comparison.the-variants.{None}
 use Rattle.bus.specs.declared.Phase.{Phase}
 use Rattle.bus.specs.declared.Phase.the-variants.{Idle, Address, Addressed, Ignoring, Receive, Transmit, Held}
 use Rattle.bus.specs.Bus.{line, pullsSda, comparedIn}
-use Rattle.ddc2b.specs.Ddc2b.{gathered}
+use Rattle.ddc2b.specs.Ddc2b.{compared, gathered}
 use Rattle.chip.specs.declared.Chip.{Chip}
 use Rattle.outcome.specs.Outcome.{next}
+use Rattle.run.specs.Run.{advanced}
 use Rattle.causes.specs.Causes.{putHigh, putLow, ddcOn, inDdc1, inDdc2b, sclFree, risesScl, fallsScl}
 use Rattle.counting.specs.Counting.{resets, writes, never}
 
@@ -85,11 +88,21 @@ turnsMode c e =
 unfoldable pub ends : Chip → Decoded → Bool
 ends c e = starts c e || (stops c e || (turnsMode c e || resets c e))
 
+-- the outcome after an event, by that before it: compared where an address is completed, with II ADR as it is then; none where the transfer ends; else as it was
+abbrev pub comparedBy : Chip → Decoded → Comparison → Comparison
+comparedBy c e before = pick (completes c e) (compared (c .core .bus .iiadr) (addressAt c)) (pick (ends c e) None before)
+
 -- ---- over a list of words
 
 -- an address is completed or the transfer ends
 abbrev pub moves : Chip → Decoded → Bool
 moves c e = completes c e || ends c e
+
+-- where the word w completes an address and none after it ends the transfer, the outcome is that of this address, compared with II ADR as it was then
+abbrev pub LastAddress : Chip → List ℕ → ℕ → List ℕ → Type 0
+LastAddress c us w vs =
+    completes (advanced c us) (decode w) ≡ true → never ends (next (advanced c us) (decode w)) vs ≡ true →
+    outcomeIn (advanced c (us ++ (w ∷ vs))) ≡ compared (advanced c us .core .bus .iiadr) (addressAt (advanced c us))
 
 -- the levels that the chip takes at the rises of the SCL line, the first first
 abbrev pub levelsTaken : Chip → List ℕ → List Bool
