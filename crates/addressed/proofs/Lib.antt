@@ -1,0 +1,4 @@
+pub mod Events
+pub mod Addressed
+pub mod Eighth
+pub mod Worked
