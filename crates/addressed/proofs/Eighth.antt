@@ -44,7 +44,7 @@ regathered {bits = bits} e g = record { ddc2b = g .ddc2b; phase = g .phase ∙ a
 
 -- ---- START
 
-start-bit : (status : ℕ) → bit 3 (startStatus status) ≡ bit 3 status
+pub start-bit : (status : ℕ) → bit 3 (startStatus status) ≡ bit 3 status
 unfolding bit
 start-bit status = bit-or 3 status 0x20 ∙ or-false (bit 3 status)
 
@@ -53,12 +53,12 @@ start-core : (c : Core) → bit 3 (c .bus .iists) ≡ false → bit 0 (c .mdcon)
 unfolding sdaMoved mode onSda onSdaDdc2b started sclPulled sdaPulled
 start-core c e m r s d p f = rw (r, e, m, s, d, p, f) (refl, rw (start-bit (c .bus .iists), e, m))
 
-low-both : (x y : Bool) → (not x && not y) ≡ true → (x ≡ false) × (y ≡ false)
+pub low-both : (x y : Bool) → (not x && not y) ≡ true → (x ≡ false) × (y ≡ false)
 low-both true y h = clash _ h refl
 low-both false true h = clash _ h refl
 low-both false false h = (refl, refl)
 
-not-and : (x y : Bool) → x ≡ true → not (x && y) ≡ true → y ≡ false
+pub not-and : (x y : Bool) → x ≡ true → not (x && y) ≡ true → y ≡ false
 not-and x y h k = not-true y (rw h at k)
 
 start-pin : (c : Chip) (p : ℕ) (level : Bool) → starts c (Pin p level) ≡ true → Gathers 0 0 (next c (Pin p level))
@@ -184,7 +184,7 @@ pick-append : (t : Bool) (x : Bool) (xs ys : List Bool) → pick t (x ∷ (xs ++
 pick-append true x xs ys = refl
 pick-append false x xs ys = refl
 
-levels-append : (c : Chip) (us : List ℕ) (v : ℕ) → takesLevel (advanced c us) (decode v) ≡ true → levelsTaken c (us ++ (v ∷ [])) ≡ levelsTaken c us ++ (sdaLevel (advanced c us) ∷ [])
+pub levels-append : (c : Chip) (us : List ℕ) (v : ℕ) → takesLevel (advanced c us) (decode v) ≡ true → levelsTaken c (us ++ (v ∷ [])) ≡ levelsTaken c us ++ (sdaLevel (advanced c us) ∷ [])
 unfolding advance
 levels-append c [] v t = rw t
 levels-append c (u ∷ us) v t = rw (levels-append (next c (decode u)) us v t) (pick-append (takesLevel c (decode u)) (sdaLevel c) (levelsTaken (next c (decode u)) us) _)
