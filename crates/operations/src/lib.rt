@@ -25,7 +25,7 @@ pub struct Cpu {
 
 // Wrong answers: A kept; X changed for A.
 pub fn set_a(r: u8, f: Flags, c: Cpu) -> Cpu
-    ensures { λ r. ⌜ r ≡ setA r f c ⌝ }
+    ensures { λ q. ⌜ q ≡ setA r f c ⌝ }
 {
     Cpu {
         a: r,
@@ -40,7 +40,7 @@ pub fn set_a(r: u8, f: Flags, c: Cpu) -> Cpu
 
 // Wrong answers: X kept; Y changed for X.
 pub fn set_x(r: u8, f: Flags, c: Cpu) -> Cpu
-    ensures { λ r. ⌜ r ≡ setX r f c ⌝ }
+    ensures { λ q. ⌜ q ≡ setX r f c ⌝ }
 {
     Cpu {
         a: c.a,
@@ -55,7 +55,7 @@ pub fn set_x(r: u8, f: Flags, c: Cpu) -> Cpu
 
 // Wrong answers: Y kept; X changed for Y.
 pub fn set_y(r: u8, f: Flags, c: Cpu) -> Cpu
-    ensures { λ r. ⌜ r ≡ setY r f c ⌝ }
+    ensures { λ q. ⌜ q ≡ setY r f c ⌝ }
 {
     Cpu {
         a: c.a,
