@@ -57,7 +57,7 @@ fn store_byte(ram: &mut [u8; 256], a: u16, b: u8) -> Destination
 }
 
 // Does a store in RAM, and tells where it goes.
-// Wrong answers: the second byte pushed at the place of the first; 20 for a write to ROM.
+// Wrong answers: the second byte pushed again for the third; 20 for a write to ROM.
 pub fn commit(ram: &mut [u8; 256], t: Store) -> Destination
     ensures { λ r. ⌜ (r ≡ destination t) × (now (ram .exit) ≡ stored (now (ram .entry)) t) ⌝ }
 {
@@ -144,7 +144,7 @@ fn turn_of(
 }
 
 // The instructions from number `from` to before number `to`, until the chip is needed; none where `to` is not above.
-// Wrong answers: a clock at 33 cycles; the instruction that an interrupt precedes counted.
+// Wrong answers: a clock at 33 cycles; an interrupt taken with I set.
 pub fn batch(
     table: &[u32; 256],
     seen: &[u16; 38],

@@ -241,7 +241,7 @@ fn trap(b: bool, r: u16, n: u8, c: Cpu, rom: &[u8]) -> Effect
 }
 
 // What an interrupt leaves.
-// Wrong answers: B pushed as 1; the vector at FFFC.
+// Wrong answers: B pushed as 1; six cycles.
 pub fn interrupt(c: Cpu, rom: &[u8]) -> Effect
     ensures { λ r. ⌜ r ≡ interrupted (now (rom .entry)) c ⌝ }
 {
@@ -249,7 +249,7 @@ pub fn interrupt(c: Cpu, rom: &[u8]) -> Effect
 }
 
 // The CPU after a reset of the chip.
-// Wrong answers: the vector at FFFE; S that a push moved.
+// Wrong answers: the vector at FFFE; I kept.
 pub fn reset(c: Cpu, rom: &[u8]) -> Cpu
     ensures { λ r. ⌜ r ≡ resetCpu (now (rom .entry)) c ⌝ }
 {
@@ -392,7 +392,7 @@ fn instruction_of(e: u32, c: Cpu, seen: &[u16; 38], ram: &[u8; 256], rom: &[u8])
 }
 
 // The instruction at PC: what it leaves, or the number of its first read that fails.
-// Wrong answers: the operation of the byte behind; PC one byte short.
+// Wrong answers: PC not moved; the cycle of a crossed page lost; a branch that costs two more; a JSR to its bytes exchanged; RTS to the address pulled.
 pub fn perform(
     c: Cpu,
     table: &[u32; 256],
