@@ -1,10 +1,9 @@
 -- The outcome that the state keeps is that of the last address completed, compared with II ADR as it was then, until the transfer ends; flag A is set with it.
 -- Assumes nothing.
-use mathlib.Core.Path.{_≡_, refl, sym, ap, _∙_}
-use mathlib.Core.Bool.{Bool, true, false, not, _&&_, _||_, and-false, or-false}
+use mathlib.Core.Path.{_≡_, refl, _∙_}
+use mathlib.Core.Bool.{Bool, true, false, not, _&&_, _||_, and-false}
 use mathlib.Core.List.{List, [], _∷_, _++_}
-use Prim.Native.Nat.{ℕ, _+_, _<_, _≤_}
-use native.Mathlib.Omega.{arith}
+use Prim.Native.Nat.{ℕ, _+_}
 use lib.Dec.{eqb, ltb}
 use Rattle.bits.specs.Byte.{pick}
 use Rattle.bits.proofs.Finite.{both, neither}
@@ -15,7 +14,7 @@ use Rattle.bus.specs.declared.Comparison.the-variants.{None, Own}
 use Rattle.bus.specs.declared.Phase.{Phase}
 use Rattle.bus.specs.declared.Phase.the-variants.{Idle, Address, Addressed as CalledAddress, Ignoring, Receive, Transmit, Held}
 use Rattle.bus.specs.Bus.{comparedIn, isOwn}
-use Rattle.ddc2b.specs.Ddc2b.{matches, compared, gathered, addressed, phaseAtRise}
+use Rattle.ddc2b.specs.Ddc2b.{compared, gathered, addressed, phaseAtRise}
 use Rattle.ddc2b.proofs.Own.{own-matches}
 use Rattle.chip.specs.declared.Core.{Core}
 use Rattle.chip.specs.declared.Chip.{Chip}
@@ -27,7 +26,7 @@ use Rattle.causes.specs.Causes.Source.{AddressMatch}
 use Rattle.causes.proofs.Causes.{causes-of-word}
 use Rattle.counting.specs.Counting.{never}
 use Rattle.addressed.specs.Addressed.{outcomeIn, sdaLevel, takesLevel, awaitsEighth, addressSoFar, completes, addressAt, ends, comparedBy, moves, LastAddress}
-use Rattle.addressed.proofs.Events.{clash, addressing, Kept, Effect, over, taken, still, effect}
+use Rattle.addressed.proofs.Events.{clash, addressing, Effect, over, taken, still, effect}
 
 -- ---- a rise of the SCL line
 

@@ -3,7 +3,7 @@
 use mathlib.Core.Path.{_≡_, refl, ap, _∙_}
 use mathlib.Core.Bool.{Bool, true, false, not, _&&_, _||_, Bool·beq}
 use mathlib.Core.List.{List, [], _∷_, _++_}
-use Prim.Native.Nat.{ℕ, _+_, _<_, _≤_}
+use Prim.Native.Nat.{ℕ, _+_, _<_}
 use native.Mathlib.Omega.{arith}
 use borrow.Author.Tests.{lt-ltb, not-true}
 use lib.ListN.{length}
@@ -14,7 +14,7 @@ use Rattle.events.specs.declared.Decoded.the-variants.{Pin}
 use Rattle.events.specs.Word.{decode}
 use Rattle.events.proofs.EventWord.{decode-encode}
 use Rattle.bus.specs.declared.Phase.the-variants.{Address}
-use Rattle.bus.specs.Bus.{line, mode, pullsSda, pullsScl, sdaPulled, sclPulled}
+use Rattle.bus.specs.Bus.{mode, pullsSda, pullsScl, sdaPulled, sclPulled}
 use Rattle.ddc2b.specs.Ddc2b.{startStatus, matches, gathered, phaseAtRise, phaseAtFall, dataAtRise, statusAtRise}
 use Rattle.chip.specs.declared.Chip.{Chip}
 use Rattle.edges.specs.Edges.{onSda, onSdaDdc2b, started, sdaMoved}
@@ -29,7 +29,6 @@ use Rattle.counting.specs.Counting.{never}
 use Rattle.transfers.specs.Transfers.{putSda, raiseScl, lowerScl, clockIn}
 use Rattle.transfers.proofs.Steps.{given, At, after-sda, after-rise, after-fall}
 use Rattle.addressed.specs.Addressed.{sdaLevel, takesLevel, sdaFree, sclHigh, starts, ends, levelsTaken, gatheredAll}
-use Rattle.addressed.proofs.Addressed.{not-yet}
 use Rattle.addressed.proofs.Eighth.{start-bit, low-both, not-and, levels-append, decided-at-eighth}
 
 free : (n bits : ℕ) → pullsScl (Address n bits) ≡ false

@@ -1,12 +1,12 @@
 -- From a START the levels of SDA at the rises of SCL are gathered, and the eighth rise alone decides the match.
 -- Assumes nothing.
 use mathlib.Core.Path.{_≡_, refl, sym, ap, _∙_}
-use mathlib.Core.Bool.{Bool, true, false, not, _&&_, _||_, and-false, or-false}
+use mathlib.Core.Bool.{Bool, true, false, not, _&&_, and-false, or-false}
 use mathlib.Core.List.{List, [], _∷_, _++_}
 use Prim.Native.Nat.{ℕ, _+_, _<_, _≤_}
 use native.Mathlib.Omega.{arith}
 use native.Mathlib.Nat.{add-zero, zero-add}
-use borrow.Author.Tests.{eqb-true, lt-ltb, le-ltb, not-true}
+use borrow.Author.Tests.{eqb-true, lt-ltb, not-true}
 use lib.Dec.{ltb}
 use lib.ListN.{length}
 use Rattle.bits.specs.Byte.{pick, bit}
@@ -17,8 +17,8 @@ use Rattle.events.specs.declared.Decoded.the-variants.{Read, Write, Pin, Clock,
 use Rattle.events.specs.Word.{decode}
 use Rattle.bus.specs.declared.Phase.{Phase}
 use Rattle.bus.specs.declared.Phase.the-variants.{Address}
-use Rattle.bus.specs.Bus.{line, mode, pullsSda, pullsScl, sdaPulled, sclPulled, isOwn}
-use Rattle.ddc2b.specs.Ddc2b.{startStatus, matches, compared, gathered, phaseAtRise}
+use Rattle.bus.specs.Bus.{mode, pullsSda, pullsScl, sdaPulled, sclPulled}
+use Rattle.ddc2b.specs.Ddc2b.{startStatus, matches, gathered, phaseAtRise}
 use Rattle.ddc2b.proofs.Own.{own-matches}
 use Rattle.chip.specs.declared.Core.{Core}
 use Rattle.chip.specs.declared.Chip.{Chip}

@@ -21,7 +21,6 @@ use Rattle.bus.specs.declared.Mode.the-variants.{Off, Ddc1, Ddc2b}
 use Rattle.bus.specs.declared.Edge.{Edge}
 use Rattle.bus.specs.declared.Edge.the-variants.{Flat, Rise, Fall}
 use Rattle.bus.specs.declared.OwnAddress.{OwnAddress}
-use Rattle.bus.specs.declared.Comparison.{Comparison}
 use Rattle.bus.specs.declared.Comparison.the-variants.{None, Own}
 use Rattle.bus.specs.declared.Phase.{Phase}
 use Rattle.bus.specs.declared.Phase.the-variants.{Idle, Address, Addressed as CalledAddress, Ignoring, Receive, Transmit, Held}
@@ -32,7 +31,7 @@ use Rattle.chip.specs.declared.Bus.{Bus}
 use Rattle.chip.specs.declared.Core.{Core}
 use Rattle.chip.specs.declared.Chip.{Chip}
 use Rattle.chip.specs.State.{busOf, modeOf, released, registerAt, resetAt, resetCore, withReset, withScl, withSda, withWatchdog}
-use Rattle.edges.specs.Edges.{activeMode, sdaLine, busAtMode, busAtRise, onScl, onSclDdc1, onSclDdc2b, sclRise, sclFall, leaveDdc1, sclMoved, onSda, onSdaDdc2b, started, stopped, sdaMoved, busAtVsync}
+use Rattle.edges.specs.Edges.{activeMode, busAtMode, busAtRise, onScl, onSclDdc1, onSclDdc2b, sclRise, sclFall, leaveDdc1, sclMoved, onSda, onSdaDdc2b, started, stopped, sdaMoved, busAtVsync}
 use Rattle.ddc_writes.specs.DdcWrites.{mdconWritten, iiadrWritten, statusWritten, iistsWritten, busLetGo, busRisen, busAtIidat, iidatWritten}
 use Rattle.writes.specs.declared.Target.{Target}
 use Rattle.writes.specs.Writes.{clrflgWritten, clrwdtWritten, writtenTo, written, writeRegister}
