@@ -19,10 +19,17 @@ out-of-range : (c : Chip) → wellSync (c .core .sync) ≡ false → wellFormed 
 unfolding wellFormed
 out-of-range c e = simp e
 
-scan-case : (c : Chip) (scan : Scan) → ScanCase c scan (scanReport c scan)
+field-scan : (c : Chip) → ScanCase c Field (scanReport c Field)
 unfolding ScanCase scanReport
-scan-case c Field = field-case (c .core .sync)
-scan-case c Line = line-case (c .core .sync) (hselOf (c .core))
+field-scan c = field-case (c .core .sync)
+
+line-scan : (c : Chip) → ScanCase c Line (scanReport c Line)
+unfolding ScanCase scanReport
+line-scan c = line-case (c .core .sync) (hselOf (c .core))
+
+scan-case : (c : Chip) (scan : Scan) → ScanCase c scan (scanReport c scan)
+scan-case c Field = field-scan c
+scan-case c Line = line-scan c
 
 scan-ill-formed : (c : Chip) (scan : Scan) → ScanCase c scan IllFormed → wellFormed c ≡ false
 unfolding ScanCase FieldCase LineCase

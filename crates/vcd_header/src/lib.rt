@@ -4,6 +4,7 @@ ghost use Prim.Native.Nat.{_<_, _≤_};
 ghost use lib.Dec.{eqb};
 ghost use mathlib.Core.Bool.{false};
 ghost use Rattle.bits.specs.Byte.{pick};
+ghost use Rattle.vcd_words.specs.Words.{pinOf};
 ghost use Rattle.vcd_header.specs.Header.{inSection, withUnit, withVariable, stopsAt, faulty as faultyOf, closedBy, keywordStep, textStep, countStep, lettersStep, unitStep, scopeStep, isName, scopeNameStep, pending as pendingOf, typeAs, sizeAs, codeStep, nameStep, wholeStep, indexStep, endingStep, stepAs, endAs, freshHead};
 use vcd_text::Number;
 use vcd_text::is_end;

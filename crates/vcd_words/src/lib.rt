@@ -27,10 +27,11 @@ pub enum Sort {
 fn is_text(t: &[u8]) -> bool
     ensures { λ r. ⌜ r ≡ isText (now (t .entry)) ⌝ }
 {
-    same(t, b"$comment") | (same(t, b"$date") | (same(t, b"$version")))
+    same(t, b"$comment") | (same(t, b"$date") | same(t, b"$version"))
 }
 
-// Wrong answers: a date's section refused; the end of the header taken for a variable.
+// The keyword that opens a section.
+// Wrong answers: $data taken for $date; the end of the header taken for a variable.
 pub fn keyword_of(t: &[u8]) -> Keyword
     ensures { λ r. ⌜ r ≡ keywordOf (now (t .entry)) ⌝ }
 {
@@ -57,6 +58,8 @@ pub fn keyword_of(t: &[u8]) -> Keyword
 
 // ---- units
 
+// The number of a unit; 0 for another word.
+// Wrong answers: 100 taken for 10; 10 taken for 1.
 pub fn count_of(t: &[u8]) -> u64
     ensures { λ r. ⌜ r ≡ countOf (now (t .entry)) ⌝ }
 {
@@ -72,6 +75,8 @@ pub fn count_of(t: &[u8]) -> u64
     0
 }
 
+// The letters of a unit, in ps; 0 for another word.
+// Wrong answers: us taken for 1000 ps; ns taken for ps.
 pub fn letters_of(t: &[u8]) -> u64
     ensures { λ r. ⌜ (r ≡ lettersOf (now (t .entry))) × (r ≤ 1000000) ⌝ }
 {
@@ -103,12 +108,16 @@ fn times_unit(count: u64, letters: u64) -> u64
     0
 }
 
+// So many of the unit with these letters, in ps.
+// Wrong answers: 10 of a unit taken for 1; 100 of a unit taken for 10.
 pub fn scaled(count: u64, t: &[u8]) -> u64
     ensures { λ r. ⌜ r ≡ timesUnit count (lettersOf (now (t .entry))) ⌝ }
 {
     times_unit(count, letters_of(t))
 }
 
+// Number and letters in one word; 0 for another word.
+// Wrong answers: those of `scaled`.
 pub fn joined_of(t: &[u8]) -> u64
     ensures { λ r. ⌜ r ≡ joinedOf (now (t .entry)) ⌝ }
 {
@@ -122,11 +131,12 @@ pub fn joined_of(t: &[u8]) -> u64
 
 // ---- types
 
+// Wrong answers: a task taken for no scope; a function taken for no scope.
 pub fn is_scope(t: &[u8]) -> bool
     ensures { λ r. ⌜ r ≡ isScope (now (t .entry)) ⌝ }
 {
     same(t, b"begin")
-        | (same(t, b"fork") | (same(t, b"function") | (same(t, b"module") | (same(t, b"task")))))
+        | (same(t, b"fork") | (same(t, b"function") | (same(t, b"module") | same(t, b"task"))))
 }
 
 fn is_net(t: &[u8]) -> bool
@@ -141,24 +151,24 @@ fn is_net(t: &[u8]) -> bool
                             | (same(t, b"tri1")
                                 | (same(t, b"wand")
                                     | (same(t, b"wor")
-                                        | (same(t, b"supply0") | (same(t, b"supply1")))))))))))
+                                        | (same(t, b"supply0") | same(t, b"supply1"))))))))))
 }
 
 fn is_discrete(t: &[u8]) -> bool
     ensures { λ r. ⌜ r ≡ isDiscrete (now (t .entry)) ⌝ }
 {
     same(t, b"reg")
-        | (same(t, b"event") | (same(t, b"integer") | (same(t, b"parameter") | (same(t, b"time")))))
+        | (same(t, b"event") | (same(t, b"integer") | (same(t, b"parameter") | same(t, b"time"))))
 }
 
 fn is_real(t: &[u8]) -> bool
     ensures { λ r. ⌜ r ≡ isReal (now (t .entry)) ⌝ }
 {
-    same(t, b"real") | (same(t, b"realtime"))
+    same(t, b"real") | same(t, b"realtime")
 }
 
-// The sort of a type's name.
-// Wrong answers: a real taken for a net; realtime taken for no type.
+// The sort of a type.
+// Wrong answers: realtime taken for no type; supply1 taken for no type.
 pub fn sort_of(t: &[u8]) -> Sort
     ensures { λ r. ⌜ r ≡ sortOf (now (t .entry)) ⌝ }
 {
@@ -173,6 +183,8 @@ pub fn sort_of(t: &[u8]) -> Sort
 
 // ---- names and indices
 
+// The pin with this name; 0 for another name.
+// Wrong answers: SCL taken for SDA's pin; VSYNCI taken for HSYNCI's pin.
 pub fn pin_of(t: &[u8]) -> u8
     ensures { λ r. ⌜ r ≡ pinOf (now (t .entry)) ⌝ }
 {
@@ -248,6 +260,8 @@ fn index_by(n: u64) -> u32
     }
 }
 
+// How far an index is read, from a state on.
+// Wrong answers: a colon taken as the first byte of an index; a closing bracket taken for an opening one.
 pub fn index_state(from: u32, t: &[u8]) -> u32
     ensures { λ r. ⌜ r ≡ indexState from (now (t .entry)) ⌝ }
 {
