@@ -95,7 +95,7 @@ followed-last s f (w ∷ ws) h =
     let next : followedBy f w .place ≡ f .place + 1 = place-of f w (omega arith) in
     followed-last s (followedBy f w) ws (omega (arith, next))
     ∙ rw (noted-of s f w, noted-later s (f .place) (f .chip .core .irqx) (modeOf (f .chip .core)) (advance (f .chip) (decode w) .chip .core) (lastOf s (f .last)), next, chip-of f w)
-      (later-assoc (lastSet s (advance (f .chip) (decode w) .chip) ws (f .place + 1)) (noted s (f .place) (f .chip .core .irqx) (modeOf (f .chip .core)) (advance (f .chip) (decode w) .chip .core) Never) (lastOf s (f .last)))
+    (later-assoc (lastSet s (advance (f .chip) (decode w) .chip) ws (f .place + 1)) (noted s (f .place) (f .chip .core .irqx) (modeOf (f .chip .core)) (advance (f .chip) (decode w) .chip .core) Never) (lastOf s (f .last)))
 
 never-of : (s : Source) → lastOf s noneSet ≡ Never
 unfolding noneSet

@@ -105,12 +105,7 @@ fn all_noted(last: LastSet, place: u64, irqx: u8, mode: Mode, after: Core) -> La
         v: last_at(goes_up(INTV, irqx, now), place, Sort::VsyncRise, v),
         e: last_at(goes_up(INTE, irqx, now), place, Sort::P16Rise, e),
         r: last_at(goes_up(INTR, irqx, now), place, Sort::Timer, r),
-        a: address_at(
-            goes_up(INTA, irqx, now),
-            place,
-            bus::compared_in(phase),
-            a,
-        ),
+        a: address_at(goes_up(INTA, irqx, now), place, bus::compared_in(phase), a),
         d: last_at(goes_up(INTD, irqx, now), place, byte_sort(mode), d),
         s: last_at(goes_up(INTS, irqx, now), place, Sort::SclFall, s),
     }
