@@ -1,0 +1,4 @@
+pub mod Address
+pub mod Steps
+pub mod Lists
+pub mod Reasons
