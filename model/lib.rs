@@ -7,6 +7,7 @@ pub mod chip;
 pub mod counters6862;
 pub mod coverage;
 pub mod edid;
+pub mod foreign;
 pub mod recordings;
 pub mod replay;
 #[cfg(test)]

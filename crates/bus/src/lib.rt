@@ -200,7 +200,7 @@ pub fn pulls_scl(phase: Phase) -> bool
 }
 
 // The outcome of the comparison that the phase keeps.
-// Wrong answers: none while SCL is held; A0H told of every receive.
+// Wrong answers: none while SCL is held; none in a transmit.
 pub fn compared_in(phase: Phase) -> Comparison
     ensures { λ r. ⌜ r ≡ comparedIn phase ⌝ }
 {

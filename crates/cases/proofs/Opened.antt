@@ -7,8 +7,8 @@ use Rattle.counters.specs.Count.{counted, overflowed, latched, zeroed, cycleNex
 use Rattle.sync.specs.Sync.{stepLines, latchLines, clearLines, zeroLines, stepPeriods, latchPeriods, clearPeriods, onHsync, linesOnVsync, onVsync, intervalNext, linesOnPeriod, onPeriod, hselCleared, clearOverflow, zeroSync, wellSync}
 use Rattle.counters.specs.Count.{timerNext, timerOverflows, watchdogNext, watchdogFires}
 use Rattle.bus.specs.Ddc1.{loadsAtRise, shifterAtRise}
-use Rattle.ddc2b.specs.Ddc2b.{matches, gathered, phaseAtRise, dataAtRise, matchesAtRise, statusAtRise, holdsAtFall, acknowledges, phaseAtFall, heldLonger, phaseAtPeriod}
-use Rattle.bus.specs.Bus.{mode, changesMode, pullsAtBit, pullsSda, pullsScl, sdaPulled, sclPulled}
+use Rattle.ddc2b.specs.Ddc2b.{matches, compared, gathered, phaseLetGo, phaseAtRise, dataAtRise, matchesAtRise, statusAtRise, holdsAtFall, acknowledges, phaseAtFall, heldLonger, phaseAtPeriod}
+use Rattle.bus.specs.Bus.{mode, changesMode, pullsAtBit, pullsSda, pullsScl, sdaPulled, sclPulled, comparedIn}
 use Rattle.well_formed.specs.WellFormed.{reservedMask, reservedAt, reservedApart, gatheredFits, phaseFits, isIdle, isUnused, busFits, wellFormed}
 use Rattle.reads.specs.Reads.{port0, port1, port2, port3, hvcon, shown, reading}
 use Rattle.chip.specs.State.{released, requested, resetAt, resetCore, fresh}
@@ -25,5 +25,5 @@ use Rattle.run.specs.Run.{run, runAnswers}
 
 -- a proof that names this on its `unfolding` line computes steps
 unfoldable pub opened : ℕ
-unfolding bit merge withBit table rowOf resetValue writeMask readMask isWritable isReadable resets event noEvent noPlace badByte decode counted overflowed latched zeroed cycleNext stepLines latchLines clearLines zeroLines stepPeriods latchPeriods clearPeriods onHsync linesOnVsync onVsync intervalNext linesOnPeriod onPeriod hselCleared clearOverflow zeroSync wellSync timerNext timerOverflows watchdogNext watchdogFires loadsAtRise shifterAtRise matches gathered phaseAtRise dataAtRise matchesAtRise statusAtRise holdsAtFall acknowledges phaseAtFall heldLonger phaseAtPeriod mode changesMode pullsAtBit pullsSda pullsScl sdaPulled sclPulled reservedMask reservedAt reservedApart gatheredFits phaseFits isIdle isUnused busFits wellFormed port0 port1 port2 port3 hvcon shown reading released requested resetAt resetCore fresh busAtMode busAtRise sclRise sclFall leaveDdc1 onSclDdc1 onSclDdc2b onScl sclMoved started stopped onSdaDdc2b onSda sdaMoved busAtVsync loadsAtVsync target syncAtHsel mdconWritten clrflgWritten clrwdtWritten iiadrWritten statusWritten iistsWritten busRisen busAtIidat iidatWritten writtenTo keptBy written storedBy writeNumber writeRegister writeKept portKind pinKind port0Moved port1Moved port2Moved p16Moved hsyncMoved vsyncRise vsyncMoved onReset resetMoved pinMovedAs pinMoved periodClock timerRuns timerStep timerClock watchdogClock clockedAs clocked polarityFound coreAfter watchdogReset wasReset keptAfter next numberGiven byteGiven answered advance step run runAnswers byPeriods byInterval byField fieldReport lineReport scanReport rateReport
+unfolding comparedIn compared phaseLetGo bit merge withBit table rowOf resetValue writeMask readMask isWritable isReadable resets event noEvent noPlace badByte decode counted overflowed latched zeroed cycleNext stepLines latchLines clearLines zeroLines stepPeriods latchPeriods clearPeriods onHsync linesOnVsync onVsync intervalNext linesOnPeriod onPeriod hselCleared clearOverflow zeroSync wellSync timerNext timerOverflows watchdogNext watchdogFires loadsAtRise shifterAtRise matches gathered phaseAtRise dataAtRise matchesAtRise statusAtRise holdsAtFall acknowledges phaseAtFall heldLonger phaseAtPeriod mode changesMode pullsAtBit pullsSda pullsScl sdaPulled sclPulled reservedMask reservedAt reservedApart gatheredFits phaseFits isIdle isUnused busFits wellFormed port0 port1 port2 port3 hvcon shown reading released requested resetAt resetCore fresh busAtMode busAtRise sclRise sclFall leaveDdc1 onSclDdc1 onSclDdc2b onScl sclMoved started stopped onSdaDdc2b onSda sdaMoved busAtVsync loadsAtVsync target syncAtHsel mdconWritten clrflgWritten clrwdtWritten iiadrWritten statusWritten iistsWritten busRisen busAtIidat iidatWritten writtenTo keptBy written storedBy writeNumber writeRegister writeKept portKind pinKind port0Moved port1Moved port2Moved p16Moved hsyncMoved vsyncRise vsyncMoved onReset resetMoved pinMovedAs pinMoved periodClock timerRuns timerStep timerClock watchdogClock clockedAs clocked polarityFound coreAfter watchdogReset wasReset keptAfter next numberGiven byteGiven answered advance step run runAnswers byPeriods byInterval byField fieldReport lineReport scanReport rateReport
 opened = 0

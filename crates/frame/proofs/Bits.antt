@@ -19,8 +19,8 @@ use Rattle.registers.specs.Table.{rowOf, writeMask, isWritable}
 use Rattle.registers.proofs.Rules.{writeMask-lt}
 use Rattle.events.specs.declared.Decoded.the-variants.{Write}
 use Rattle.bits.proofs.Level.{pick-by}
-use Rattle.bus.specs.Bus.{pullsScl}
-use Rattle.ddc2b.specs.Ddc2b.{dataAtRise, phaseLetGo}
+use Rattle.bus.specs.Bus.{pullsScl, comparedIn}
+use Rattle.ddc2b.proofs.First.{data-first}
 use Rattle.chip.specs.declared.Bus.{Bus}
 use Rattle.chip.specs.declared.Chip.{Chip}
 use Rattle.chip.specs.State.{registerAt}
@@ -55,14 +55,9 @@ status-inside old b h =
     and-assoc (updated IISTS old b) (bitOr b 0xcf) 0x0d ∙ ap (λ (m : ℕ). bitAnd (updated IISTS old b) m) e ∙ merge-takes 0x0d 0x0d old b refl refl
 
 -- a write to II DAT is stored, whether it lets SCL go or not
-data-first : (trx sda : Bool) (byte stored : ℕ) → dataAtRise sda (phaseLetGo trx byte) stored ≡ stored
-unfolding dataAtRise
-data-first true sda byte stored = refl
-data-first false sda byte stored = refl
-
 data-by : (held scl sda : Bool) (b : ℕ) (x : Bus) → (pick held (busRisen scl sda (busLetGo b x)) (withIidat b x)) .iidat ≡ updated IIDAT (x .iidat) b
 unfolding busRisen busAtRise
-data-by true true sda b x = data-first (bit 2 (x .iists)) _ b _
+data-by true true sda b x = data-first (comparedIn (x .phase)) (bit 2 (x .iists)) _ b _
 data-by true false sda b x = refl
 data-by false scl sda b x = refl
 

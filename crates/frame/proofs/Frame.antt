@@ -17,8 +17,8 @@ use Rattle.bits.proofs.Level.{pick-by}
 use Rattle.sync.specs.declared.Sync.{Sync}
 use Rattle.sync.specs.Sync.{clearLines, clearPeriods, zeroLines, hselCleared, clearOverflow}
 use Rattle.bus.specs.declared.Mode.{Mode}
-use Rattle.bus.specs.Bus.{changesMode, pullsScl}
-use Rattle.ddc2b.specs.Ddc2b.{statusAtRise, phaseLetGo}
+use Rattle.bus.specs.Bus.{changesMode, pullsScl, comparedIn}
+use Rattle.ddc2b.proofs.First.{status-first}
 use Rattle.chip.specs.declared.Bus.{Bus}
 use Rattle.chip.specs.declared.Chip.{Chip}
 use Rattle.chip.specs.State.{released, registerAt}
@@ -77,14 +77,9 @@ record DataKeeps (b after : Bus) : Type 0 where
   pub iiadr : after .iiadr ≡ b .iiadr
   pub shifter : after .shifter ≡ b .shifter
 
-first-rise : (trx sda : Bool) (byte status : ℕ) → statusAtRise sda (phaseLetGo trx byte) status ≡ status
-unfolding statusAtRise
-first-rise true sda byte status = refl
-first-rise false sda byte status = refl
-
 data-by : (held scl sda : Bool) (byte : ℕ) (b : Bus) → DataKeeps b (pick held (busRisen scl sda (busLetGo byte b)) (withIidat byte b))
 unfolding busRisen busAtRise
-data-by true true sda byte b = record { iists = first-rise (bit 2 (b .iists)) _ byte (b .iists); iiadr = refl; shifter = refl }
+data-by true true sda byte b = record { iists = status-first (comparedIn (b .phase)) (bit 2 (b .iists)) _ byte (b .iists); iiadr = refl; shifter = refl }
 data-by true false sda byte b = record { iists = refl; iiadr = refl; shifter = refl }
 data-by false scl sda byte b = record { iists = refl; iiadr = refl; shifter = refl }
 

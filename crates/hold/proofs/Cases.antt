@@ -20,7 +20,7 @@ phase-case c (Addressed matched bits ninth) p h = (h, rw p refl)
 phase-case c Ignoring p h = (h, rw p refl)
 phase-case c (Receive matched count bits) p h = (h, rw p refl)
 phase-case c (Transmit matched count byte) p h = (h, rw p refl)
-phase-case c (Held matched clocks) p h = (h, p)
+phase-case c (Held matched clocks) p h = (h, matched, p)
 
 hold-by : (c : Chip) (formed : Bool) → wellFormed c ≡ formed → HoldCase c (pick formed (holdOf (c .core .bus .phase)) IllFormed)
 unfolding HoldCase

@@ -3,6 +3,7 @@ use Prim.Native.Nat.{ℕ, _+_, _*_}
 use mathlib.Core.Path.{_≡_}
 use mathlib.Core.Bool.{true, false}
 use Rattle.bits.specs.Byte.{pick}
+use Rattle.bus.specs.declared.OwnAddress.{OwnAddress}
 use Rattle.bus.specs.declared.Phase.{Phase}
 use Rattle.bus.specs.declared.Phase.the-variants.{Idle, Address, Addressed, Ignoring, Receive, Transmit, Held}
 use Rattle.bus.specs.Bus.{pullsScl}
@@ -44,4 +45,4 @@ holdWord h = holdNumber h * 16777216 + holdClocks h
 unfoldable pub HoldCase : Chip → Hold → Type 0
 HoldCase c IllFormed = wellFormed c ≡ false
 HoldCase c NotHeld = (wellFormed c ≡ true) × (pullsScl (c .core .bus .phase) ≡ false)
-HoldCase c (HeldFor clocks) = (wellFormed c ≡ true) × (c .core .bus .phase ≡ Held clocks)
+HoldCase c (HeldFor clocks) = (wellFormed c ≡ true) × (m : OwnAddress) × (c .core .bus .phase ≡ Held m clocks)

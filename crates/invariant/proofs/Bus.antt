@@ -16,12 +16,15 @@ use Rattle.bits.proofs.Finite.{both}
 use Rattle.bits.proofs.Level.{pick-by}
 use Rattle.bus.specs.declared.Mode.{Mode}
 use Rattle.bus.specs.declared.Mode.the-variants.{Off, Ddc1, Ddc2b}
+use Rattle.bus.specs.declared.OwnAddress.{OwnAddress}
+use Rattle.bus.specs.declared.Comparison.{Comparison}
+use Rattle.bus.specs.declared.Comparison.the-variants.{None, Own}
 use Rattle.bus.specs.declared.Phase.{Phase}
 use Rattle.bus.specs.declared.Phase.the-variants.{Idle, Address, Addressed, Ignoring, Receive, Transmit, Held}
 use Rattle.bus.specs.declared.Shifter.{Shifter}
 use Rattle.bus.specs.Bus.{mode, modeBy, changesMode, pullsScl}
 use Rattle.bus.specs.Ddc1.{shifter, unusedShifter, shifterAtRise}
-use Rattle.ddc2b.specs.Ddc2b.{matches, gathered, startStatus, startPhase, stopStatus, addressed, phaseAtRise, statusAtRise, acknowledges, ninthClock, phaseAtFall, phaseAtPeriod, phaseLetGo}
+use Rattle.ddc2b.specs.Ddc2b.{compared, gathered, startStatus, startPhase, stopStatus, addressed, phaseAtRise, statusAtRise, acknowledges, ninthClock, phaseAtFall, phaseAtPeriod, phaseLetGo}
 use Rattle.chip.specs.declared.Bus.{Bus}
 use Rattle.chip.specs.State.{busOf, released}
 use Rattle.well_formed.specs.WellFormed.{gatheredFits, phaseFits, isIdle, isUnused, busFits}
@@ -57,14 +60,15 @@ gathers count bits sda h t = in-fits _ _ (omega arith) (gathered-lt count bits s
 abbrev Fits : Phase → Type 0
 Fits p = phaseFits p ≡ true
 
-addressed-fits : (own byte : ℕ) → byte < 2 ^ 8 → Fits (addressed own byte)
+addressed-fits : (k : Comparison) (byte : ℕ) → byte < 2 ^ 8 → Fits (addressed k byte)
 unfolding phaseFits
-addressed-fits own byte h = pick-by Fits (matches own byte) (λ _. in-fits 8 byte (omega arith) h) (λ _. refl)
+addressed-fits None byte h = refl
+addressed-fits (Own matched) byte h = in-fits 8 byte (omega arith) h
 
 -- the ninth clock keeps the eight bits, whether SDA is pulled or released
-ninth-fits : (status bits : ℕ) → gatheredFits 8 bits ≡ true → Fits (Receive (ninthClock status) bits)
+ninth-fits : (m : OwnAddress) (status bits : ℕ) → gatheredFits 8 bits ≡ true → Fits (Receive m (ninthClock status) bits)
 unfolding phaseFits gatheredFits
-ninth-fits status bits t = pick-by (λ (n : ℕ). Fits (Receive n bits)) (acknowledges status) (λ _. t) (λ _. t)
+ninth-fits m status bits t = pick-by (λ (n : ℕ). Fits (Receive m n bits)) (acknowledges status) (λ _. t) (λ _. t)
 
 phase-at-rise : (own : ℕ) (sda : Bool) (p : Phase) → Fits p → Fits (phaseAtRise own sda p)
 unfolding phaseAtRise phaseFits
@@ -72,7 +76,7 @@ phase-at-rise own sda Idle t = refl
 phase-at-rise own sda (Address count bits) t =
     pick-by Fits (ltb count 7)
     (λ e. let few = ltb-true count 7 e in and-both _ _ (lt-ltb (count + 1) 8 (omega arith)) (gathers count bits sda (omega arith) (both (ltb count 8) (gatheredFits count bits) t .1)))
-    (λ _. addressed-fits own (gathered bits sda) (gathered-byte bits sda))
+    (λ _. addressed-fits (compared own (gathered bits sda)) (gathered bits sda) (gathered-byte bits sda))
 phase-at-rise own sda (Addressed matched bits ninth) t = t
 phase-at-rise own sda Ignoring t = refl
 phase-at-rise own sda (Receive matched count bits) t =
@@ -91,17 +95,18 @@ phase-at-fall status Ignoring t = refl
 phase-at-fall status (Receive matched count bits) t =
     pick-by Fits (ltb 8 count)
     (λ _. refl)
-    (λ _. pick-by Fits (eqb count 8) (λ e. let eight = both (ltb count 11) (gatheredFits count bits) t .1 in ninth-fits status bits (rw (eqb-true count 8 e) at eight)) (λ _. t))
+    (λ _. pick-by Fits (eqb count 8) (λ e. let eight = both (ltb count 11) (gatheredFits count bits) t .1 in ninth-fits matched status bits (rw (eqb-true count 8 e) at eight)) (λ _. t))
 phase-at-fall status (Transmit matched count byte) t =
     pick-by Fits (ltb count 9)
     (λ e. and-both _ _ (lt-ltb 0 (count + 1) (omega arith)) (lt-ltb (count + 1) 11 (omega (arith, ltb-true count 9 e))))
     (λ _. pick-by Fits (eqb count 10) (λ _. refl) (λ _. t))
 phase-at-fall status (Held matched clocks) t = refl
 
-phase-let-go : (trx : Bool) (byte : ℕ) → Fits (phaseLetGo trx byte)
-unfolding phaseFits gatheredFits
-phase-let-go true byte = refl
-phase-let-go false byte = refl
+phase-let-go : (k : Comparison) (trx : Bool) (byte : ℕ) → Fits (phaseLetGo k trx byte)
+unfolding phaseFits gatheredFits phaseLetGo
+phase-let-go None trx byte = refl
+phase-let-go (Own matched) true byte = refl
+phase-let-go (Own matched) false byte = refl
 
 -- ---- the mode
 
@@ -216,8 +221,8 @@ module _ (mdcon : ℕ) (b : Bus) (f : BusFormed mdcon b) (e : mode (b .iists) md
   unfolding phaseFits
   stop-formed = ddc2b-formed _ _ _ (or-lt 6 (b .iists) 0x10 (f .iists) (omega arith)) (stop-bit (b .iists)) refl
 
-  pub let-go-formed : (trx : Bool) (sent byte : ℕ) → BusFormed mdcon (busOf (b .iists) (b .iiadr) byte (phaseLetGo trx sent) (b .shifter))
-  let-go-formed trx sent byte = ddc2b-formed _ _ _ (f .iists) refl (phase-let-go trx sent)
+  pub let-go-formed : (k : Comparison) (trx : Bool) (sent byte : ℕ) → BusFormed mdcon (busOf (b .iists) (b .iiadr) byte (phaseLetGo k trx sent) (b .shifter))
+  let-go-formed k trx sent byte = ddc2b-formed _ _ _ (f .iists) refl (phase-let-go k trx sent)
 
 -- an idle phase holds no line
 idle-lets-go : (p : Phase) → isIdle p ≡ true → pullsScl p ≡ false

@@ -14,7 +14,7 @@ use Rattle.bits.proofs.Level.{pick-by}
 use Rattle.sync.specs.declared.Sync.{Sync}
 use Rattle.sync.specs.Sync.{wellSync}
 use Rattle.sync.proofs.WellFormed.{hsel-cleared-well, clear-overflow-well}
-use Rattle.bus.specs.Bus.{mode, pullsScl}
+use Rattle.bus.specs.Bus.{mode, pullsScl, comparedIn}
 use Rattle.chip.specs.declared.Bus.{Bus}
 use Rattle.chip.specs.declared.Core.{Core}
 use Rattle.chip.specs.State.{busOf, modeOf}
@@ -78,7 +78,7 @@ iidat-bus mdcon scl sda b bus f =
     pick-by (BusFormed mdcon) (pullsScl (bus .phase))
     (λ h.
     let e = held-in-ddc2b (mode (bus .iists) mdcon) (bus .phase) (bus .shifter) (f .fits) h in
-    let gone : BusFormed mdcon (busLetGo b bus) = let-go-formed mdcon bus f e (bit 2 (bus .iists)) b _ in
+    let gone : BusFormed mdcon (busLetGo b bus) = let-go-formed mdcon bus f e (comparedIn (bus .phase)) (bit 2 (bus .iists)) b _ in
     pick-by (BusFormed mdcon) scl (λ _. rise-formed mdcon (busLetGo b bus) gone e _) (λ _. gone))
     (λ _. record { iists = f .iists; iiadr = f .iiadr; fits = f .fits })
 

@@ -5,3 +5,4 @@ pub mod Writes
 pub mod Events
 pub mod Runs
 pub mod Theorems
+pub mod Lines

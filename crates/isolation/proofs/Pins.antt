@@ -1,6 +1,6 @@
 -- Related cores stay related at a pin event (document 01, "The bus" and "Flags, timer, watchdog, reset").
 use Prim.Native.Nat.{ℕ, suc}
-use mathlib.Core.Path.{_≡_, refl, ap, sym}
+use mathlib.Core.Path.{_≡_, refl, ap, sym, _∙_}
 use mathlib.Core.List.{List, [], _∷_}
 use mathlib.Core.Bool.{Bool, true, false, not, _&&_, true≢false}
 use native.Mathlib.Omega.{arith}
@@ -17,6 +17,7 @@ use Rattle.bus.specs.declared.Edge.the-variants.{Flat, Rise, Fall}
 use Rattle.bus.specs.declared.Phase.{Phase}
 use Rattle.bus.specs.declared.Phase.the-variants.{Idle, Address}
 use Rattle.bus.specs.Bus.{edge, pullsSda, sdaPulled, sclPulled}
+use Rattle.ddc2b.proofs.Own.{none-foreign}
 use Rattle.ddc2b.specs.Ddc2b.{addressBits, matches, phaseAtRise, dataAtRise, matchesAtRise, statusAtRise, holdsAtFall, phaseAtFall, startStatus, stopStatus}
 use Rattle.chip.specs.declared.Core.{Core}
 use Rattle.chip.specs.State.{busOf, hselOf, raised, withSync, withBus, withReset}
@@ -50,7 +51,9 @@ module _ (g : Core) (x x′ : Bool) (y y′ : ℕ) {n : ℕ} (ls ls′ : List Bo
       rw (few, gathered-level ls x h, gathered-level ls′ x′ (rw e h), add-one (length ls))
       (related (raised g 0) true true x x′ y y′ (address (x ∷ ls) (x′ ∷ ls′) (ap suc e) (lt-ltb (suc (length ls)) 8 (omega (arith, ltb-true (length ls) 7 few)))) (kept-raised 0 (omega arith) o))
   gather-related true l a a′ =
-      rw (eqb-true (length ls) 7 l, gathered-level ls x h, gathered-level ls′ x′ (rw e h), matches-by-bits (g .bus .iiadr) n (byteOf (x ∷ ls)) (o .address-bits), matches-by-bits (g .bus .iiadr) n (byteOf (x′ ∷ ls′)) (o .address-bits), a, a′)
+      let foreign = matches-by-bits (g .bus .iiadr) n (byteOf (x ∷ ls)) (o .address-bits) ∙ a in
+      let foreign′ = matches-by-bits (g .bus .iiadr) n (byteOf (x′ ∷ ls′)) (o .address-bits) ∙ a′ in
+      rw (eqb-true (length ls) 7 l, gathered-level ls x h, gathered-level ls′ x′ (rw e h), none-foreign (g .bus .iiadr) _ foreign, none-foreign (g .bus .iiadr) _ foreign′, foreign, foreign′)
       (related (raised g 0) true true x x′ (byteOf (x ∷ ls)) (byteOf (x′ ∷ ls′)) (ignoring (x ∷ ls) (x′ ∷ ls′)) (kept-raised 0 (omega arith) o))
 
 module _ (g : Core) (x x′ : Bool) (y y′ : ℕ) {n : ℕ} (o : KeptBy g n) where

@@ -31,12 +31,12 @@ related-agree (chips rs (related g z s x x′ y y′ k o)) = rw (phases-agree k)
 
 -- ---- one pair of words, and the premises of those after them
 
-record Carried (c d : Chip) (o o′ : Observer) (w v : ℕ) (ws vs : List ℕ) : Type 0 where
-  still : RelatedChips (next c (decode w)) (next d (decode v)) (observe o (decode w)) (observe o′ (decode v))
-  answer : comparedAnswer (decode w) (answered c (decode w)) ≡ comparedAnswer (decode v) (answered d (decode v))
-  rest : SeveralTransfers (observe o (decode w)) (observe o′ (decode v)) ws vs
+pub record Carried (c d : Chip) (o o′ : Observer) (w v : ℕ) (ws vs : List ℕ) : Type 0 where
+  pub still : RelatedChips (next c (decode w)) (next d (decode v)) (observe o (decode w)) (observe o′ (decode v))
+  pub answer : comparedAnswer (decode w) (answered c (decode w)) ≡ comparedAnswer (decode v) (answered d (decode v))
+  pub rest : SeveralTransfers (observe o (decode w)) (observe o′ (decode v)) ws vs
 
-carried : {c d : Chip} {o o′ : Observer} → RelatedChips c d o o′ → (w v : ℕ) (ws vs : List ℕ) → SeveralTransfers o o′ (w ∷ ws) (v ∷ vs) → Carried c d o o′ w v ws vs
+pub carried : {c d : Chip} {o o′ : Observer} → RelatedChips c d o o′ → (w v : ℕ) (ws vs : List ℕ) → SeveralTransfers o o′ (w ∷ ws) (v ∷ vs) → Carried c d o o′ w v ws vs
 carried {o = o} {o′ = o′} r w v ws vs p =
     let pair : Paired o o′ (decode w) (decode v) = paired o o′ w v (both (sameButSda w v) _ (p .words) .0) (both (equalAtHigh o o′ w v) _ (p .sda) .0) in
     let left : permitted o (decode w) ≡ true = both (permitted o (decode w)) _ (p .left) .0 in

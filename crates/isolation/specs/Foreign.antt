@@ -233,11 +233,11 @@ comparedAnswers (w ∷ ws) (x ∷ xs) = comparedAnswer (decode w) x ∷ compared
 abbrev pub comparedPhase : Phase → Phase
 comparedPhase Idle = Idle
 comparedPhase (Address count bits) = Address count 0
-comparedPhase (Addressed matched bits ninth) = Addressed bits ninth
+comparedPhase (Addressed matched bits ninth) = Addressed matched bits ninth
 comparedPhase Ignoring = Ignoring
-comparedPhase (Receive matched count bits) = Receive count bits
-comparedPhase (Transmit matched count byte) = Transmit count byte
-comparedPhase (Held matched clocks) = Held clocks
+comparedPhase (Receive matched count bits) = Receive matched count bits
+comparedPhase (Transmit matched count byte) = Transmit matched count byte
+comparedPhase (Held matched clocks) = Held matched clocks
 
 -- the part of a state that is compared: all but SDA's level, II DAT and the address bits gathered
 abbrev pub comparedCore : Core → Core

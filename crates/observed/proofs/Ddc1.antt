@@ -22,11 +22,13 @@ use Rattle.counters.specs.Count.{watchdogFires, watchdogNext}
 use Rattle.bus.specs.declared.Mode.{Mode}
 use Rattle.bus.specs.declared.Mode.the-variants.{Off, Ddc1, Ddc2b}
 use Rattle.bus.specs.declared.Edge.{Edge}
+use Rattle.bus.specs.declared.Comparison.{Comparison}
 use Rattle.bus.specs.declared.Phase.{Phase}
 use Rattle.bus.specs.declared.Shifter.{Shifter}
-use Rattle.bus.specs.Bus.{edge, line, mode, changesMode, pullsScl, sdaPulled, sclPulled}
+use Rattle.bus.specs.Bus.{edge, line, mode, changesMode, pullsScl, sdaPulled, sclPulled, comparedIn}
 use Rattle.bus.specs.Ddc1.{unusedShifter, shifterAtRise}
-use Rattle.ddc2b.specs.Ddc2b.{statusAtRise, phaseLetGo}
+use Rattle.ddc2b.specs.Ddc2b.{phaseLetGo}
+use Rattle.ddc2b.proofs.First.{status-first}
 use Rattle.chip.specs.declared.Bus.{Bus}
 use Rattle.chip.specs.declared.Core.{Core}
 use Rattle.chip.specs.declared.Chip.{Chip}
@@ -181,17 +183,16 @@ unfolding busAtMode mode changesMode
 mode-kept iists mdcon iists′ mdcon′ b e m e′ m′ = rw (e, m, e′, m′)
 
 -- II DAT, also where a state that is not well formed lets SCL go
-risen-kept : (scl sda trx : Bool) (iists iiadr iidat byte : ℕ) (s : Shifter) →
-    (busRisen scl sda (busOf iists iiadr iidat (phaseLetGo trx byte) s) .iists ≡ iists) × (busRisen scl sda (busOf iists iiadr iidat (phaseLetGo trx byte) s) .shifter ≡ s)
-unfolding busRisen busAtRise statusAtRise
-risen-kept true sda true iists iiadr iidat byte s = (refl, refl)
-risen-kept true sda false iists iiadr iidat byte s = (refl, refl)
-risen-kept false sda trx iists iiadr iidat byte s = (refl, refl)
+risen-kept : (scl sda : Bool) (k : Comparison) (trx : Bool) (iists iiadr iidat byte : ℕ) (s : Shifter) →
+    (busRisen scl sda (busOf iists iiadr iidat (phaseLetGo k trx byte) s) .iists ≡ iists) × (busRisen scl sda (busOf iists iiadr iidat (phaseLetGo k trx byte) s) .shifter ≡ s)
+unfolding busRisen busAtRise
+risen-kept true sda k trx iists iiadr iidat byte s = (status-first k trx _ byte iists, refl)
+risen-kept false sda k trx iists iiadr iidat byte s = (refl, refl)
 
 data-kept : (pulls scl sda : Bool) (byte : ℕ) (b : Bus) →
     ((pick pulls (busRisen scl sda (busLetGo byte b)) (busOf (b .iists) (b .iiadr) (updated IIDAT (b .iidat) byte) (b .phase) (b .shifter))) .iists ≡ b .iists)
     × ((pick pulls (busRisen scl sda (busLetGo byte b)) (busOf (b .iists) (b .iiadr) (updated IIDAT (b .iidat) byte) (b .phase) (b .shifter))) .shifter ≡ b .shifter)
-data-kept true scl sda byte b = risen-kept scl sda (bit 2 (b .iists)) (b .iists) (b .iiadr) (updated IIDAT (b .iidat) byte) byte (b .shifter)
+data-kept true scl sda byte b = risen-kept scl sda (comparedIn (b .phase)) (bit 2 (b .iists)) (b .iists) (b .iiadr) (updated IIDAT (b .iidat) byte) byte (b .shifter)
 data-kept false scl sda byte b = (refl, refl)
 
 or-false : (x : Bool) → (x || false) ≡ x

@@ -16,10 +16,13 @@ use Rattle.bus.specs.declared.Mode.{Mode}
 use Rattle.bus.specs.declared.Mode.the-variants.{Off, Ddc1, Ddc2b}
 use Rattle.bus.specs.declared.Edge.{Edge}
 use Rattle.bus.specs.declared.Edge.the-variants.{Flat, Rise, Fall}
+use Rattle.bus.specs.declared.OwnAddress.{OwnAddress}
+use Rattle.bus.specs.declared.Comparison.{Comparison}
+use Rattle.bus.specs.declared.Comparison.the-variants.{None, Own}
 use Rattle.bus.specs.declared.Phase.{Phase}
-use Rattle.bus.specs.declared.Phase.the-variants.{Idle, Address, Addressed as OwnAddress, Ignoring, Receive, Transmit, Held}
+use Rattle.bus.specs.declared.Phase.the-variants.{Idle, Address, Addressed as CalledAddress, Ignoring, Receive, Transmit, Held}
 use Rattle.bus.specs.Bus.{edge, mode, modeBy, changesMode, pullsScl, sclPulled}
-use Rattle.ddc2b.specs.Ddc2b.{matches, gathered, phaseAtRise, phaseAtFall, phaseAtPeriod}
+use Rattle.ddc2b.specs.Ddc2b.{compared, gathered, addressed, phaseAtRise, phaseAtFall, phaseAtPeriod}
 use Rattle.counters.specs.Count.{watchdogFires}
 use Rattle.chip.specs.declared.Bus.{Bus}
 use Rattle.chip.specs.declared.Core.{Core}
@@ -45,11 +48,16 @@ use Rattle.stretching.proofs.Holds.{clash, Holds}
 abbrev Free : Phase → Type 0
 Free p = pullsScl p ≡ false
 
+free-addressed : (k : Comparison) (byte : ℕ) → Free (addressed k byte)
+unfolding pullsScl
+free-addressed None byte = refl
+free-addressed (Own matched) byte = refl
+
 free-rise : (own : ℕ) (sda : Bool) (p : Phase) → Free p → Free (phaseAtRise own sda p)
 unfolding phaseAtRise pullsScl
 free-rise own sda Idle h = refl
-free-rise own sda (Address count bits) h = pick-by Free (ltb count 7) (λ _. refl) (λ _. pick-by Free (matches own (gathered bits sda)) (λ _. refl) (λ _. refl))
-free-rise own sda (OwnAddress bits ninth) h = refl
+free-rise own sda (Address count bits) h = pick-by Free (ltb count 7) (λ _. refl) (λ _. free-addressed (compared own (gathered bits sda)) (gathered bits sda))
+free-rise own sda (CalledAddress matched bits ninth) h = refl
 free-rise own sda Ignoring h = refl
 free-rise own sda (Receive matched count bits) h = pick-by Free (ltb count 8) (λ _. refl) (λ _. refl)
 free-rise own sda (Transmit matched count byte) h = pick-by Free (eqb count 9) (λ _. refl) (λ _. refl)
@@ -59,7 +67,7 @@ free-period : (p : Phase) → Free p → Free (phaseAtPeriod p)
 unfolding phaseAtPeriod pullsScl
 free-period Idle h = refl
 free-period (Address count bits) h = refl
-free-period (OwnAddress bits ninth) h = refl
+free-period (CalledAddress matched bits ninth) h = refl
 free-period Ignoring h = refl
 free-period (Receive matched count bits) h = refl
 free-period (Transmit matched count byte) h = refl
@@ -70,41 +78,41 @@ pick-false : (t : Bool) (x y : Phase) → pullsScl x ≡ true → pullsScl y ≡
 pick-false true x y h k = h
 pick-false false x y h k = k
 
-transmit-falls : (few ten : Bool) (count byte : ℕ) → ltb count 9 ≡ few → eqb count 10 ≡ ten →
-    pullsScl (pick few (Transmit (count + 1) byte) (pick ten (Held 0) (Transmit matched count byte))) ≡ ten
+transmit-falls : (few ten : Bool) (m : OwnAddress) (count byte : ℕ) → ltb count 9 ≡ few → eqb count 10 ≡ ten →
+    pullsScl (pick few (Transmit m (count + 1) byte) (pick ten (Held m 0) (Transmit m count byte))) ≡ ten
 unfolding pullsScl
-transmit-falls true true count byte f t = clash (ltb count 9) f (rw (eqb-true count 10 t))
-transmit-falls true false count byte f t = refl
-transmit-falls false true count byte f t = refl
-transmit-falls false false count byte f t = refl
+transmit-falls true true m count byte f t = clash (ltb count 9) f (rw (eqb-true count 10 t))
+transmit-falls true false m count byte f t = refl
+transmit-falls false true m count byte f t = refl
+transmit-falls false false m count byte f t = refl
 
 fall-takes : (status : ℕ) (p : Phase) → Free p → pullsScl (phaseAtFall status p) ≡ inNinthClock p
 unfolding phaseAtFall pullsScl
 fall-takes status Idle h = refl
 fall-takes status (Address count bits) h = refl
-fall-takes status (OwnAddress bits ninth) h = pick-false ninth _ _ refl refl
+fall-takes status (CalledAddress matched bits ninth) h = pick-false ninth _ _ refl refl
 fall-takes status Ignoring h = refl
 fall-takes status (Receive matched count bits) h = pick-false (ltb 8 count) _ _ refl (pick-by Free (eqb count 8) (λ _. refl) (λ _. refl))
-fall-takes status (Transmit matched count byte) h = transmit-falls (ltb count 9) (eqb count 10) count byte refl refl
+fall-takes status (Transmit matched count byte) h = transmit-falls (ltb count 9) (eqb count 10) matched count byte refl refl
 fall-takes status (Held matched clocks) h = clash _ refl h
 
 -- and the count is 0 then
 pick-true : (t : Bool) (x y : Phase) → t ≡ true → pick t x y ≡ x
 pick-true t x y h = rw h
 
-transmit-zero : (few : Bool) (count byte : ℕ) → ltb count 9 ≡ few → eqb count 10 ≡ true →
-    pick few (Transmit (count + 1) byte) (pick (eqb count 10) (Held 0) (Transmit matched count byte)) ≡ Held 0
-transmit-zero true count byte f t = clash (ltb count 9) f (rw (eqb-true count 10 t))
-transmit-zero false count byte f t = rw t
+transmit-zero : (few : Bool) (m : OwnAddress) (count byte : ℕ) → ltb count 9 ≡ few → eqb count 10 ≡ true →
+    pick few (Transmit m (count + 1) byte) (pick (eqb count 10) (Held m 0) (Transmit m count byte)) ≡ Held m 0
+transmit-zero true m count byte f t = clash (ltb count 9) f (rw (eqb-true count 10 t))
+transmit-zero false m count byte f t = rw t
 
-fall-zero : (status : ℕ) (p : Phase) → inNinthClock p ≡ true → phaseAtFall status p ≡ Held 0
+fall-zero : (status : ℕ) (p : Phase) → inNinthClock p ≡ true → (m : OwnAddress) × (phaseAtFall status p ≡ Held m 0)
 unfolding phaseAtFall
 fall-zero status Idle h = clash _ h refl
 fall-zero status (Address count bits) h = clash _ h refl
-fall-zero status (OwnAddress bits ninth) h = pick-true ninth _ _ h
+fall-zero status (CalledAddress matched bits ninth) h = (matched, pick-true ninth _ _ h)
 fall-zero status Ignoring h = clash _ h refl
-fall-zero status (Receive matched count bits) h = pick-true (ltb 8 count) _ _ h
-fall-zero status (Transmit matched count byte) h = transmit-zero (ltb count 9) count byte refl h
+fall-zero status (Receive matched count bits) h = (matched, pick-true (ltb 8 count) _ _ h)
+fall-zero status (Transmit matched count byte) h = (matched, transmit-zero (ltb count 9) matched count byte refl h)
 fall-zero status (Held matched clocks) h = clash _ h refl
 
 -- ---- writes: none takes SCL low
@@ -225,7 +233,9 @@ at-kind reset-pin c level h = reset-free (c .core .reset) level (c .core) h ∙ 
 pub taken : (c : Core) → bit 3 (c .bus .iists) ≡ false → bit 0 (c .mdcon) ≡ false → c .reset ≡ true → c .scl ≡ true → FreeCore c → inNinthClock (c .bus .phase) ≡ true →
     Holds 0 (sclMoved c false)
 unfolding sclMoved mode onScl onSclDdc2b sclFall sclPulled
-taken c e m r s f k = rw (r, e, m, s, f) (record { enddc = e; md = m; held = fall-zero (c .bus .iists) (c .bus .phase) k })
+taken c e m r s f k =
+    let zero = fall-zero (c .bus .iists) (c .bus .phase) k in
+    rw (r, e, m, s, f) (record { enddc = e; md = m; matched = zero .0; held = zero .1 })
 
 -- ---- clocks: none takes SCL low
 

@@ -17,9 +17,12 @@ use Rattle.events.specs.declared.Decoded.the-variants.{Read, Write, Pin, Clock,
 use Rattle.bus.specs.declared.Mode.the-variants.{Off, Ddc2b}
 use Rattle.bus.specs.declared.Edge.{Edge}
 use Rattle.bus.specs.declared.Edge.the-variants.{Flat, Rise, Fall}
+use Rattle.bus.specs.declared.OwnAddress.{OwnAddress}
+use Rattle.bus.specs.declared.Comparison.{Comparison}
+use Rattle.bus.specs.declared.Comparison.the-variants.{None, Own}
 use Rattle.bus.specs.declared.Phase.{Phase}
 use Rattle.bus.specs.declared.Phase.the-variants.{Held}
-use Rattle.bus.specs.Bus.{edge, line, mode, changesMode, pullsScl, sclPulled}
+use Rattle.bus.specs.Bus.{edge, line, mode, changesMode, pullsScl, sclPulled, comparedIn}
 use Rattle.ddc2b.specs.Ddc2b.{phaseAtRise, phaseLetGo, heldLonger, phaseAtPeriod}
 use Rattle.counters.specs.Count.{watchdogFires, watchdogNext}
 use Rattle.chip.specs.declared.Bus.{Bus}
@@ -47,7 +50,8 @@ clash t h k = absurd (let z : _≡_ {A = ℕ} 0 1 = cc in omega arith)
 pub record Holds (n : ℕ) (c : Core) : Type 0 where
   pub enddc : bit 3 (c .bus .iists) ≡ false
   pub md : bit 0 (c .mdcon) ≡ false
-  pub held : c .bus .phase ≡ Held n
+  pub matched : OwnAddress
+  pub held : c .bus .phase ≡ Held matched n
 
 -- what an event does to a hold
 pub record Effect (n : ℕ) (c : Chip) (e : Decoded) (after : Core) : Type 0 where
@@ -99,24 +103,26 @@ in-ddc2b : {n : ℕ} {c : Core} → Holds n c → modeOf c ≡ Ddc2b
 unfolding mode
 in-ddc2b h = rw (h .enddc, h .md)
 
-pub held-pulls : {n : ℕ} (p : Phase) → p ≡ Held n → pullsScl p ≡ true
+pub held-pulls : {m : OwnAddress} {n : ℕ} (p : Phase) → p ≡ Held m n → pullsScl p ≡ true
 unfolding pullsScl
 held-pulls p h = rw h
 
 -- ---- writes
 
 -- the byte begins, received or sent, and SCL's rise gathers a bit at most
-let-go : (scl trx sda : Bool) (own byte : ℕ) → pullsScl (pick scl (phaseAtRise own sda (phaseLetGo trx byte)) (phaseLetGo trx byte)) ≡ false
-unfolding phaseAtRise pullsScl
-let-go true true sda own byte = refl
-let-go true false sda own byte = refl
-let-go false true sda own byte = refl
-let-go false false sda own byte = refl
+let-go : (k : Comparison) (scl trx sda : Bool) (own byte : ℕ) → pullsScl (pick scl (phaseAtRise own sda (phaseLetGo k trx byte)) (phaseLetGo k trx byte)) ≡ false
+unfolding phaseAtRise pullsScl phaseLetGo
+let-go None true trx sda own byte = refl
+let-go None false trx sda own byte = refl
+let-go (Own matched) true true sda own byte = refl
+let-go (Own matched) true false sda own byte = refl
+let-go (Own matched) false true sda own byte = refl
+let-go (Own matched) false false sda own byte = refl
 
 risen-phase : (scl sda : Bool) (byte : ℕ) (b : Bus) → pullsScl (busRisen scl sda (busLetGo byte b) .phase) ≡ false
 unfolding busRisen busAtRise
-risen-phase true sda byte b = let-go true (bit 2 (b .iists)) _ (b .iiadr) byte
-risen-phase false sda byte b = let-go false (bit 2 (b .iists)) sda (b .iiadr) byte
+risen-phase true sda byte b = let-go (comparedIn (b .phase)) true (bit 2 (b .iists)) _ (b .iiadr) byte
+risen-phase false sda byte b = let-go (comparedIn (b .phase)) false (bit 2 (b .iists)) sda (b .iiadr) byte
 
 module _ (n : ℕ) (c : Chip) (b : ℕ) (h : Holds n (c .core)) (r : c .core .reset ≡ true) where
   lets-mdcon : letsGo c (Write MDCON b) ≡ bit 0 b
@@ -147,13 +153,13 @@ module _ (n : ℕ) (c : Chip) (b : ℕ) (h : Holds n (c .core)) (r : c .core .re
         kept = λ z.
             let m = md-written (c .core .mdcon) b ∙ sym lets-mdcon ∙ z in
             let same = mode-kept (bus .iists) (c .core .mdcon) (bus .iists) (updated MDCON (c .core .mdcon) b) bus (h .enddc) (h .md) (h .enddc) m in
-            record { enddc = rw same (h .enddc); md = m; held = rw same (h .held) };
+            record { enddc = rw same (h .enddc); md = m; matched = h .matched; held = rw same (h .held) };
         over = λ z. to-ddc1 (bus .iists) (c .core .mdcon) (bus .iists) _ bus (h .enddc) (h .md) (h .enddc) (md-written (c .core .mdcon) b ∙ sym lets-mdcon ∙ z);
       }
-  at-target at-hvcon = plain refl refl (record { enddc = h .enddc; md = h .md; held = h .held })
-  at-target at-clrflg = plain refl refl (record { enddc = h .enddc; md = h .md; held = h .held })
-  at-target at-clrwdt = plain refl refl (record { enddc = h .enddc; md = h .md; held = h .held })
-  at-target at-iiadr = plain refl refl (record { enddc = h .enddc; md = h .md; held = h .held })
+  at-target at-hvcon = plain refl refl (record { enddc = h .enddc; md = h .md; matched = h .matched; held = h .held })
+  at-target at-clrflg = plain refl refl (record { enddc = h .enddc; md = h .md; matched = h .matched; held = h .held })
+  at-target at-clrwdt = plain refl refl (record { enddc = h .enddc; md = h .md; matched = h .matched; held = h .held })
+  at-target at-iiadr = plain refl refl (record { enddc = h .enddc; md = h .md; matched = h .matched; held = h .held })
   at-target at-iidat =
       record {
         kept = λ z. clash _ lets-iidat z;
@@ -166,10 +172,10 @@ module _ (n : ℕ) (c : Chip) (b : ℕ) (h : Holds n (c .core)) (r : c .core .re
         kept = λ z.
             let e = enddc-written (bus .iists) b ∙ sym lets-iists ∙ z in
             let same = mode-kept (bus .iists) (c .core .mdcon) (statusWritten (bus .iists) b) (c .core .mdcon) put (h .enddc) (h .md) e (h .md) in
-            record { enddc = rw same e; md = h .md; held = rw same (h .held) };
+            record { enddc = rw same e; md = h .md; matched = h .matched; held = rw same (h .held) };
         over = λ z. turned-off (bus .iists) (c .core .mdcon) (statusWritten (bus .iists) b) (c .core .mdcon) put (h .enddc) (h .md) (enddc-written (bus .iists) b ∙ sym lets-iists ∙ z);
       }
-  at-target at-bt = plain refl refl (record { enddc = h .enddc; md = h .md; held = h .held })
+  at-target at-bt = plain refl refl (record { enddc = h .enddc; md = h .md; matched = h .matched; held = h .held })
   at-target {a = a} (at-plain p) = plain (rw (p .iidat, p .iists, p .mdcon)) refl (pick-by (Holds n) (isWritable a) (λ _. h) (λ _. h))
 
 -- while RESET is low a write is refused
@@ -227,14 +233,14 @@ module _ (n : ℕ) (c : Chip) (level : Bool) (h : Holds n (c .core)) where
   at-scl =
       plain-pin 25 refl
       (rw (in-ddc2b h, scl-kept (c .core .reset) (c .core .scl) level (c .core .bus .phase) (withScl (c .core) level) (held-pulls (c .core .bus .phase) (h .held)))
-      (record { enddc = h .enddc; md = h .md; held = h .held }))
+      (record { enddc = h .enddc; md = h .md; matched = h .matched; held = h .held }))
 
   at-sda : Effect n c (Pin 24 level) (sdaMoved (c .core) level)
   unfolding sdaMoved
   at-sda =
       plain-pin 24 refl
       (rw (in-ddc2b h, sda-kept (c .core .reset) (c .core .scl) (c .core .bus .phase) _ (withSda (c .core) level) (held-pulls (c .core .bus .phase) (h .held)))
-      (record { enddc = h .enddc; md = h .md; held = h .held }))
+      (record { enddc = h .enddc; md = h .md; matched = h .matched; held = h .held }))
 
   -- VSYNCI clocks the shift register in DDC1 alone
   vsync-bus : busAtVsync (modeOf (c .core)) (c .core .bus) ≡ c .core .bus
@@ -246,30 +252,30 @@ module _ (n : ℕ) (c : Chip) (level : Bool) (h : Holds n (c .core)) where
   at-vsynci =
       plain-pin 27 refl
       (pick-by (Holds n) (rises (c .core .reset) (c .core .pins .vsynci) level)
-      (λ _. record { enddc = rw vsync-bus (h .enddc); md = h .md; held = rw vsync-bus (h .held) })
-      (λ _. record { enddc = h .enddc; md = h .md; held = h .held }))
+      (λ _. record { enddc = rw vsync-bus (h .enddc); md = h .md; matched = h .matched; held = rw vsync-bus (h .held) })
+      (λ _. record { enddc = h .enddc; md = h .md; matched = h .matched; held = h .held }))
 
   -- RESET by its level before and after
   reset-by : (old new : Bool) → c .core .reset ≡ old → level ≡ new → Effect n c (Pin 28 level) (onReset (edge old new) (withReset (c .core) new))
   unfolding letsGo onReset resetCore resetAt pullsScl
-  reset-by true true r l = plain (rw (r, l)) refl (record { enddc = h .enddc; md = h .md; held = h .held })
+  reset-by true true r l = plain (rw (r, l)) refl (record { enddc = h .enddc; md = h .md; matched = h .matched; held = h .held })
   reset-by true false r l = record { kept = λ z. clash _ (reset-lets r l) z; over = λ _. refl }
   reset-by false new r l = plain (rw r) refl (low-reset new)
     where
       low-reset : (new : Bool) → Holds n (onReset (edge false new) (withReset (c .core) new))
-      low-reset true = record { enddc = h .enddc; md = h .md; held = h .held }
-      low-reset false = record { enddc = h .enddc; md = h .md; held = h .held }
+      low-reset true = record { enddc = h .enddc; md = h .md; matched = h .matched; held = h .held }
+      low-reset false = record { enddc = h .enddc; md = h .md; matched = h .matched; held = h .held }
 
   at-kind : {k : PinKind} {p : ℕ} → Numbered k p → Effect n c (Pin p level) (pinMovedAs k (c .core) p level)
   unfolding pinMovedAs port0Moved port1Moved port2Moved p16Moved hsyncMoved resetMoved
-  at-kind {p = p} (port0-pin u high) = plain-pin p (u .reset) (record { enddc = h .enddc; md = h .md; held = h .held })
-  at-kind {p = p} (port1-pin u low high) = plain-pin p (u .reset) (record { enddc = h .enddc; md = h .md; held = h .held })
-  at-kind {p = p} (port2-pin u low high) = plain-pin p (u .reset) (record { enddc = h .enddc; md = h .md; held = h .held })
+  at-kind {p = p} (port0-pin u high) = plain-pin p (u .reset) (record { enddc = h .enddc; md = h .md; matched = h .matched; held = h .held })
+  at-kind {p = p} (port1-pin u low high) = plain-pin p (u .reset) (record { enddc = h .enddc; md = h .md; matched = h .matched; held = h .held })
+  at-kind {p = p} (port2-pin u low high) = plain-pin p (u .reset) (record { enddc = h .enddc; md = h .md; matched = h .matched; held = h .held })
   at-kind {p = p} (no-pin u none) = plain-pin p (u .reset) h
-  at-kind p16-pin = plain-pin 14 refl (record { enddc = h .enddc; md = h .md; held = h .held })
+  at-kind p16-pin = plain-pin 14 refl (record { enddc = h .enddc; md = h .md; matched = h .matched; held = h .held })
   at-kind sda-pin = at-sda
   at-kind scl-pin = at-scl
-  at-kind hsynci-pin = plain-pin 26 refl (record { enddc = h .enddc; md = h .md; held = h .held })
+  at-kind hsynci-pin = plain-pin 26 refl (record { enddc = h .enddc; md = h .md; matched = h .matched; held = h .held })
   at-kind vsynci-pin = at-vsynci
   at-kind reset-pin = reset-by (c .core .reset) level refl refl
 
@@ -290,7 +296,7 @@ module _ (n : ℕ) (c : Chip) (h : Holds n (c .core)) where
       }
     where
       by-reset : (r : Bool) → Holds (pick r (heldLonger n) n) (pick r (periodClock (c .core)) (c .core))
-      by-reset true = record { enddc = h .enddc; md = h .md; held = rw (h .held) }
+      by-reset true = record { enddc = h .enddc; md = h .md; matched = h .matched; held = rw (h .held) }
       by-reset false = h
 
   -- base clocks
@@ -299,7 +305,7 @@ module _ (n : ℕ) (c : Chip) (h : Holds n (c .core)) where
   at-timer k p w =
       plain (rw w) (rw p)
       (pick-by (Holds n) (c .core .reset)
-      (λ _. pick-by (Holds n) (timerRuns (registerAt (c .registers) BTCON) k) (λ _. record { enddc = h .enddc; md = h .md; held = h .held }) (λ _. h))
+      (λ _. pick-by (Holds n) (timerRuns (registerAt (c .registers) BTCON) k) (λ _. record { enddc = h .enddc; md = h .md; matched = h .matched; held = h .held }) (λ _. h))
       (λ _. h))
 
   -- the watchdog's
@@ -307,7 +313,7 @@ module _ (n : ℕ) (c : Chip) (h : Holds n (c .core)) where
       Effect n c (Clock 3) (pick reset (pick fires (resetCore (c .core)) (withWatchdog (c .core) m)) (c .core))
   unfolding letsGo resetCore resetAt pullsScl
   watchdog-by true true m r f = record { kept = λ z. clash _ (rw (r, ← (watchdog-last (c .core .watchdog)), f)) z; over = λ _. refl }
-  watchdog-by true false m r f = plain (rw (r, ← (watchdog-last (c .core .watchdog)), f)) refl (record { enddc = h .enddc; md = h .md; held = h .held })
+  watchdog-by true false m r f = plain (rw (r, ← (watchdog-last (c .core .watchdog)), f)) refl (record { enddc = h .enddc; md = h .md; matched = h .matched; held = h .held })
   watchdog-by false fires m r f = plain (rw r) refl h
 
   clock-by : (k : ℕ) (period watchdog : Bool) → eqb k 0 ≡ period → eqb k 3 ≡ watchdog → Effect n c (Clock k) (next c (Clock k) .core)
@@ -320,7 +326,7 @@ module _ (n : ℕ) (c : Chip) (h : Holds n (c .core)) where
 
 at-polarity : (n : ℕ) (c : Chip) (vertical level : Bool) → Holds n (c .core) → Effect n c (Polarity vertical level) (next c (Polarity vertical level) .core)
 unfolding next coreAfter polarityFound letsGo
-at-polarity n c vertical level h = plain refl refl (pick-by (Holds n) (c .core .reset) (λ _. record { enddc = h .enddc; md = h .md; held = h .held }) (λ _. h))
+at-polarity n c vertical level h = plain refl refl (pick-by (Holds n) (c .core .reset) (λ _. record { enddc = h .enddc; md = h .md; matched = h .matched; held = h .held }) (λ _. h))
 
 pub effect : (n : ℕ) (c : Chip) (e : Decoded) → Holds n (c .core) → Effect n c e (next c e .core)
 unfolding next coreAfter letsGo

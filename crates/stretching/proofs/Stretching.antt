@@ -16,6 +16,7 @@ use Rattle.events.specs.declared.Decoded.{Decoded}
 use Rattle.events.specs.declared.Decoded.the-variants.{Read, Write, Pin, Clock, Polarity, Refused}
 use Rattle.events.specs.Word.{decode}
 use Rattle.bus.specs.declared.Mode.the-variants.{Ddc2b}
+use Rattle.bus.specs.declared.OwnAddress.{OwnAddress}
 use Rattle.bus.specs.declared.Phase.{Phase}
 use Rattle.bus.specs.declared.Phase.the-variants.{Idle, Address, Addressed, Ignoring, Receive, Transmit, Held}
 use Rattle.bus.specs.Bus.{line, mode, modeBy, pullsScl}
@@ -47,14 +48,14 @@ low-both false false h = (refl, refl)
 holds : {n : ℕ} {c : Chip} → HeldFor n c → Holds n (c .core)
 holds {c = c} h =
     let k = low-both (bit 3 (c .core .bus .iists)) (bit 0 (c .core .mdcon)) (h .ddc2b) in
-    record { enddc = k .0; md = k .1; held = h .held }
+    record { enddc = k .0; md = k .1; matched = h .matched; held = h .held }
 
 held-for : {n : ℕ} {c : Chip} → Holds n (c .core) → HeldFor n c
-held-for h = record { ddc2b = rw (h .enddc, h .md); held = h .held }
+held-for h = record { ddc2b = rw (h .enddc, h .md); matched = h .matched; held = h .held }
 
 -- a hold by another name of its count
 recounted : {n m : ℕ} {c : Chip} → n ≡ m → HeldFor n c → HeldFor m c
-recounted e h = record { ddc2b = h .ddc2b; held = h .held ∙ ap (λ (k : ℕ). Held k) e }
+recounted e h = record { ddc2b = h .ddc2b; matched = h .matched; held = h .held ∙ ap (λ (k : ℕ). Held (h .matched) k) e }
 
 -- ---- a hold begins
 
@@ -199,13 +200,13 @@ mode-bits false true h = cc
 mode-bits false false h = refl
 
 -- a well formed state that holds SCL does so in DDC2B
-pub well-held : (n : ℕ) (c : Chip) → wellFormed c ≡ true → c .core .bus .phase ≡ Held n → HeldFor n c
+pub well-held : (m : OwnAddress) (n : ℕ) (c : Chip) → wellFormed c ≡ true → c .core .bus .phase ≡ Held m n → HeldFor n c
 unfolding mode
-well-held n c w h =
-    let m = held-in-ddc2b (modeOf (c .core)) (c .core .bus .phase) (c .core .bus .shifter) (formed c w .core .bus .fits) (held-pulls (c .core .bus .phase) h) in
-    record { ddc2b = mode-bits (bit 3 (c .core .bus .iists)) (bit 0 (c .core .mdcon)) m; held = h }
+well-held m n c w h =
+    let in-mode = held-in-ddc2b (modeOf (c .core)) (c .core .bus .phase) (c .core .bus .shifter) (formed c w .core .bus .fits) (held-pulls (c .core .bus .phase) h) in
+    record { ddc2b = mode-bits (bit 3 (c .core .bus .iists)) (bit 0 (c .core .mdcon)) in-mode; matched = m; held = h }
 
-held-as : (p : Phase) → pullsScl p ≡ true → (n : ℕ) × (p ≡ Held n)
+held-as : (p : Phase) → pullsScl p ≡ true → (m : OwnAddress) × (n : ℕ) × (p ≡ Held m n)
 unfolding pullsScl
 held-as Idle h = clash _ h refl
 held-as (Address count bits) h = clash _ h refl
@@ -213,7 +214,7 @@ held-as (Addressed matched bits ninth) h = clash _ h refl
 held-as Ignoring h = clash _ h refl
 held-as (Receive matched count bits) h = clash _ h refl
 held-as (Transmit matched count byte) h = clash _ h refl
-held-as (Held matched clocks) h = (clocks, refl)
+held-as (Held matched clocks) h = (matched, clocks, refl)
 
 -- while SCL is held it cannot be taken again: the line does not fall
 not-taken : (n : ℕ) (c : Chip) (e : Decoded) → HeldFor n c → takesScl c e ≡ false
@@ -232,6 +233,6 @@ held-exactly c e w = by-test (holdsScl c) refl
     by-test : (t : Bool) → holdsScl c ≡ t → holdsScl (next c e) ≡ (takesScl c e || (t && not (letsGo c e)))
     by-test true t =
         let p = held-as (c .core .bus .phase) t in
-        let h = well-held (p .0) c w (p .1) in
-        hold-ends (p .0) c e h ∙ rw (not-taken (p .0) c e h)
+        let h = well-held (p .0) (p .1) c w (p .2) in
+        hold-ends (p .1) c e h ∙ rw (not-taken (p .1) c e h)
     by-test false t = begins-exactly c e t ∙ sym (or-false (takesScl c e))

@@ -9,10 +9,11 @@ use Rattle.registers.specs.Table.{table, resets, resetValue, rowOf, writeMask, 
 use Rattle.events.specs.Word.{event, noEvent, noPlace, badByte, decode}
 use Rattle.counters.specs.Count.{counted, overflowed, watchdogNext, watchdogFires, cycleNext}
 use Rattle.sync.specs.Sync.{stepPeriods, linesOnPeriod, intervalNext, onPeriod, hselCleared, zeroSync}
+use Rattle.bus.specs.declared.OwnAddress.the-variants.{A0}
 use Rattle.bus.specs.declared.Phase.{Phase}
 use Rattle.bus.specs.declared.Phase.the-variants.{Receive, Held}
-use Rattle.bus.specs.Bus.{mode, changesMode, pullsAtBit, pullsSda, pullsScl, sdaPulled, sclPulled}
-use Rattle.ddc2b.specs.Ddc2b.{matches, gathered, phaseAtRise, dataAtRise, matchesAtRise, statusAtRise, holdsAtFall, phaseAtFall, heldLonger, phaseAtPeriod}
+use Rattle.bus.specs.Bus.{mode, changesMode, pullsAtBit, pullsSda, pullsScl, sdaPulled, sclPulled, comparedIn}
+use Rattle.ddc2b.specs.Ddc2b.{matches, compared, gathered, phaseAtRise, dataAtRise, matchesAtRise, statusAtRise, holdsAtFall, phaseAtFall, heldLonger, phaseAtPeriod, phaseLetGo}
 use Rattle.chip.specs.declared.Chip.{Chip}
 use Rattle.chip.specs.State.{released, resetAt, fresh}
 use Rattle.edges.specs.Edges.{busAtMode, busAtRise, sclRise, sclFall, onSclDdc2b, onScl, sclMoved, started, onSdaDdc2b, onSda, sdaMoved}
@@ -55,6 +56,6 @@ pub held-at : _≡_ {A = Bool × Bool × ℕ × Phase × Bool × Phase} (
   letsGo (advanced ninth (fall ∷ words)) (decode 0x02001400),
   advanced ninth (fall ∷ (words ++ (0x02001400 ∷ []))) .core .bus .phase,
 )
-    (true, true, 3, Held 3, true, Receive 1 1)
-unfolding bit merge withBit table resets resetValue rowOf writeMask isWritable event noEvent noPlace badByte decode counted overflowed watchdogNext watchdogFires cycleNext stepPeriods linesOnPeriod intervalNext onPeriod hselCleared zeroSync mode changesMode pullsAtBit pullsSda pullsScl sdaPulled sclPulled matches gathered phaseAtRise dataAtRise matchesAtRise statusAtRise holdsAtFall phaseAtFall heldLonger phaseAtPeriod released resetAt fresh busAtMode busAtRise sclRise sclFall onSclDdc2b onScl sclMoved started onSdaDdc2b onSda sdaMoved target writtenTo keptBy written storedBy writeRegister writeKept syncAtHsel mdconWritten statusWritten iistsWritten busRisen busAtIidat iidatWritten pinKind pinMovedAs pinMoved periodClock watchdogClock clockedAs clocked coreAfter wasReset keptAfter next advance takesScl letsGo bounded
+    (true, true, 3, Held A0 3, true, Receive A0 1 1)
+unfolding comparedIn compared phaseLetGo bit merge withBit table resets resetValue rowOf writeMask isWritable event noEvent noPlace badByte decode counted overflowed watchdogNext watchdogFires cycleNext stepPeriods linesOnPeriod intervalNext onPeriod hselCleared zeroSync mode changesMode pullsAtBit pullsSda pullsScl sdaPulled sclPulled matches gathered phaseAtRise dataAtRise matchesAtRise statusAtRise holdsAtFall phaseAtFall heldLonger phaseAtPeriod released resetAt fresh busAtMode busAtRise sclRise sclFall onSclDdc2b onScl sclMoved started onSdaDdc2b onSda sdaMoved target writtenTo keptBy written storedBy writeRegister writeKept syncAtHsel mdconWritten statusWritten iistsWritten busRisen busAtIidat iidatWritten pinKind pinMovedAs pinMoved periodClock watchdogClock clockedAs clocked coreAfter wasReset keptAfter next advance takesScl letsGo bounded
 held-at = refl

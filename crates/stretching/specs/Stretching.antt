@@ -8,6 +8,7 @@ use Rattle.bits.specs.Byte.{pick, bit}
 use Rattle.registers.specs.Names.{MDCON, IIDAT, IISTS, MD12, ENDDC}
 use Rattle.events.specs.declared.Decoded.{Decoded}
 use Rattle.events.specs.declared.Decoded.the-variants.{Read, Write, Pin, Clock, Polarity, Refused}
+use Rattle.bus.specs.declared.OwnAddress.{OwnAddress}
 use Rattle.bus.specs.declared.Phase.the-variants.{Held}
 use Rattle.bus.specs.Bus.{pullsScl}
 use Rattle.chip.specs.declared.Chip.{Chip}
@@ -20,10 +21,11 @@ use Rattle.counting.specs.Counting.{resets, writes, periodClocks, never}
 abbrev pub holdsScl : Chip → Bool
 holdsScl c = pullsScl (c .core .bus .phase)
 
--- it does so in DDC2B, and has for n clocks of 8 µs
+-- it does so in DDC2B, by whichever address it was called, and has for n clocks of 8 µs
 pub record HeldFor (n : ℕ) (c : Chip) : Type 0 where
   pub ddc2b : inDdc2b c ≡ true
-  pub held : c .core .bus .phase ≡ Held n
+  pub matched : OwnAddress
+  pub held : c .core .bus .phase ≡ Held matched n
 
 -- the chip takes SCL low: in DDC2B, at the fall of the SCL line that ends the ninth clock of a byte
 unfoldable pub takesScl : Chip → Decoded → Bool

@@ -5,8 +5,8 @@ use Rattle.registers.specs.Table.{table, rowOf, resetValue, writeMask, readMask
 use Rattle.events.specs.Word.{event, noEvent, noPlace, badByte, decode}
 use Rattle.sync.specs.Sync.{hselCleared, clearOverflow, zeroSync}
 use Rattle.bus.specs.Ddc1.{loadsAtRise, shifterAtRise}
-use Rattle.ddc2b.specs.Ddc2b.{matches, gathered, phaseAtRise, dataAtRise, matchesAtRise, statusAtRise, holdsAtFall, acknowledges, phaseAtFall, heldLonger, phaseAtPeriod}
-use Rattle.bus.specs.Bus.{mode, changesMode, pullsAtBit, pullsSda, pullsScl, sdaPulled, sclPulled}
+use Rattle.ddc2b.specs.Ddc2b.{matches, compared, gathered, phaseLetGo, phaseAtRise, dataAtRise, matchesAtRise, statusAtRise, holdsAtFall, acknowledges, phaseAtFall, heldLonger, phaseAtPeriod}
+use Rattle.bus.specs.Bus.{mode, changesMode, pullsAtBit, pullsSda, pullsScl, sdaPulled, sclPulled, comparedIn}
 use Rattle.reads.specs.Reads.{port0, port1, port2, port3, hvcon, shown, reading}
 use Rattle.chip.specs.State.{released, requested, resetAt, resetCore, fresh}
 use Rattle.edges.specs.Edges.{busAtMode, busAtRise, sclRise, sclFall, leaveDdc1, onSclDdc1, onSclDdc2b, onScl, sclMoved, started, stopped, onSdaDdc2b, onSda, sdaMoved, busAtVsync, loadsAtVsync}
@@ -18,5 +18,5 @@ use Rattle.outcome.specs.Outcome.{coreAfter, wasReset, keptAfter, next}
 
 -- a proof that names this on its `unfolding` line computes steps
 unfoldable pub opened : ℕ
-unfolding bit merge withBit table rowOf resetValue writeMask readMask isWritable isReadable resets event noEvent noPlace badByte decode hselCleared clearOverflow zeroSync loadsAtRise shifterAtRise matches gathered phaseAtRise dataAtRise matchesAtRise statusAtRise holdsAtFall acknowledges phaseAtFall heldLonger phaseAtPeriod mode changesMode pullsAtBit pullsSda pullsScl sdaPulled sclPulled port0 port1 port2 port3 hvcon shown reading released requested resetAt resetCore fresh busAtMode busAtRise sclRise sclFall leaveDdc1 onSclDdc1 onSclDdc2b onScl sclMoved started stopped onSdaDdc2b onSda sdaMoved busAtVsync loadsAtVsync target syncAtHsel mdconWritten clrflgWritten clrwdtWritten iiadrWritten statusWritten iistsWritten busRisen busAtIidat iidatWritten writtenTo keptBy written storedBy writeNumber writeRegister writeKept portKind pinKind port0Moved port1Moved port2Moved p16Moved hsyncMoved vsyncRise vsyncMoved onReset resetMoved pinMovedAs pinMoved coreAfter wasReset keptAfter next advance
+unfolding comparedIn compared phaseLetGo bit merge withBit table rowOf resetValue writeMask readMask isWritable isReadable resets event noEvent noPlace badByte decode hselCleared clearOverflow zeroSync loadsAtRise shifterAtRise matches gathered phaseAtRise dataAtRise matchesAtRise statusAtRise holdsAtFall acknowledges phaseAtFall heldLonger phaseAtPeriod mode changesMode pullsAtBit pullsSda pullsScl sdaPulled sclPulled port0 port1 port2 port3 hvcon shown reading released requested resetAt resetCore fresh busAtMode busAtRise sclRise sclFall leaveDdc1 onSclDdc1 onSclDdc2b onScl sclMoved started stopped onSdaDdc2b onSda sdaMoved busAtVsync loadsAtVsync target syncAtHsel mdconWritten clrflgWritten clrwdtWritten iiadrWritten statusWritten iistsWritten busRisen busAtIidat iidatWritten writtenTo keptBy written storedBy writeNumber writeRegister writeKept portKind pinKind port0Moved port1Moved port2Moved p16Moved hsyncMoved vsyncRise vsyncMoved onReset resetMoved pinMovedAs pinMoved coreAfter wasReset keptAfter next advance
 opened = 0

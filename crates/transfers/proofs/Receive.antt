@@ -13,6 +13,7 @@ use Rattle.registers.specs.Names.{IIDAT}
 use Rattle.registers.specs.Table.{rowOf, readMask, isReadable}
 use Rattle.events.specs.Pins.{SDA, SCL}
 use Rattle.events.specs.declared.Decoded.the-variants.{Write, Pin}
+use Rattle.bus.specs.declared.OwnAddress.{OwnAddress}
 use Rattle.bus.specs.declared.Phase.{Phase}
 use Rattle.bus.specs.declared.Phase.the-variants.{Receive}
 use Rattle.bus.specs.Bus.{line, pullsSda, pullsScl}
@@ -27,54 +28,54 @@ use Rattle.transfers.proofs.Steps.{given, At, after-sda, after-rise, af
 
 -- ---- the phase of a receive
 
-module _ (n bits : ℕ) (h : n < 8) where
-  gathers : (own : ℕ) (sda : Bool) → phaseAtRise own sda (Receive n bits) ≡ Receive (n + 1) (gathered bits sda)
+module _ (m : OwnAddress) (n bits : ℕ) (h : n < 8) where
+  gathers : (own : ℕ) (sda : Bool) → phaseAtRise own sda (Receive m n bits) ≡ Receive m (n + 1) (gathered bits sda)
   unfolding phaseAtRise
   gathers own sda = rw (lt-ltb n 8 h)
 
-  stays : (status : ℕ) → phaseAtFall status (Receive n bits) ≡ Receive n bits
+  stays : (status : ℕ) → phaseAtFall status (Receive m n bits) ≡ Receive m n bits
   unfolding phaseAtFall
   stays status = rw (le-ltb 8 n (omega arith), ne-eqb n 8 (λ e. absurd (omega arith)))
 
-  unpulled : pullsSda (Receive n bits) ≡ false
+  unpulled : pullsSda (Receive m n bits) ≡ false
   unfolding pullsSda
   unpulled = ne-eqb n 9 (λ e. absurd (omega arith))
 
-  status-stays : (sda : Bool) (status : ℕ) → statusAtRise sda (Receive n bits) status ≡ status
+  status-stays : (sda : Bool) (status : ℕ) → statusAtRise sda (Receive m n bits) status ≡ status
   unfolding statusAtRise
   status-stays sda status = refl
 
-  free : pullsScl (Receive n bits) ≡ false
+  free : pullsScl (Receive m n bits) ≡ false
   unfolding pullsScl
   free = refl
 
-data-stays : (n bits : ℕ) → n < 7 → (sda : Bool) (byte : ℕ) → dataAtRise sda (Receive n bits) byte ≡ byte
+data-stays : (m : OwnAddress) (n bits : ℕ) → n < 7 → (sda : Bool) (byte : ℕ) → dataAtRise sda (Receive m n bits) byte ≡ byte
 unfolding dataAtRise
-data-stays n bits h sda byte = rw (ne-eqb n 7 (λ e. absurd (omega arith)))
+data-stays m n bits h sda byte = rw (ne-eqb n 7 (λ e. absurd (omega arith)))
 
-data-taken : (bits : ℕ) (sda : Bool) (byte : ℕ) → dataAtRise sda (Receive 7 bits) byte ≡ gathered bits sda
+data-taken : (m : OwnAddress) (bits : ℕ) (sda : Bool) (byte : ℕ) → dataAtRise sda (Receive m 7 bits) byte ≡ gathered bits sda
 unfolding dataAtRise
-data-taken bits sda byte = refl
+data-taken m bits sda byte = refl
 
 -- ---- a level taken
 
-module _ {n bits status byte : ℕ} {sda : Bool} (c : Chip) (level : Bool) (h : n < 8) (a : At (Receive n bits) status byte false sda (c .core)) where
-  risen : At (Receive (n + 1) (gathered bits level)) status (dataAtRise level (Receive n bits) byte) true level (next (next c (Pin SDA level)) (Pin SCL true) .core)
+module _ {m : OwnAddress} {n bits status byte : ℕ} {sda : Bool} (c : Chip) (level : Bool) (h : n < 8) (a : At (Receive m n bits) status byte false sda (c .core)) where
+  risen : At (Receive m (n + 1) (gathered bits level)) status (dataAtRise level (Receive m n bits) byte) true level (next (next c (Pin SDA level)) (Pin SCL true) .core)
   risen =
       let x : Chip = next c (Pin SDA level) in
-      let b = after-sda c (free n bits h) level a in
-      rw (unpulled n bits h, gathers n bits h (x .core .bus .iiadr) level, status-stays n bits h level status) at
-      (after-rise x (free n bits h) b (rw (status-stays n bits h (line (pullsSda (Receive n bits)) level) status) (b .enddc)))
+      let b = after-sda c (free m n bits h) level a in
+      rw (unpulled m n bits h, gathers m n bits h (x .core .bus .iiadr) level, status-stays m n bits h level status) at
+      (after-rise x (free m n bits h) b (rw (status-stays m n bits h (line (pullsSda (Receive m n bits)) level) status) (b .enddc)))
 
-module _ {n bits status byte : ℕ} {sda : Bool} (P : Chip → Type 0) (c : Chip) (level : Bool) (ws : List ℕ) (h : n < 7) (a : At (Receive n bits) status byte false sda (c .core)) where
+module _ {m : OwnAddress} {n bits status byte : ℕ} {sda : Bool} (P : Chip → Type 0) (c : Chip) (level : Bool) (ws : List ℕ) (h : n < 7) (a : At (Receive m n bits) status byte false sda (c .core)) where
   -- one of the first seven
-  clocked : ((x : Chip) → At (Receive (n + 1) (gathered bits level)) status byte false level (x .core) → P (advanced x ws)) → P (advanced c (putSda level ∷ raiseScl ∷ lowerScl ∷ ws))
+  clocked : ((x : Chip) → At (Receive m (n + 1) (gathered bits level)) status byte false level (x .core) → P (advanced x ws)) → P (advanced c (putSda level ∷ raiseScl ∷ lowerScl ∷ ws))
   clocked k =
       let x : Chip = next c (Pin SDA level) in
       let y : Chip = next x (Pin SCL true) in
       let z : Chip = next y (Pin SCL false) in
-      let b : At (Receive (n + 1) (gathered bits level)) status byte true level (y .core) = rw (data-stays n bits h level byte) at (risen c level (omega arith) a) in
-      let d : At (Receive (n + 1) (gathered bits level)) status byte false level (z .core) = rw (stays (n + 1) (gathered bits level) (omega arith) status) at (after-fall y (free (n + 1) (gathered bits level) (omega arith)) b) in
+      let b : At (Receive m (n + 1) (gathered bits level)) status byte true level (y .core) = rw (data-stays m n bits h level byte) at (risen c level (omega arith) a) in
+      let d : At (Receive m (n + 1) (gathered bits level)) status byte false level (z .core) = rw (stays m (n + 1) (gathered bits level) (omega arith) status) at (after-fall y (free m (n + 1) (gathered bits level) (omega arith)) b) in
       rw (given c (Pin SDA level) (raiseScl ∷ lowerScl ∷ ws) refl, given x (Pin SCL true) (lowerScl ∷ ws) refl, given y (Pin SCL false) ws refl) (k z d)
 
 -- ---- what II DAT shows
@@ -107,11 +108,11 @@ unfolding bit gathered
 top-first a b d e f g h i = same-eq _ _ (T-true _ (at-eight (λ a b d e f g h i. same (bitsOf (bitAnd (eight a b d e f g h i) 255)) (a ∷ b ∷ d ∷ e ∷ f ∷ g ∷ h ∷ i ∷ [])) tt a b d e f g h i))
 
 -- the eighth level completes the byte
-last : {bits status byte : ℕ} {sda : Bool} (c : Chip) (level : Bool) → At (Receive 7 bits) status byte false sda (c .core) →
+last : {m : OwnAddress} {bits status byte : ℕ} {sda : Bool} (c : Chip) (level : Bool) → At (Receive m 7 bits) status byte false sda (c .core) →
     reading (advanced c (putSda level ∷ raiseScl ∷ [])) IIDAT .byte ≡ bitAnd (gathered bits level) 255
-last {bits} {byte = byte} c level a =
+last {m} {bits} {byte = byte} c level a =
     let x : Chip = next c (Pin SDA level) in
-    rw (given c (Pin SDA level) (raiseScl ∷ []) refl, given x (Pin SCL true) [] refl, ← (data-taken bits level byte))
+    rw (given c (Pin SDA level) (raiseScl ∷ []) refl, given x (Pin SCL true) [] refl, ← (data-taken m bits level byte))
     (data-shown (next x (Pin SCL true)) (risen c level (omega arith) a))
 
 -- from a hold with TRX 0

@@ -1,7 +1,7 @@
 -- What each word of a transfer does to a chip in DDC2B with RESET high: a level put on SDA while SCL is low, a rise and a fall of SCL, the write that lets SCL go.
 -- Assumes nothing.
 use mathlib.Core.Path.{_≡_, refl, sym, _∙_}
-use mathlib.Core.Bool.{Bool, true, false}
+use mathlib.Core.Bool.{Bool, true, false, true≢false}
 use mathlib.Core.List.{List, _∷_}
 use Prim.Native.Nat.{ℕ}
 use Rattle.bits.specs.Byte.{bit}
@@ -13,8 +13,11 @@ use Rattle.events.specs.declared.Decoded.the-variants.{Write, Pin}
 use Rattle.events.specs.Word.{encode, InRange}
 use Rattle.events.proofs.EventWord.{decode-encode}
 use Rattle.bus.specs.declared.Mode.the-variants.{Ddc2b}
+use Rattle.bus.specs.declared.OwnAddress.{OwnAddress}
+use Rattle.bus.specs.declared.Comparison.the-variants.{Own}
 use Rattle.bus.specs.declared.Phase.{Phase}
-use Rattle.bus.specs.Bus.{line, edge, mode, modeBy, pullsSda, pullsScl, sdaPulled, sclPulled}
+use Rattle.bus.specs.declared.Phase.the-variants.{Idle, Address, Addressed, Ignoring, Receive, Transmit, Held}
+use Rattle.bus.specs.Bus.{line, edge, mode, modeBy, pullsSda, pullsScl, sdaPulled, sclPulled, comparedIn}
 use Rattle.ddc2b.specs.Ddc2b.{phaseAtRise, dataAtRise, statusAtRise, phaseAtFall, phaseLetGo}
 use Rattle.chip.specs.declared.Core.{Core}
 use Rattle.chip.specs.declared.Chip.{Chip}
@@ -124,10 +127,38 @@ mode-bits true md h = (cc, cc)
 mode-bits false true h = (cc, cc)
 mode-bits false false h = (refl, refl)
 
+-- a hold is one of a transfer with the chip
+pub held-own : (p : Phase) → pullsScl p ≡ true → (m : OwnAddress) × (comparedIn p ≡ Own m)
+unfolding pullsScl comparedIn
+held-own Idle h = absurd (true≢false (sym h))
+held-own (Address count bits) h = absurd (true≢false (sym h))
+held-own (Addressed matched bits ninth) h = absurd (true≢false (sym h))
+held-own Ignoring h = absurd (true≢false (sym h))
+held-own (Receive matched count bits) h = absurd (true≢false (sym h))
+held-own (Transmit matched count byte) h = absurd (true≢false (sym h))
+held-own (Held matched clocks) h = (matched, refl)
+
+-- the byte that begins then
+abbrev pub begun : OwnAddress → Bool → ℕ → Phase
+begun m true byte = Transmit m 1 byte
+begun m false byte = Receive m 0 0
+
+begun-is : (m : OwnAddress) (trx : Bool) (byte : ℕ) → phaseLetGo (Own m) trx byte ≡ begun m trx byte
+unfolding phaseLetGo
+begun-is m true byte = refl
+begun-is m false byte = refl
+
+-- the address that the chip was called by
+abbrev pub calledBy : {trx : Bool} (c : Chip) → Holding trx c → OwnAddress
+calledBy c h = held-own (c .core .bus .phase) (h .held) .0
+
 module _ (c : Chip) {trx : Bool} (h : Holding trx c) (byte : ℕ) where
-  pub let-go : At (phaseLetGo trx byte) (c .core .bus .iists) (updated IIDAT (c .core .bus .iidat) byte) false (c .core .sda) (next c (Write IIDAT byte) .core)
+  let-go-by : (m : OwnAddress) → comparedIn (c .core .bus .phase) ≡ Own m → At (begun m trx byte) (c .core .bus .iists) (updated IIDAT (c .core .bus .iidat) byte) false (c .core .sda) (next c (Write IIDAT byte) .core)
   unfolding next coreAfter writeRegister written target writtenTo iidatWritten busAtIidat busRisen isWritable rowOf mode bit
-  let-go =
+  let-go-by m called =
       let bits = mode-bits (bit 3 (c .core .bus .iists)) (bit 0 (c .core .mdcon)) (h .ddc2b) in
       let direction : bit TRX (c .core .bus .iists) ≡ trx = sym (status-shown c TRX (h .reset) refl) ∙ h .direction in
-      rw (h .reset, h .held, h .low, direction) (record { reset = refl; enddc = bits .0; md = bits .1; phase = refl; iists = refl; iidat = refl; scl = refl; sda = refl })
+      rw (h .reset, h .held, h .low, direction, called, begun-is m trx byte) (record { reset = refl; enddc = bits .0; md = bits .1; phase = refl; iists = refl; iidat = refl; scl = refl; sda = refl })
+
+  pub let-go : At (begun (calledBy c h) trx byte) (c .core .bus .iists) (updated IIDAT (c .core .bus .iidat) byte) false (c .core .sda) (next c (Write IIDAT byte) .core)
+  let-go = let-go-by (calledBy c h) (held-own (c .core .bus .phase) (h .held) .1)
