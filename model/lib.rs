@@ -14,3 +14,4 @@ pub mod replay;
 mod tests;
 pub mod traffic;
 pub mod vcd;
+pub mod why;
