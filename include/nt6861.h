@@ -64,6 +64,19 @@ uint8_t nt6861_read_block(uint32_t number, const uint8_t *bytes, size_t bytes_le
  * more than 126 words, then 17 for an area of another length. */
 uint8_t nt6861_write_block(uint16_t number, const uint32_t *words, size_t words_length, uint8_t *area, size_t area_length);
 
+/* ---- why request lines are up (Wish 3): libwhy_capi.a
+ *
+ * Gives the words to the state in an area of 128 bytes (docs/STATE.md), which stays as it is, and tells of each source why its request
+ * line is as it is after them. told has twelve places, two for each of V, E, R, A, D, S in this order: a code, and the place of a word,
+ * from 0 (0 where the code names no event).
+ *
+ *   0 not requested        1 flag set at the start and never cleared
+ *   the event that last took the flag from 0 to 1:  2 Vsync rise   3 P16 rise   4 timer
+ *   5, 6, 7 matched address: A0H, II ADR, both      8 ninth clock  9 DDC1 load  10 SCL fall
+ *
+ * Returns 0. Or tells nothing and returns 15 for an area of another length, then 8 for bytes that no well formed state is written as. */
+uint8_t nt6861_why(const uint8_t *area, size_t area_length, const uint32_t *words, size_t count, uint64_t told[12]);
+
 #ifdef __cplusplus
 }
 #endif

@@ -5,10 +5,16 @@ use nt6861_model::chip::{Chip, Outcome};
 use nt6861_model::traffic::{Rng, Traffic};
 use nt6861_model::why::{reason_text, why, Reason, Sort, SOURCES};
 use std::collections::BTreeSet;
+use std::time::Instant;
 
 #[link(name = "why_capi", kind = "static")]
 extern "C" {
     fn nt6861_why(area: *const u8, bytes: usize, words: *const u32, count: usize, told: *mut [u64; 12]) -> u8;
+}
+
+#[link(name = "capi", kind = "static")]
+extern "C" {
+    fn nt6861_run(words: *const u32, count: usize, answers: *mut u32, places: usize) -> u8;
 }
 
 fn call(area: &[u8], words: &[u32], told: &mut [u64; 12]) -> u8 {
@@ -173,7 +179,32 @@ fn refused() {
     assert_eq!(told, [7; 12]);
 }
 
+/// Words a second of the call and of the list call on the same words, the best of seven runs in turn.
+fn bench() {
+    println!("words, why in M words/s, list call in M words/s, ratio");
+    for count in [62_500, 250_000, 1_000_000, 4_000_000] {
+        let words: Vec<u32> = Traffic::new(1).take(count).collect();
+        let (mut answers, mut told) = (vec![0u32; count], [0; 12]);
+        let start = area(0, 0);
+        let mut best = [f64::MAX; 2];
+        for _ in 0..7 {
+            let begin = Instant::now();
+            assert_eq!(call(&start, &words, &mut told), 0);
+            best[0] = best[0].min(begin.elapsed().as_secs_f64());
+            let begin = Instant::now();
+            // A slice passes as a pointer and a length.
+            assert_eq!(unsafe { nt6861_run(words.as_ptr(), count, answers.as_mut_ptr(), count) }, 0);
+            best[1] = best[1].min(begin.elapsed().as_secs_f64());
+        }
+        let rate = |seconds: f64| count as f64 / seconds / 1e6;
+        println!("{count}, {:.1}, {:.1}, {:.2}", rate(best[0]), rate(best[1]), best[1] / best[0]);
+    }
+}
+
 fn main() {
+    if std::env::args().nth(1).as_deref() == Some("bench") {
+        return bench();
+    }
     let worked = hand_worked();
     refused();
     let mut rng = Rng::new(3);

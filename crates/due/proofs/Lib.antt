@@ -2,3 +2,4 @@ pub mod Address
 pub mod Steps
 pub mod Lists
 pub mod Reasons
+pub mod Refused

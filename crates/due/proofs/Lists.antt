@@ -69,7 +69,7 @@ module _ (s : Source) (c : Chip) (w : ℕ) (ws : List ℕ) where
 
 -- ---- a list
 
-noted-word : (s : Source) (c : Chip) (w place : ℕ) →
+pub noted-word : (s : Source) (c : Chip) (w place : ℕ) →
     Step s c (decode w) place (noted s place (c .core .irqx) (modeOf (c .core)) (advance c (decode w) .chip .core) Never)
 unfolding advance
 noted-word s c w place = noted-step s c (decode w) (decode-in-range w) place
