@@ -55,7 +55,7 @@ fn next_place(place: u64) -> u64
 }
 
 // Before the first word.
-// Wrong answers: places from 1; a fresh chip whatever the state is.
+// Wrong answers: places from 1; a clock of 8 µs given before the first word.
 pub fn start(c: Chip) -> Followed
     ensures { λ r. ⌜ r ≡ startOf c ⌝ }
 {
@@ -68,7 +68,7 @@ pub fn start(c: Chip) -> Followed
 
 // Every word to the chip, and the last changes noted. The loop keeps the array of stored registers and the core as two locals, so that
 // neither is copied.
-// Wrong answers: each word given to the first state; places counted by two.
+// Wrong answers: every change told at place 0; the flags after a word taken for those before it.
 pub fn follow(f: Followed, words: &[u32]) -> Followed
     ensures { λ r. ⌜ r ≡ followed f (now (words .entry)) ⌝ }
 {
@@ -111,7 +111,7 @@ fn reason_by(requested: bool, last: Last) -> Reason
 }
 
 // The reasons after the words followed.
-// Wrong answers: V told of the flag, whether enabled or not; the last change of E told of V.
+// Wrong answers: V told of the flag, whether enabled or not; the line of E looked at for V.
 pub fn reasons_after(f: Followed) -> Reasons
     ensures { λ r. ⌜ r ≡ reasonsOf f ⌝ }
 {
@@ -135,7 +135,7 @@ pub fn reasons_after(f: Followed) -> Reasons
 }
 
 // Why the lines are as they are after the words. An ill formed state is told before all else.
-// Wrong answers: an ill formed state not told where there are no words; the reasons before the words.
+// Wrong answers: an ill formed state told by the state after the words; V told before the words.
 pub fn why(c: Chip, words: &[u32]) -> Explanation
     ensures { λ r. ⌜ r ≡ whyOf c (now (words .entry)) ⌝ }
 {

@@ -113,7 +113,7 @@ fn all_noted(last: LastSet, place: u64, irqx: u8, mode: Mode, after: Core) -> La
 
 // What was the last change of each flag, once the word at this place has been carried out. Most words leave IRQX as it was, and
 // then nothing is looked at.
-// Wrong answers: a flag noted that was 1 already; the sort of D told by the mode of the other sort.
+// Wrong answers: a flag that is cleared noted as set; every matched address told as both.
 pub fn noted(last: LastSet, place: u64, irqx: u8, mode: Mode, after: Core) -> LastSet
     ensures { λ r. ⌜ r ≡ allNoted place irqx mode after last ⌝ }
 {

@@ -79,7 +79,7 @@ fn numbers_of(reasons: Reasons) -> [u64; 12]
 
 // Tells why the lines are as they are after the words, from the state in the area, which stays as it is. Or gives 15 or 8 for the area, and
 // tells nothing.
-// Wrong answers: the numbers told of a refused area; the reasons before the words.
+// Wrong answers: the code of a load for the ninth clock; an area refused with 8 read, and a good one not.
 #[no_mangle]
 pub extern "C" fn nt6861_why(area: &[u8], words: &[u32], told: &mut [u64; 12]) -> u8
     ensures { λ r. ⌜ (r ≡ whyNumberIn (now (area .entry)) (now (words .entry))) × (now (told .exit) ≡ toldIn (now (area .entry)) (now (words .entry)) (now (told .entry))) ⌝ }
