@@ -6,13 +6,13 @@ use std::time::Instant;
 
 #[link(name = "capi", kind = "static")]
 extern "C" {
-    fn nt6861_run(words: *const u32, count: usize, answers: *mut u32, places: usize) -> u8;
+    fn nt6861_replay(words: *const u32, count: usize, answers: *mut u32, places: usize) -> u8;
 }
 
 /// The list call from a fresh chip.
 fn proved(words: &[u32], answers: &mut [u32]) -> u8 {
     // A slice passes as a pointer and a length, and the call refuses fewer places than words.
-    unsafe { nt6861_run(words.as_ptr(), words.len(), answers.as_mut_ptr(), answers.len()) }
+    unsafe { nt6861_replay(words.as_ptr(), words.len(), answers.as_mut_ptr(), answers.len()) }
 }
 
 fn model(words: &[u32], answers: &mut [u32]) {
