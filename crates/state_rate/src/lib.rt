@@ -37,7 +37,7 @@ fn asked(c: Chip, which: u32, hertz: &mut f64) -> u32
 
 // The field rate (0) or the line rate (1) of the state in the area, to `hertz`: 0; or 1 nothing latched, 2 overflow, and 15, 8, or 2
 // for another `which` in bits 31 to 24, and `hertz` as it was.
-// Wrong answers: the line rate for 0; a rate of 0 written where nothing is latched.
+// Wrong answers: the field rate, whichever is asked for; the number without the rate.
 pub fn rate(area: &[u8], which: u32, hertz: &mut f64) -> u32
     ensures { λ r. ⌜ (r ≡ rateIn (now (area .entry)) which) × (now (hertz .exit) ≡ hertzIn (now (area .entry)) which (now (hertz .entry))) ⌝ }
 {
