@@ -1,14 +1,13 @@
 -- A state in bytes is one again after every step and list call, and words given one by one are the words of one list call.
 -- Assumes nothing.
-use Prim.Native.Nat.{ℕ}
+use Prim.Native.Nat.{ℕ, _/_}
 use mathlib.Core.Path.{_≡_, refl, sym, ap, _∙_}
 use mathlib.Core.Bool.{Bool, true, false}
 use mathlib.Core.List.{List, [], _∷_, _++_}
 use lib.Dec.{eqb, ltb}
-use lib.ListN.{length, drop, set, length-set}
+use lib.ListN.{length, drop, length-set}
 use borrow.Author.Tests.{eq-eqb, eqb-true}
-use Rattle.bits.specs.Byte.{pick}
-use Rattle.registers.specs.Table.{resets, table}
+use Rattle.registers.specs.Table.{resets}
 use Rattle.events.specs.Word.{decode}
 use Rattle.chip.specs.declared.Chip.{Chip}
 use Rattle.chip.specs.declared.Kept.{Kept}
@@ -17,14 +16,15 @@ use Rattle.chip.specs.State.{fresh, keep}
 use Rattle.well_formed.specs.WellFormed.{wellFormed}
 use Rattle.outcome.specs.Outcome.{next, keptAfter}
 use Rattle.step.specs.Step.{step, advance}
-use Rattle.run.specs.Run.{after, answers, advanced, advancedAnswers, run, runAnswers}
+use Rattle.run.specs.Run.{after, answers, run, runAnswers}
 use Rattle.invariant.proofs.WellFormed.{fresh-well-formed, step-well-formed}
+use Rattle.invariant.proofs.Numbers.{refused-keeps}
 use Rattle.listcall.proofs.Runs.{step-advances, after-advanced, answers-advanced, after-well-formed}
 use Rattle.state_bytes.specs.Layout.{bytesOf}
 use Rattle.state_area.specs.Area.{holds, loaded, storeNumber, storeLeft}
 use Rattle.state_area.proofs.Accepted.{load-written, loaded-well, loaded-written, loaded-registers}
-use Rattle.state_calls.specs.Calls.{holdsState, stepArea, stepAnswer, runArea, runPlaces, runNumber}
-use Rattle.state_calls.proofs.Steps.{step-area, step-answer, run-area, run-places, run-number}
+use Rattle.state_calls.specs.Calls.{holdsState, stepArea, stepAnswer, runArea, runPlaces}
+use Rattle.state_calls.proofs.Steps.{step-area, step-answer, step-refused, unmoved}
 use Rattle.byte_form.specs.Bytes.{bytesAfter, bytesAnswers}
 
 -- ---- the array keeps its 38 places
@@ -109,3 +109,13 @@ module _ (s : List ℕ) (held : holdsState s ≡ true) where
   call-answers ws ps short =
       let c = loaded s .state in
       rw (held, well, short) (ap (λ (l : List ℕ). l ++ drop (length ws) ps) (sym (answers-advanced c ws well) ∙ sym (answers-given ws)))
+
+-- ---- every refusal, 1 to 6, 8 and 15: the number in bits 31..24 is not 0, and the area keeps its bytes
+
+refused-by : (s : List ℕ) (w : ℕ) (b : Bool) → holdsState s ≡ b → (stepAnswer s w / 16777216 ≡ 0 → ⊥) → stepArea s w ≡ s
+unfolding stepAnswer
+refused-by s w true held h = unmoved s held w (refused-keeps (loaded s .state) w (rw held at h))
+refused-by s w false held h = step-refused s held w .0
+
+pub refused-untouched : (s : List ℕ) (w : ℕ) → (stepAnswer s w / 16777216 ≡ 0 → ⊥) → stepArea s w ≡ s
+refused-untouched s w h = refused-by s w (holdsState s) refl h
