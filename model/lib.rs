@@ -10,6 +10,7 @@ pub mod edid;
 pub mod foreign;
 pub mod recordings;
 pub mod replay;
+pub mod state;
 #[cfg(test)]
 mod tests;
 pub mod traffic;

@@ -226,7 +226,7 @@ fn put_at(area: &mut [u8], at: usize, part: &[u8])
 }
 
 // The bytes of a state: its core, zeros, and its 38 stored registers at the end.
-// Wrong answers: the registers one place early; the core's bytes left zero.
+// Wrong answers: the registers in front; the bytes of the core alone.
 pub fn bytes_of(c: Chip) -> [u8; 128]
     ensures { λ r. ⌜ r ≡ bytesOf c ⌝ }
 {
@@ -312,7 +312,7 @@ fn registers_of(area: &[u8]) -> [u8; 38]
 }
 
 // The state that 128 bytes are read as, whatever they are.
-// Wrong answers: the registers read one place early; SDA and SCL exchanged.
+// Wrong answers: the bytes read one place late; the registers not read.
 pub fn state_of(bytes: &[u8; 128]) -> Chip
     ensures { λ r. ⌜ r ≡ stateOf (now (bytes .entry)) ⌝ }
 {

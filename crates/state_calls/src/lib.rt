@@ -13,7 +13,7 @@ fn in_top_byte(number: u8) -> u32
 }
 
 // A fresh state into the area.
-// Wrong answers: 8 for another length; the area as it was.
+// Wrong answers: 0 for every length; the area as it was.
 pub fn fresh(area: &mut [u8]) -> u8
     ensures { λ r. ⌜ (r ≡ storeNumber freshOf (now (area .entry))) × (now (area .exit) ≡ storeLeft freshOf (now (area .entry))) ⌝ }
 {
@@ -21,7 +21,7 @@ pub fn fresh(area: &mut [u8]) -> u8
 }
 
 // Steps the state in the area by a word, and answers.
-// Wrong answers: the state not written back; the number of a refused area a bit too low.
+// Wrong answers: the answer to a word of zeros; the state not written back.
 pub fn step(area: &mut [u8], word: u32) -> u32
     ensures { λ r. ⌜ (r ≡ stepAnswer (now (area .entry)) word) × (now (area .exit) ≡ stepArea (now (area .entry)) word) ⌝ }
 {
@@ -39,7 +39,7 @@ pub fn step(area: &mut [u8], word: u32) -> u32
 }
 
 // The list call on the state in the area.
-// Wrong answers: the first state written back; 8 for a wrong length.
+// Wrong answers: the state not written back; 0 whatever the number of answer places.
 pub fn run(area: &mut [u8], words: &[u32], answers: &mut [u32]) -> u8
     ensures { λ r. ⌜ (r ≡ runNumber (now (area .entry)) (now (words .entry)) (now (answers .entry))) × (now (area .exit) ≡ runArea (now (area .entry)) (now (words .entry)) (now (answers .entry))) × (now (answers .exit) ≡ runPlaces (now (area .entry)) (now (words .entry)) (now (answers .entry))) ⌝ }
 {
@@ -57,7 +57,7 @@ pub fn run(area: &mut [u8], words: &[u32], answers: &mut [u32]) -> u8
 }
 
 // For how many clocks of 8 µs SCL has been held, in bits 15 to 0; 15 or 8 in bits 31 to 24.
-// Wrong answers: a wrong length told below the number's place; the hold of a fresh state.
+// Wrong answers: the address outcome; one clock more.
 pub fn hold(area: &[u8]) -> u32
     ensures { λ r. ⌜ r ≡ holdIn (now (area .entry)) ⌝ }
 {
@@ -72,7 +72,7 @@ pub fn hold(area: &[u8]) -> u32
 }
 
 // By which address the current transfer was called: 0 none, 1 A0H, 2 II ADR, 3 both; 15 or 8 in bits 31 to 24.
-// Wrong answers: a wrong length told as none; the outcome of a fresh state.
+// Wrong answers: none, always; the hold.
 pub fn called_by(area: &[u8]) -> u32
     ensures { λ r. ⌜ r ≡ outcomeIn (now (area .entry)) ⌝ }
 {
