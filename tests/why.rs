@@ -1,7 +1,11 @@
 //! The proved reasons of request lines, linked from their static library, beside the independent model's: hand-worked lists for each sort
-//! and each answer, and generated words from states with flags set.
+//! and each answer, and generated words from states that words have led to and from states with flags set.
+
+#[allow(dead_code)]
+mod nt6861;
 
 use nt6861_model::chip::{Chip, Outcome};
+use nt6861_model::state;
 use nt6861_model::traffic::{Rng, Traffic};
 use nt6861_model::why::{reason_text, why, Reason, Sort, SOURCES};
 use std::collections::BTreeSet;
@@ -12,35 +16,12 @@ extern "C" {
     fn nt6861_why(area: *const u8, bytes: usize, words: *const u32, count: usize, told: *mut [u64; 12]) -> u8;
 }
 
-#[link(name = "capi", kind = "static")]
-extern "C" {
-    fn nt6861_run(words: *const u32, count: usize, answers: *mut u32, places: usize) -> u8;
-}
-
 fn call(area: &[u8], words: &[u32], told: &mut [u64; 12]) -> u8 {
     // A slice passes as a pointer and a length, an array by its pointer.
     unsafe { nt6861_why(area.as_ptr(), area.len(), words.as_ptr(), words.len(), told) }
 }
 
-/// The reset values of the 38 registers, by document 01.
-const RESETS: [u8; 38] = [
-    0xFF, 0x7F, 0xFF, 0xFF, 0x03, 0x07, 0x2F, 0, 0, 0, 0, 0xFF, 0xFF, 0xC0, 0, 0, 0, 0, 0, 0xFF, 0, 0x08, 0, 0x03, 0x80, 0x80, 0x80, 0x80,
-    0x80, 0x80, 0x80, 0x80, 0x80, 0x80, 0x80, 0x80, 0x80, 0x80,
-];
-
-/// A fresh state as bytes, by docs/STATE.md, with these flags in IRQX and these enable bits in IEX.
-fn area(irqx: u8, iex: u8) -> [u8; 128] {
-    let mut area = [0; 128];
-    area[0] = irqx;
-    area[1] = 0x07; // MDCON
-    area[2] = 0x0F; // the polarity bits
-    area[17..22].copy_from_slice(&[0xFF, 0x08, 0, 0xFF, 9]); // II ADR, II STS, II DAT, shift register, edges left
-    area[28..36].copy_from_slice(&[0xFF, 0x7F, 0xFF, 1, 1, 1, 1, 1]); // outside levels
-    area[90..].copy_from_slice(&RESETS);
-    area[90 + 0x0F] = iex;
-    area
-}
-
+/// A fresh chip with these flags in IRQX and these enable bits in IEX.
 fn chip(irqx: u8, iex: u8) -> Chip {
     let mut chip = Chip::fresh();
     chip.irqx = irqx;
@@ -69,9 +50,10 @@ fn reason(code: u64, place: u64) -> Reason {
     Reason::Event(place as usize, sort)
 }
 
-fn proved(irqx: u8, iex: u8, words: &[u32]) -> [Reason; 6] {
+/// From the chip as bytes, by docs/STATE.md.
+fn proved(chip: &Chip, words: &[u32]) -> [Reason; 6] {
     let mut told = [u64::MAX; 12];
-    assert_eq!(call(&area(irqx, iex), words, &mut told), 0);
+    assert_eq!(call(&state::write(chip), words, &mut told), 0);
     std::array::from_fn(|source| reason(told[2 * source], told[2 * source + 1]))
 }
 
@@ -147,9 +129,10 @@ fn cases() -> Vec<(&'static str, u8, u8, Vec<u32>, &'static str)> {
 
 fn hand_worked() -> usize {
     for (name, irqx, iex, words, expected) in cases() {
-        let told: Vec<String> = text(proved(irqx, iex, &words)).split("; ").filter(|line| !line.ends_with("not-requested")).map(String::from).collect();
+        let given = proved(&chip(irqx, iex), &words);
+        let told: Vec<String> = text(given).split("; ").filter(|line| !line.ends_with("not-requested")).map(String::from).collect();
         assert_eq!(told.join("; "), expected, "proved: {name}");
-        assert_eq!(proved(irqx, iex, &words), why(chip(irqx, iex), &words), "model: {name}");
+        assert_eq!(given, why(chip(irqx, iex), &words), "model: {name}");
     }
     cases().len()
 }
@@ -157,7 +140,7 @@ fn hand_worked() -> usize {
 /// Areas that are refused: nothing is told, whatever the words are.
 fn refused() {
     let mut told = [7; 12];
-    let good = area(0, 0);
+    let good = state::write(&Chip::fresh());
     for length in [0, 1, 127] {
         assert_eq!(call(&good[..length], &[0x0100_0600], &mut told), 15, "{length} bytes");
     }
@@ -185,15 +168,14 @@ fn bench() {
     for count in [62_500, 250_000, 1_000_000, 4_000_000] {
         let words: Vec<u32> = Traffic::new(1).take(count).collect();
         let (mut answers, mut told) = (vec![0u32; count], [0; 12]);
-        let start = area(0, 0);
+        let start = state::write(&Chip::fresh());
         let mut best = [f64::MAX; 2];
         for _ in 0..7 {
             let begin = Instant::now();
             assert_eq!(call(&start, &words, &mut told), 0);
             best[0] = best[0].min(begin.elapsed().as_secs_f64());
             let begin = Instant::now();
-            // A slice passes as a pointer and a length.
-            assert_eq!(unsafe { nt6861_run(words.as_ptr(), count, answers.as_mut_ptr(), count) }, 0);
+            assert_eq!(nt6861::replay(&words, &mut answers), 0);
             best[1] = best[1].min(begin.elapsed().as_secs_f64());
         }
         let rate = |seconds: f64| count as f64 / seconds / 1e6;
@@ -215,11 +197,17 @@ fn main() {
         for _ in 0..60 {
             let from = rng.below(words.len() as u32) as usize;
             let to = from + rng.below((words.len() - from) as u32 + 1) as usize;
-            let (irqx, iex) = (rng.byte() & 0x3F, rng.byte() & 0x3F);
-            let (irqx, iex) = if rng.flip() { (irqx, iex) } else { (0, 0x3F) };
-            let (given, expected) = (proved(irqx, iex, &words[from..to]), why(chip(irqx, iex), &words[from..to]));
+            // from the chip that the words before have left, or from a fresh one with flags set
+            let mut start = chip(rng.byte() & 0x3F, rng.byte() & 0x3F);
+            if rng.flip() {
+                start = Chip::fresh();
+                words[..from].iter().for_each(|&word| {
+                    start.step(word);
+                });
+            }
+            let (given, expected) = (proved(&start, &words[from..to]), why(start, &words[from..to]));
             if given != expected {
-                println!("why: seed {seed}, words {from} to {to}, IRQX {irqx:02X}, IEX {iex:02X}\n  proved {}\n  model  {}", text(given), text(expected));
+                println!("why: seed {seed}, words {from} to {to} from {start:?}\n  proved {}\n  model  {}", text(given), text(expected));
                 std::process::exit(1);
             }
             for (reason, (letter, _)) in given.iter().zip(SOURCES) {
@@ -232,5 +220,5 @@ fn main() {
     }
     // two answers without an event for each source, and nine sorts
     assert_eq!(seen.len(), 21, "not every answer was reached: {seen:?}");
-    println!("why: {worked} hand-worked lists, {lists} generated ones from states with flags, and refused areas agree; all 21 answers occur");
+    println!("why: {worked} hand-worked lists, {lists} generated ones from states reached and states with flags set, and refused areas agree; all 21 answers occur");
 }
