@@ -37,6 +37,8 @@ for count in 16383 16384 16385 32768 70000; do
     done
 done
 bad=0
+# proves and builds the program where that is not done yet, so that nothing is said of it below
+./why < /dev/null > "$work/log" 2>&1 || { cat "$work/log"; exit 1; }
 said() {
     local status=0
     "${@:3}" > "$work/out" 2> "$work/err" || status=$?
