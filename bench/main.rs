@@ -1,19 +1,12 @@
-//! Words a second: the proved list call, linked from its static library, beside the independent model in the same run.
-//! Usage: bench SEED COUNT
+//! Words a second: the proved list call, linked from its static library, beside the independent model in the same run; then the calls
+//! on a state in bytes. Usage: bench SEED COUNT
 
-use nt6861_model::{chip, traffic};
+#[path = "../tests/nt6861.rs"]
+#[allow(dead_code)]
+mod nt6861;
+
+use nt6861_model::{chip, state, traffic};
 use std::time::Instant;
-
-#[link(name = "capi", kind = "static")]
-extern "C" {
-    fn nt6861_run(words: *const u32, count: usize, answers: *mut u32, places: usize) -> u8;
-}
-
-/// The list call from a fresh chip.
-fn proved(words: &[u32], answers: &mut [u32]) -> u8 {
-    // A slice passes as a pointer and a length, and the call refuses fewer places than words.
-    unsafe { nt6861_run(words.as_ptr(), words.len(), answers.as_mut_ptr(), answers.len()) }
-}
 
 fn model(words: &[u32], answers: &mut [u32]) {
     let mut chip = chip::Chip::fresh();
@@ -22,15 +15,43 @@ fn model(words: &[u32], answers: &mut [u32]) {
     }
 }
 
-/// The best of five runs, in million words a second.
-fn rate(count: usize, mut run: impl FnMut()) -> f64 {
+/// The best of at least five runs, in seconds; short runs are made again for half a second, so that other work disturbs the best one
+/// little.
+fn seconds(mut run: impl FnMut()) -> f64 {
+    let begin = Instant::now();
     let mut best = f64::MAX;
-    for _ in 0..5 {
+    let mut runs = 0;
+    while runs < 5 || begin.elapsed().as_secs_f64() < 0.5 {
         let start = Instant::now();
         run();
         best = best.min(start.elapsed().as_secs_f64());
+        runs += 1;
     }
-    count as f64 / best / 1e6
+    best
+}
+
+/// Calls on a fresh state in bytes, a list of so many words at a time, in ns a word.
+fn in_lists(words: &[u32], answers: &mut [u32], of: usize) -> f64 {
+    let mut area = [0u8; state::SIZE];
+    let best = seconds(|| {
+        assert_eq!(nt6861::fresh(&mut area), 0);
+        for (part, places) in words.chunks(of).zip(answers.chunks_mut(of)) {
+            assert_eq!(nt6861::run(&mut area, part, places), 0);
+        }
+    });
+    best * 1e9 / words.len() as f64
+}
+
+/// One step at a time on a state in bytes.
+fn by_steps(words: &[u32], answers: &mut [u32], step: fn(&mut [u8], u32) -> u32) -> f64 {
+    let mut area = [0u8; state::SIZE];
+    let best = seconds(|| {
+        assert_eq!(nt6861::fresh(&mut area), 0);
+        for (answer, word) in answers.iter_mut().zip(words) {
+            *answer = step(&mut area, *word);
+        }
+    });
+    best * 1e9 / words.len() as f64
 }
 
 fn main() {
@@ -42,9 +63,26 @@ fn main() {
         let words: Vec<u32> = traffic::Traffic::new(seed).take(count).collect();
         let mut ours = vec![0u32; count];
         let mut theirs = vec![0u32; count];
-        let a = rate(count, || assert_eq!(proved(&words, &mut ours), 0));
-        let b = rate(count, || model(&words, &mut theirs));
+        let rate = |seconds: f64| count as f64 / seconds / 1e6;
+        let a = rate(seconds(|| assert_eq!(nt6861::replay(&words, &mut ours), 0)));
+        let b = rate(seconds(|| model(&words, &mut theirs)));
         assert!(ours == theirs, "the answers differ");
         println!("{count}, {a:.1}, {b:.1}, {:.2}", a / b);
     }
+
+    let count = most / 400;
+    let words: Vec<u32> = traffic::Traffic::new(seed).take(count).collect();
+    let mut expected = vec![0u32; count];
+    model(&words, &mut expected);
+    let mut answers = vec![0u32; count];
+    println!("on bytes, {count} words, ns a word");
+    println!("step, {:.1}", by_steps(&words, &mut answers, nt6861::step));
+    assert!(answers == expected, "the answers differ");
+    println!("step of the model, {:.1}", by_steps(&words, &mut answers, state::step));
+    assert!(answers == expected, "the answers differ");
+    for of in [1, 4, 16, 64, 1024, count] {
+        println!("list calls of {of}, {:.1}", in_lists(&words, &mut answers, of));
+        assert!(answers == expected, "the answers differ");
+    }
+    println!("one list call from a fresh chip, {:.1}", seconds(|| assert_eq!(nt6861::replay(&words, &mut answers), 0)) * 1e9 / count as f64);
 }

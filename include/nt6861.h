@@ -10,6 +10,39 @@
 extern "C" {
 #endif
 
+/* ---- the chip: library capi
+ *
+ * A chip is a state in an area of 128 bytes that the caller lends (docs/STATE.md). It may be copied, stored in a file and lent again;
+ * the library keeps nothing. An area of another length answers 15, and bytes that no well formed state is written as answer 8,
+ * both before all else. On every refusal the area keeps its bytes. An area is zeros at first or anything else: nt6861_fresh makes
+ * it a chip. Areas, words, answers and hertz that are lent to one call do not overlap. */
+
+/* A fresh chip into the area: reset values, all outside levels 1. Gives 0, or 15. */
+uint8_t nt6861_fresh(uint8_t *area, size_t length);
+
+/* Gives one event word to the chip. The answer: bits 31..24 the number (0, or 15, 8, 1 to 6), bit 16 a reset by the watchdog, bits
+ * 13..8 the requests after it, bits 7..0 the byte of a read; the others are zero. 0F000000 is 15, 08000000 is 8. */
+uint32_t nt6861_step(uint8_t *area, size_t length, uint32_t word);
+
+/* Gives `count` words to the chip and writes the answer to each to the place of the same index. Gives 0; or 15, 8, then 7 where there
+ * are fewer answer places than words, and writes nothing. Places past the words keep their content. */
+uint8_t nt6861_run(uint8_t *area, size_t length, const uint32_t *words, size_t count, uint32_t *answers, size_t places);
+
+/* The same from a fresh chip, which is not kept: gives 0, or 7 and writes nothing. */
+uint8_t nt6861_replay(const uint32_t *words, size_t count, uint32_t *answers, size_t places);
+
+/* How long the chip has held SCL low: bits 31..24 the number (0, 15 or 8), below it the clocks of 8 us, 0 to 65535; 0 too where SCL is
+ * not held. */
+uint32_t nt6861_hold(const uint8_t *area, size_t length);
+
+/* By which of its addresses the chip was called in the transfer under way: bits 31..24 the number (0, 15 or 8), below it 0 none, 1 A0H,
+ * 2 II ADR, 3 both. */
+uint32_t nt6861_outcome(const uint8_t *area, size_t length);
+
+/* A rate in Hz, `which` being 0 for fields and 1 for lines: gives 0 and writes it to `hertz`. Or writes nothing and gives 1 where
+ * nothing is latched, 2 where a counter is in overflow, and in bits 31..24 the number 15, 8, or 2 for another `which`. */
+uint32_t nt6861_rate(const uint8_t *area, size_t length, uint32_t which, double *hertz);
+
 /* EDID base blocks: library edid_capi.
  *
  * The check of a block before it goes into RAM. Reads `length` bytes at `block`, of any length, and keeps nothing. Gives 0 for an
@@ -74,6 +107,19 @@ uint8_t nt6861_write_block(uint16_t number, const uint32_t *words, size_t words_
  * are fewer places than addresses; `changes_length` / 16 + 1 places are always enough. The time grows at most with the square of the
  * length. */
 uint8_t nt6861_addresses(uint8_t ii_adr, const uint16_t *changes, size_t changes_length, uint16_t *found, size_t found_length, size_t *count);
+
+/* ---- why request lines are up (Wish 3): libwhy_capi.a
+ *
+ * Gives the words to the state in an area of 128 bytes (docs/STATE.md), which stays as it is, and tells of each source why its request
+ * line is as it is after them. told has twelve places, two for each of V, E, R, A, D, S in this order: a code, and the place of a word,
+ * from 0 (0 where the code names no event).
+ *
+ *   0 not requested        1 flag set at the start and never cleared
+ *   the event that last took the flag from 0 to 1:  2 Vsync rise   3 P16 rise   4 timer
+ *   5, 6, 7 matched address: A0H, II ADR, both      8 ninth clock  9 DDC1 load  10 SCL fall
+ *
+ * Returns 0. Or tells nothing and returns 15 for an area of another length, then 8 for bytes that no well formed state is written as. */
+uint8_t nt6861_why(const uint8_t *area, size_t area_length, const uint32_t *words, size_t count, uint64_t told[12]);
 
 #ifdef __cplusplus
 }

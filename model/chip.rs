@@ -239,6 +239,8 @@ pub struct Chip {
     pub held_clocks: u16,
     pub shift: u8,
     pub edges_left: u8,
+    /// The whole byte that goes out, or that came in and was not acknowledged; 0 at other times.
+    pub moving: u8,
 }
 
 /// What a step that was not refused gives back.
@@ -304,6 +306,7 @@ impl Chip {
             held_clocks: 0,
             shift: 0xFF,
             edges_left: 9,
+            moving: 0,
         }
     }
 
@@ -367,6 +370,9 @@ impl Chip {
             Ok(done) => (0, done),
             Err(number) => (number, Done::default()),
         };
+        if !matches!(self.phase, Phase::Outgoing { .. } | Phase::NotAcknowledged) {
+            self.moving = 0;
+        }
         u32::from_be_bytes([
             number,
             done.watchdog_reset as u8,
@@ -765,8 +771,11 @@ impl Chip {
             Phase::Incoming {
                 bits: 8,
                 address: false,
-                ..
-            } if self.txak => self.phase = Phase::NotAcknowledged,
+                byte,
+            } if self.txak => {
+                self.moving = *byte;
+                self.phase = Phase::NotAcknowledged;
+            }
             Phase::Incoming { bits: 8, .. } => self.pull_sda = true,
             Phase::NotAcknowledged => self.take_scl(),
             Phase::Outgoing { acked: true, .. } => self.take_scl(),
@@ -795,6 +804,7 @@ impl Chip {
         }
         // SDA first, while SCL is still low; then SCL.
         if self.trx {
+            self.moving = byte;
             self.phase = Phase::Outgoing {
                 rest: byte,
                 falls: 0,

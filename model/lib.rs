@@ -21,7 +21,9 @@ pub mod opcodes;
 pub mod programs;
 pub mod recordings;
 pub mod replay;
+pub mod state;
 #[cfg(test)]
 mod tests;
 pub mod traffic;
 pub mod vcd;
+pub mod why;

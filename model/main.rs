@@ -9,6 +9,7 @@ use nt6861_model::host::{self, ddc1_bytes};
 use nt6861_model::programs::{self, Random};
 use nt6861_model::replay::{generate, hold_text, outcome_text, replay, sample};
 use nt6861_model::traffic::Traffic;
+use nt6861_model::why::why_lines;
 use std::fs;
 use std::hint::black_box;
 use std::io::{self, Read, Write};
@@ -25,6 +26,7 @@ const USAGE: &str = "usage:
                                          every EVERY generated words
   model outcomes SEED COUNT EVERY        likewise what the current transfer's address was equal
                                          to: none, a0, ii-adr or both
+  model why                              words on standard input, for each source why its line is up
   model time COUNT                       speed of the step
   model firmware [-t] ROM COUNT [EVENTS] runs so many instructions of an image from power up, with
                                          the listed events; prints answers and registers, with -t
@@ -47,6 +49,7 @@ fn main() -> ExitCode {
         ["coverage", seed, count] => covered(seed, count),
         ["holds", seed, count, every] => sampled(seed, count, every, hold_text),
         ["outcomes", seed, count, every] => sampled(seed, count, every, outcome_text),
+        ["why"] => why(),
         ["time", count] => time(count),
         ["firmware", "-t", rom, count] => firmware(rom, count, None, true),
         ["firmware", "-t", rom, count, events] => firmware(rom, count, Some(events), true),
@@ -96,6 +99,15 @@ fn answers() -> Result<bool, String> {
         .read_to_end(&mut bytes)
         .map_err(|error| error.to_string())?;
     print_bytes(&replay(&bytes))
+}
+
+fn why() -> Result<bool, String> {
+    let mut bytes = Vec::new();
+    io::stdin()
+        .lock()
+        .read_to_end(&mut bytes)
+        .map_err(|error| error.to_string())?;
+    print_bytes(why_lines(&bytes).as_bytes())
 }
 
 fn words(seed: &str, count: &str, tail: &str) -> Result<bool, String> {

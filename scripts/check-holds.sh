@@ -4,6 +4,6 @@ set -euo pipefail
 cd "$(dirname "$0")/.."
 work=$(mktemp -d)
 trap 'rm -rf "$work"' EXIT
-rt staticlib hold_capi > "$work/log" 2>&1 || { cat "$work/log"; exit 1; }
+rt staticlib capi > "$work/log" 2>&1 || { cat "$work/log"; exit 1; }
 cargo build --offline --quiet --release --features proved --bin holds
 target/cargo/release/holds

@@ -1,15 +1,73 @@
-// The list call for programs in C or Rust, from a fresh chip.
+// The chip for programs in C, Rust and others: a state in an area of 128 bytes that the caller lends, and calls on it
+// (include/nt6861.h). A slice passes as a pointer and a length.
 ghost use mathlib.Core.Path.{_≡_};
 ghost use Rattle.chip.specs.State.{fresh};
 ghost use Rattle.run.specs.Run.{run as runOf, runAnswers};
+ghost use Rattle.state_area.specs.Area.{storeNumber, storeLeft};
+ghost use Rattle.state_calls.specs.Calls.{stepArea, stepAnswer, runNumber, runArea, runPlaces, holdIn, outcomeIn};
+ghost use Rattle.state_rate.specs.Rate.{rateIn, hertzIn};
+
+// A fresh chip into the area: 0, or 15 and nothing written.
+// Wrong answers: 0 for every length; the area as it was.
+#[no_mangle]
+pub extern "C" fn nt6861_fresh(area: &mut [u8]) -> u8
+    ensures { λ r. ⌜ (r ≡ storeNumber fresh (now (area .entry))) × (now (area .exit) ≡ storeLeft fresh (now (area .entry))) ⌝ }
+{
+    state_calls::fresh(area)
+}
+
+// Steps the chip in the area by an event word, and answers.
+// Wrong answers: the answer to a word of zeros; the area as it was.
+#[no_mangle]
+pub extern "C" fn nt6861_step(area: &mut [u8], word: u32) -> u32
+    ensures { λ r. ⌜ (r ≡ stepAnswer (now (area .entry)) word) × (now (area .exit) ≡ stepArea (now (area .entry)) word) ⌝ }
+{
+    state_calls::step(area, word)
+}
+
+// The list call on the chip in the area.
+// Wrong answers: 0 whatever the number of answer places; the answer places as they were.
+#[no_mangle]
+pub extern "C" fn nt6861_run(area: &mut [u8], words: &[u32], answers: &mut [u32]) -> u8
+    ensures { λ r. ⌜ (r ≡ runNumber (now (area .entry)) (now (words .entry)) (now (answers .entry))) × (now (area .exit) ≡ runArea (now (area .entry)) (now (words .entry)) (now (answers .entry))) × (now (answers .exit) ≡ runPlaces (now (area .entry)) (now (words .entry)) (now (answers .entry))) ⌝ }
+{
+    state_calls::run(area, words, answers)
+}
 
 // Gives the words to a fresh chip, writes their answers, and returns 0; or returns 7 and writes nothing where there are fewer
 // answer places than words.
-// Wrong answers: answers written where 7 is returned; 0 whatever the number of answer places.
+// Wrong answers: answers written where 7 is returned; 0 whatever the number of answer places; the answer places as they were.
 #[no_mangle]
-pub extern "C" fn nt6861_run(words: &[u32], answers: &mut [u32]) -> u8
+pub extern "C" fn nt6861_replay(words: &[u32], answers: &mut [u32]) -> u8
     ensures { λ r. ⌜ (r ≡ runOf fresh (now (words .entry)) (now (answers .entry)) .number) × (now (answers .exit) ≡ runAnswers fresh (now (words .entry)) (now (answers .entry))) ⌝ }
 {
     let done = run::run(chip::fresh(), words, answers);
     done.number
+}
+
+// For how many clocks of 8 µs the chip in the area holds SCL low.
+// Wrong answers: the address outcome; one clock more.
+#[no_mangle]
+pub extern "C" fn nt6861_hold(area: &[u8]) -> u32
+    ensures { λ r. ⌜ r ≡ holdIn (now (area .entry)) ⌝ }
+{
+    state_calls::hold(area)
+}
+
+// By which address the transfer under way was called.
+// Wrong answers: the hold; none, always.
+#[no_mangle]
+pub extern "C" fn nt6861_outcome(area: &[u8]) -> u32
+    ensures { λ r. ⌜ r ≡ outcomeIn (now (area .entry)) ⌝ }
+{
+    state_calls::called_by(area)
+}
+
+// The field rate (0) or the line rate (1) of the chip in the area.
+// Wrong answers: the field rate for 1 too; the number without the rate.
+#[no_mangle]
+pub extern "C" fn nt6861_rate(area: &[u8], which: u32, hertz: &mut f64) -> u32
+    ensures { λ r. ⌜ (r ≡ rateIn (now (area .entry)) which) × (now (hertz .exit) ≡ hertzIn (now (area .entry)) which (now (hertz .entry))) ⌝ }
+{
+    state_rate::rate(area, which, hertz)
 }

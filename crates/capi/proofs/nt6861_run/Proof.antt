@@ -1,8 +1,6 @@
 -- `capi::nt6861_run` meets its contract.
 -- Assumes nothing.
-use mathlib.Core.Path.{ap}
 use borrow.Author.Needs.{needs}
-use Rattle.run.specs.declared.RunResult.{RunResult}
 use Rattle.capi.proofs.nt6861_run.Statement.{statement}
 use Rattle.capi.proofs.nt6861_run.Tie as tie
 
@@ -11,6 +9,6 @@ nt6861-run-spec =
     tie.close
     (tie.spec
     (λ c κs. search needs)
-    (λ c κs. search needs)
     (λ c. search needs)
-    (λ c. simp (← (c .before .before .before .before .fresh .ensures)) (ap (λ (r : RunResult). r .number) (c .before .before .run .ensures .0), c .before .before .run .ensures .1)))
+    (λ c. search needs)
+    (λ c. c .before .before .before .before .run .ensures))

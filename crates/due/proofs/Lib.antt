@@ -1,0 +1,5 @@
+pub mod Address
+pub mod Steps
+pub mod Lists
+pub mod Reasons
+pub mod Refused

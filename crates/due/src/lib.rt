@@ -1,0 +1,1 @@
+// Theorems on the reasons of request lines; no code of its own.

@@ -1,0 +1,14 @@
+-- `explain::start` meets its contract.
+-- Assumes nothing.
+use Rattle.explain.specs.Explain.{start}
+use borrow.Author.Needs.{needs}
+use Rattle.explain.proofs.start.Statement.{statement}
+use Rattle.explain.proofs.start.Tie as tie
+
+pub start-spec : {M : Type 1} → statement M
+unfolding start
+start-spec =
+    tie.close
+    (tie.spec
+    (λ c κs. search needs)
+    (λ c. simp (c .none-set .ensures)))

@@ -1,0 +1,87 @@
+// A state in a lent area of 128 bytes: a fresh one, the step, the list call, the hold of SCL and the address outcome.
+ghost use mathlib.Core.Path.{_≡_};
+ghost use Prim.Native.Nat.{_*_};
+ghost use Rattle.chip.specs.State.{fresh as freshOf};
+ghost use Rattle.state_area.specs.Area.{storeNumber, storeLeft};
+ghost use Rattle.state_calls.specs.Calls.{stepArea, stepAnswer, runNumber, runArea, runPlaces, holdIn, outcomeIn};
+
+// A number in bits 31 to 24 of an answer.
+fn in_top_byte(number: u8) -> u32
+    ensures { λ r. ⌜ r ≡ number * 16777216 ⌝ }
+{
+    (number as u32) * 16777216
+}
+
+// A fresh state into the area.
+// Wrong answers: 0 for every length; the area as it was.
+pub fn fresh(area: &mut [u8]) -> u8
+    ensures { λ r. ⌜ (r ≡ storeNumber freshOf (now (area .entry))) × (now (area .exit) ≡ storeLeft freshOf (now (area .entry))) ⌝ }
+{
+    state_area::store(chip::fresh(), area)
+}
+
+// Steps the state in the area by a word, and answers.
+// Wrong answers: the answer to a word of zeros; the state not written back.
+pub fn step(area: &mut [u8], word: u32) -> u32
+    ensures { λ r. ⌜ (r ≡ stepAnswer (now (area .entry)) word) × (now (area .exit) ≡ stepArea (now (area .entry)) word) ⌝ }
+{
+    let read = state_area::load(area);
+    let number = read.number;
+    if number == 0 {
+        let c = read.state;
+        let done = step::advance(c, events::decode(word));
+        let after = done.chip;
+        state_area::put(after, area);
+        done.answer
+    } else {
+        in_top_byte(number)
+    }
+}
+
+// The list call on the state in the area.
+// Wrong answers: the state not written back; 0 whatever the number of answer places.
+pub fn run(area: &mut [u8], words: &[u32], answers: &mut [u32]) -> u8
+    ensures { λ r. ⌜ (r ≡ runNumber (now (area .entry)) (now (words .entry)) (now (answers .entry))) × (now (area .exit) ≡ runArea (now (area .entry)) (now (words .entry)) (now (answers .entry))) × (now (answers .exit) ≡ runPlaces (now (area .entry)) (now (words .entry)) (now (answers .entry))) ⌝ }
+{
+    let read = state_area::load(area);
+    let number = read.number;
+    if number == 0 {
+        let c = read.state;
+        let done = run::run(c, words, answers);
+        let after = done.chip;
+        state_area::put(after, area);
+        done.number
+    } else {
+        number
+    }
+}
+
+// For how many clocks of 8 µs SCL has been held, in bits 15 to 0; 15 or 8 in bits 31 to 24.
+// Wrong answers: the address outcome; one clock more.
+pub fn hold(area: &[u8]) -> u32
+    ensures { λ r. ⌜ r ≡ holdIn (now (area .entry)) ⌝ }
+{
+    let read = state_area::load(area);
+    let number = read.number;
+    if number == 0 {
+        let c = read.state;
+        hold::hold_word(hold::held_for(c))
+    } else {
+        in_top_byte(number)
+    }
+}
+
+// By which address the current transfer was called: 0 none, 1 A0H, 2 II ADR, 3 both; 15 or 8 in bits 31 to 24.
+// Wrong answers: none, always; the hold.
+pub fn called_by(area: &[u8]) -> u32
+    ensures { λ r. ⌜ r ≡ outcomeIn (now (area .entry)) ⌝ }
+{
+    let read = state_area::load(area);
+    let number = read.number;
+    if number == 0 {
+        let c = read.state;
+        address_outcome::outcome_word(address_outcome::called_by(c))
+    } else {
+        in_top_byte(number)
+    }
+}
