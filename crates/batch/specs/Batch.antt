@@ -19,6 +19,8 @@ use Rattle.instruction.specs.Program.{perform}
 use Rattle.instruction.specs.Instruction.{instructionBy}
 use Rattle.batch.specs.declared.Destination.{Destination}
 use Rattle.batch.specs.declared.Destination.the-variants as to
+use Rattle.batch.specs.declared.Executed.{Executed}
+use Rattle.batch.specs.declared.Executed.the-variants as executed
 use Rattle.batch.specs.declared.Turn.{Turn}
 use Rattle.batch.specs.declared.Turn.the-variants as turn
 use Rattle.batch.specs.declared.Reason.{Reason}
@@ -84,6 +86,21 @@ turnWith (refuses n) = turn.Refused n
 abbrev pub ramWith : Result Effect → List ℕ → List ℕ
 ramWith (gives e) ram = stored ram (e .store)
 ramWith (refuses n) ram = ram
+
+-- the same in two steps, as the code has it: what became of instruction and store, then its cycles
+unfoldable pub executedTo : Destination → Cpu → ℕ → Executed
+executedTo to.Ram c n = executed.Done c n
+executedTo (to.Register r b) c n = executed.Write c n r b
+executedTo (to.Refused x) c n = executed.Refused x
+
+abbrev pub executedWith : Result Effect → Executed
+executedWith (gives e) = executedTo (destination (e .store)) (e .cpu) (e .cycles)
+executedWith (refuses n) = executed.Refused n
+
+unfoldable pub turnFrom : Executed → Turn
+turnFrom (executed.Done c n) = pick (ltb (c .over + n) 32) (turn.On (setOver ((c .over + n) % 32) c)) (turn.Clock (setOver ((c .over + n) % 32) c))
+turnFrom (executed.Write c n r b) = turn.Write c n r b
+turnFrom (executed.Refused n) = turn.Refused n
 
 unfoldable pub turnOf : List ℕ → List ℕ → List ℕ → Bool → Cpu → List ℕ → Turn
 turnOf table seen rom request c ram =
