@@ -149,7 +149,31 @@ fn lists(seed: u64, count: usize) {
     }
 }
 
+/// The blocks of docs/STATE.md: indented lines of words of eight digits, and of bytes behind an offset.
+fn page() -> (Vec<u32>, Vec<u8>) {
+    let text = std::fs::read_to_string("docs/STATE.md").expect("docs/STATE.md");
+    let (mut words, mut bytes) = (vec![], vec![]);
+    for line in text.lines().filter_map(|line| line.strip_prefix("    ")) {
+        match line.split_once(": ") {
+            Some((_, row)) => bytes.extend(row.split(' ').map(|byte| u8::from_str_radix(byte, 16).expect("a byte"))),
+            None => words.extend(line.split(' ').map(|word| u32::from_str_radix(word, 16).expect("a word"))),
+        }
+    }
+    (words, bytes)
+}
+
+/// The two examples of the page are what the proved calls write.
+fn examples() {
+    let (words, bytes) = page();
+    let mut area = [0; state::SIZE];
+    assert_eq!(nt6861::fresh(&mut area), 0);
+    assert_eq!(area, bytes[..state::SIZE], "docs/STATE.md: the fresh chip");
+    assert_eq!(nt6861::run(&mut area, &words, &mut vec![0; words.len()]), 0);
+    assert_eq!(area, bytes[state::SIZE..], "docs/STATE.md: the chip amid a transfer");
+}
+
 fn main() {
+    examples();
     let mut seen = Seen::default();
     for seed in 1..=8 {
         traffic(seed, 40_000, &mut seen);
