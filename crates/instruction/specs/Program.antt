@@ -1,7 +1,10 @@
 -- The accesses of an instruction of the 6502, in the chip's order (document 02, Wish 5): reads, of which each may follow from the
 -- bytes read before, and pushes among them; at the end what it leaves: the CPU, its cycles, and its store.
 use Prim.Native.Nat.{ℕ}
+use mathlib.Core.Path.{_≡_}
+use mathlib.Core.Bool.{false}
 use mathlib.Core.List.{List, [], _∷_}
+use lib.Dec.{eqb}
 use Rattle.memory.specs.declared.Loaded.{Loaded}
 use Rattle.memory.specs.declared.Loaded.the-variants.{Byte, Refused}
 use Rattle.memory.specs.declared.Store.{Store}
@@ -54,3 +57,9 @@ accesses f (leaves e) = lastAccess (e .store)
 accesses f rejected = []
 accesses f (reads a k) = readAt a (f a) ∷ behindByte (f a) (λ (b : ℕ). accesses f (k b))
 accesses f (pushes s b t) = writeAt (stack s) b ∷ accesses (afterPush s b f) t
+
+-- none of the accesses is a read of d
+abbrev pub Unread : ℕ → List Access → Type 0
+Unread d [] = Unit {0}
+Unread d (readAt a l ∷ s) = (eqb a d ≡ false) × Unread d s
+Unread d (writeAt a b ∷ s) = Unread d s

@@ -2,7 +2,7 @@
 ghost use mathlib.Core.Path.{_≡_};
 ghost use mathlib.Core.Bool.{true};
 ghost use Prim.Native.Nat.{_+_, _*_, _%_, _/_, _<_};
-ghost use Rattle.opcodes.specs.Opcodes.{isJsr, modeOf};
+ghost use Rattle.opcodes.specs.Opcodes.{isJsr, lengthOf, modeOf};
 ghost use Rattle.memory.specs.Memory.{memory, romWord};
 ghost use Rattle.memory.specs.Reads.{run};
 ghost use Rattle.operations.specs.Operations.{intoA, modifyOperation, putI, taken as takenOf};
@@ -363,6 +363,12 @@ fn addressed(e: u32, c: Cpu, seen: &[u16; 38], ram: &[u8; 256], rom: &[u8]) -> L
     }
 }
 
+fn wide_length(e: u32) -> u16
+    ensures { λ r. ⌜ r ≡ lengthOf e ⌝ }
+{
+    opcodes::length_of(e) as u16
+}
+
 // An instruction whose opcode is read and has the entry e.
 fn instruction_of(e: u32, c: Cpu, seen: &[u16; 38], ram: &[u8; 256], rom: &[u8]) -> Performed
     ensures { λ r. ⌜ performedResult r ≡ performOf (memory (now (seen .entry)) (now (ram .entry)) (now (rom .entry))) (instructionOf e c) ⌝ }
@@ -370,7 +376,7 @@ fn instruction_of(e: u32, c: Cpu, seen: &[u16; 38], ram: &[u8; 256], rom: &[u8])
     let p = addressed(e, c, seen, ram, rom);
     match p {
         Located::At(t) => {
-            let d = operations::set_pc(addressing::ahead(c.pc, opcodes::length_of(e) as u16), c);
+            let d = operations::set_pc(addressing::ahead(c.pc, wide_length(e)), c);
             execute(
                 opcodes::operation_of(e),
                 t,
