@@ -32,5 +32,5 @@ agree d f g h rejected q = (refl, refl)
 agree d f g h (reads a k) q = agree-byte d f g a k (f a) (g a) (h a (q .0)) (q .1) (λ (b : ℕ). agree d f g h (k b))
 agree d f g h (pushes s b t) q =
     let r : (perform (afterPush s b f) t ≡ perform (afterPush s b g) t) × (accesses (afterPush s b f) t ≡ accesses (afterPush s b g) t)
-        = agree d (afterPush s b f) (afterPush s b g) (after-push d f g s b h) t q in
+    = agree d (afterPush s b f) (afterPush s b g) (after-push d f g s b h) t q in
     (r .0, ap (λ (x : List Access). writeAt (stack s) b ∷ x) (r .1))
