@@ -45,7 +45,7 @@ turn-taken : (rom : List ℕ) (m : Machine) → m .chip .core .reset ≡ true �
 unfolding turn afterInterrupt
 turn-taken rom m h g = turn-both rom m (interruptTaken rom m) (m .chip .core .reset) (isInterrupted (isRequesting (m .chip)) (m .cpu)) h g
 
-interrupted-masks : (rom : List ℕ) (c : Cpu) → counted (interrupted rom c) .p .i ≡ true
+pub interrupted-masks : (rom : List ℕ) (c : Cpu) → counted (interrupted rom c) .p .i ≡ true
 unfolding interrupted
 interrupted-masks rom c = refl
 

@@ -1,0 +1,3 @@
+pub mod Registers
+pub mod Proceeds
+pub mod Going
