@@ -117,12 +117,17 @@ measure n es i given c seen = (length es - given) * 80 + (work n i c + unseenOf 
 module _ (n : ℕ) (rom es places : List ℕ) (whole : Ended) (answers ram seen registers : List ℕ) (core : Core) (c : Cpu) (i given : ℕ)
     (room : length es ≤ length places) (h : Going n rom es places whole answers ram seen registers core c i given) (more : i < n) where
   -- an event was given
-  module _ (due : until n (drop given es) ≤ i) where
+  module _ (to : ℕ) (at : to ≡ until n (drop given es)) (reached : to ≤ i) where
+    due : until n (drop given es) ≤ i
+    due = rw (← at) reached
+
     pub some : given < length es
     some = until-some n i es given more due
 
-    pub fed-less : (d : Cpu) (s : List ℕ) → length s ≤ 38 → measure n es i (given + 1) d s < measure n es i given c seen
-    fed-less d s l = omega (arith, some, clear-le d, unseen-le s)
+    pub fed-less : (d : Cpu) (s : List ℕ) → s ≡ noneSeen → measure n es i (given + 1) d s < measure n es i given c seen
+    fed-less d s u =
+        let l : length s ≤ 38 = rw u (omega arith) in
+        omega (arith, some, clear-le d, unseen-le s, l)
 
     pub fed-goes : (w : ℕ) → w ≡ wordOf (getD es given 0) → (o : Occurred) (r s : List ℕ) → o ≡ occurredWith rom c (chipOf registers core) w
         → r ≡ next (chipOf registers core) (decode w) .registers → s ≡ noneSeen
@@ -148,13 +153,13 @@ module _ (n : ℕ) (rom es places : List ℕ) (whole : Ended) (answers ram seen 
         }
 
   -- instructions were done
-  module _ (to : ℕ) (at : to ≡ until n (drop given es)) (later : i < to) (s : Settled) (r : List ℕ) (v : List ℕ) (ram′ : List ℕ)
-      (e : s ≡ proceeded opcodes seen registers rom core c i to ram .settled) (e₁ : r ≡ proceeded opcodes seen registers rom core c i to ram .registers)
-      (e₂ : v ≡ proceeded opcodes seen registers rom core c i to ram .seen) (e₃ : ram′ ≡ proceeded opcodes seen registers rom core c i to ram .ram) where
+  module _ (to : ℕ) (at : to ≡ until n (drop given es)) (later : i < to) (table : List ℕ) (tabled : table ≡ opcodes) (s : Settled) (r : List ℕ) (v : List ℕ) (ram′ : List ℕ)
+      (e : s ≡ proceeded table seen registers rom core c i to ram .settled) (e₁ : r ≡ proceeded table seen registers rom core c i to ram .registers)
+      (e₂ : v ≡ proceeded table seen registers rom core c i to ram .seen) (e₃ : ram′ ≡ proceeded table seen registers rom core c i to ram .ram) where
     on : Proceeds n rom (drop given es) i c seen (runs (n - i) i rom (drop given es) (machine c ram (chipOf registers core))) (kept s r v ram′)
     on =
         let l : to ≤ n = rw at (until-le n (drop given es)) in
-        rw (e, e₁, e₂, e₃)
+        rw (e, e₁, e₂, e₃, tabled)
         (proceeds n i to seen registers rom (drop given es) core c ram (h .small) later l (h .knows) (h .size) (rw at (until-later n (drop given es))))
 
     pub on-less : eqb (s .refusal) 0 ≡ true → measure n es (s .number) given (s .cpu) v < measure n es i given c seen

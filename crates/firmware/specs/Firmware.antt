@@ -34,6 +34,10 @@ use Rattle.firmware.specs.declared.Settled.{Settled}
 abbrev pub resultOf : Called → FirmwareResult
 resultOf c = record { number = c .number; cpu = c .cpu; chip = c .chip; counted = c .counted; given = c .given }
 
+-- refused before anything runs
+abbrev pub refusedResult : ℕ → Cpu → Chip → FirmwareResult
+refusedResult n c k = record { number = n; cpu = c; chip = k; counted = 0; given = 0 }
+
 -- a word given to the chip
 unfoldable pub occurredWith : List ℕ → Cpu → Chip → ℕ → Occurred
 occurredWith rom c k w = record { cpu = pick (wasReset k (decode w)) (resetCpu rom c) c; core = next k (decode w) .core; answer = answered k (decode w) }

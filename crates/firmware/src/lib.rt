@@ -1,16 +1,16 @@
 // Firmware run against the chip (document 02, Wish 5).
 ghost use mathlib.Core.Path.{_≡_};
 ghost use Prim.Native.Nat.{_≤_};
-ghost use lib.ListN.{length, drop, set};
+ghost use lib.ListN.{length, drop, getD, set};
 ghost use Rattle.chip.specs.State.{chipOf};
 ghost use Rattle.events.specs.Word.{decode};
 ghost use Rattle.outcome.specs.Outcome.{next as nextOf, wasReset};
 ghost use Rattle.machine.specs.Machine.{machine, isRequesting};
-ghost use Rattle.machine.specs.Run.{wordOf, called, runs, firmware as firmwareOf};
+ghost use Rattle.machine.specs.Run.{wordOf, called, runs, isWellFormed, firmware as firmwareOf};
 ghost use Rattle.machine.specs.Seen.{knownReading};
 ghost use Rattle.batch.specs.Batch.{stored};
 ghost use Rattle.instruction.specs.Instruction.{interrupted};
-ghost use Rattle.firmware.specs.Firmware.{resultOf, occurredWith, until as untilOf, noneSeen, following as followingOf, coreAfterCycles, afterInterrupted, afterWrite, registersWritten, afterRefusal, seenAfter, settledBy, proceeded};
+ghost use Rattle.firmware.specs.Firmware.{resultOf, refusedResult, occurredWith, until as untilOf, noneSeen, following as followingOf, coreAfterCycles, afterInterrupted, afterWrite, registersWritten, afterRefusal, seenAfter, settledBy, proceeded};
 use batch::Pause;
 use batch::Reason;
 use chip::Chip;
@@ -89,6 +89,22 @@ fn occur(registers: &mut [u8; 38], rom: &[u8], core: Core, cpu: Cpu, word: u32) 
             core: after,
             answer: done.answer,
         }
+    }
+}
+
+// The event at a place of the list; 0 past its end.
+fn event_at(events: &[u64], k: usize) -> u64
+    ensures { λ r. ⌜ r ≡ getD (now (events .entry)) k 0 ⌝ }
+{
+    if k < events.len() { events[k] } else { 0 }
+}
+
+// An answer put in its place; past the places nothing is written.
+fn put(answers: &mut [u32], k: usize, answer: u32)
+    ensures { λ r. ⌜ now (answers .exit) ≡ set (now (answers .entry)) k answer ⌝ }
+{
+    if k < answers.len() {
+        answers[k] = answer;
     }
 }
 
@@ -274,5 +290,149 @@ fn settle(
             settle_write(registers, core, c, i, q, x, a, b)
         },
         Reason::Refused(x) => settle_refusal(seen, registers, core, c, i, x),
+    }
+}
+
+// ---- the run
+
+// Instructions from number i to before number `to`, until the chip is needed, and what is then done with the chip.
+fn proceed(
+    table: &[u32; 256],
+    seen: &mut [u16; 38],
+    registers: &mut [u8; 38],
+    ram: &mut [u8; 256],
+    rom: &[u8],
+    core: Core,
+    cpu: Cpu,
+    i: u32,
+    to: u32,
+) -> Settled
+    ensures { λ r. ⌜ (r ≡ proceeded (now (table .entry)) (now (seen .entry)) (now (registers .entry)) (now (rom .entry)) core cpu i to (now (ram .entry)) .settled)
+        × (now (registers .exit) ≡ proceeded (now (table .entry)) (now (seen .entry)) (now (registers .entry)) (now (rom .entry)) core cpu i to (now (ram .entry)) .registers)
+        × (now (seen .exit) ≡ proceeded (now (table .entry)) (now (seen .entry)) (now (registers .entry)) (now (rom .entry)) core cpu i to (now (ram .entry)) .seen)
+        × (now (ram .exit) ≡ proceeded (now (table .entry)) (now (seen .entry)) (now (registers .entry)) (now (rom .entry)) core cpu i to (now (ram .entry)) .ram) ⌝ }
+{
+    if core.reset {
+        let request = is_requesting(registers, core);
+        let pause = batch::batch(table, seen, ram, rom, request, cpu, i, to);
+        settle(seen, registers, ram, rom, core, pause)
+    } else {
+        Settled {
+            cpu: cpu,
+            core: core,
+            number: following(i),
+            refusal: 0,
+        }
+    }
+}
+
+// The run, once it may begin. One turn of the loop gives an event, or brings the instructions on to where the chip is needed.
+fn run_all(
+    cpu: Cpu,
+    ram: &mut [u8; 256],
+    rom: &[u8],
+    chip: Chip,
+    events: &[u64],
+    answers: &mut [u32],
+    instructions: u32,
+) -> FirmwareResult
+    requires { ⌜ length (now events) ≤ length (now answers) ⌝ }
+    ensures { λ r. ⌜ (r ≡ resultOf (called (runs instructions 0 (now (rom .entry)) (now (events .entry)) (machine cpu (now (ram .entry)) chip)) (now (answers .entry))))
+        × (now (answers .exit) ≡ called (runs instructions 0 (now (rom .entry)) (now (events .entry)) (machine cpu (now (ram .entry)) chip)) (now (answers .entry)) .answers)
+        × (now (ram .exit) ≡ called (runs instructions 0 (now (rom .entry)) (now (events .entry)) (machine cpu (now (ram .entry)) chip)) (now (answers .entry)) .ram) ⌝ }
+{
+    let table = opcodes::table();
+    let mut seen = NONE_SEEN;
+    let mut registers = chip.registers;
+    let mut core = chip.core;
+    let mut c = cpu;
+    let mut i = 0;
+    let mut given = 0;
+    while i < instructions {
+        let to = until(events, given, instructions);
+        if to <= i {
+            let o = occur(&mut registers, rom, core, c, word_of(event_at(events, given)));
+            put(answers, given, o.answer);
+            core = o.core;
+            c = o.cpu;
+            given += 1;
+            forget(&mut seen);
+        } else {
+            let s = proceed(&table, &mut seen, &mut registers, ram, rom, core, c, i, to);
+            core = s.core;
+            c = s.cpu;
+            i = s.number;
+            if s.refusal != 0 {
+                return FirmwareResult {
+                    number: s.refusal,
+                    cpu: c,
+                    chip: Chip {
+                        registers: registers,
+                        core: core,
+                    },
+                    counted: i,
+                    given: given,
+                };
+            }
+        }
+    }
+    FirmwareResult {
+        number: 0,
+        cpu: c,
+        chip: Chip {
+            registers: registers,
+            core: core,
+        },
+        counted: i,
+        given: given,
+    }
+}
+
+fn not_run(number: u8, cpu: Cpu, chip: Chip) -> FirmwareResult
+    ensures { λ r. ⌜ r ≡ refusedResult number cpu chip ⌝ }
+{
+    FirmwareResult {
+        number: number,
+        cpu: cpu,
+        chip: chip,
+        counted: 0,
+        given: 0,
+    }
+}
+
+fn is_well_formed(cpu: Cpu, chip: Chip) -> bool
+    ensures { λ r. ⌜ r ≡ isWellFormed cpu chip ⌝ }
+{
+    if cpu.over < 32 { well_formed::well_formed(chip) } else { false }
+}
+
+// The firmware call: `instructions` instructions from the CPU, with the events of the list between them. Where it is refused before anything
+// runs, all that is lent is left as it was.
+// Wrong answers: 31 cycles over refused; the answer places tested before the ROM; RAM or answers written where the call is refused.
+pub fn run(
+    cpu: Cpu,
+    ram: &mut [u8; 256],
+    rom: &[u8],
+    chip: Chip,
+    events: &[u64],
+    answers: &mut [u32],
+    instructions: u32,
+) -> FirmwareResult
+    ensures { λ r. ⌜ (r ≡ resultOf (firmwareOf cpu (now (ram .entry)) (now (rom .entry)) chip (now (events .entry)) (now (answers .entry)) instructions))
+        × (now (answers .exit) ≡ firmwareOf cpu (now (ram .entry)) (now (rom .entry)) chip (now (events .entry)) (now (answers .entry)) instructions .answers)
+        × (now (ram .exit) ≡ firmwareOf cpu (now (ram .entry)) (now (rom .entry)) chip (now (events .entry)) (now (answers .entry)) instructions .ram) ⌝ }
+{
+    if is_well_formed(cpu, chip) {
+        if rom.len() == 24576 {
+            if answers.len() < events.len() {
+                not_run(7, cpu, chip)
+            } else {
+                run_all(cpu, ram, rom, chip, events, answers, instructions)
+            }
+        } else {
+            not_run(22, cpu, chip)
+        }
+    } else {
+        not_run(8, cpu, chip)
     }
 }
