@@ -129,11 +129,11 @@ module _ (n : ℕ) (rom es places : List ℕ) (whole : Ended) (answers ram seen 
         let l : length s ≤ 38 = rw u (omega arith) in
         omega (arith, some, clear-le d, unseen-le s, l)
 
-    pub fed-goes : (w : ℕ) → w ≡ wordOf (getD es given 0) → (o : Occurred) (r s : List ℕ) → o ≡ occurredWith rom c (chipOf registers core) w
+    goes-set : (w : ℕ) → w ≡ wordOf (getD es given 0) → (o : Occurred) (r s : List ℕ) → o ≡ occurredWith rom c (chipOf registers core) w
         → r ≡ next (chipOf registers core) (decode w) .registers → s ≡ noneSeen
         → Going n rom es places whole (set answers given (o .answer)) ram s r (o .core) (o .cpu) i (given + 1)
     unfolding occurred occurredWith
-    fed-goes w e o r s p q u =
+    goes-set w e o r s p q u =
         let m = machine c ram (chipOf registers core) in
         let a : given < length answers = omega (arith, some, h .same) in
         let z : drop given es ≡ getD es given 0 ∷ drop (suc given) es = drop-cons es given 0 some in
@@ -144,13 +144,18 @@ module _ (n : ℕ) (rom es places : List ℕ) (whole : Ended) (answers ram seen 
           listed = omega (arith, some);
           same = length-set answers given (o .answer) ∙ h .same;
           total =
-            rw (p, q, e, add-one, take-suc-set answers given (answered (chipOf registers core) (decode (wordOf (getD es given 0)))) a)
-            (h .total ∙ ap (prepended (take given answers)) (ap (λ (l : List ℕ). runs (n - i) i rom l m) z ∙ runs-event n i rom (getD es given 0) (drop (suc given) es) m more d)
-            ∙ prepended-twice (take given answers) (answered (chipOf registers core) (decode (wordOf (getD es given 0))) ∷ []) _);
+              rw (p, q, e, add-one, take-suc-set answers given (answered (chipOf registers core) (decode (wordOf (getD es given 0)))) a)
+              (h .total ∙ ap (prepended (take given answers)) (ap (λ (l : List ℕ). runs (n - i) i rom l m) z ∙ runs-event n i rom (getD es given 0) (drop (suc given) es) m more d)
+              ∙ prepended-twice (take given answers) (answered (chipOf registers core) (decode (wordOf (getD es given 0))) ∷ []) _);
           rest = drop-set-lt (given + 1) answers given (o .answer) (omega arith) ∙ sym (drop-drop 1 given answers) ∙ ap (drop 1) (h .rest) ∙ drop-drop 1 given places;
           knows = rw u (knows-none (chipOf r (o .core)));
           size = rw u refl;
         }
+
+    pub fed-goes : (v : ℕ) → v ≡ getD es given 0 → (w : ℕ) → w ≡ wordOf v → (o : Occurred) (r s a : List ℕ) → o ≡ occurredWith rom c (chipOf registers core) w
+        → r ≡ next (chipOf registers core) (decode w) .registers → s ≡ noneSeen → a ≡ set answers given (o .answer)
+        → Going n rom es places whole a ram s r (o .core) (o .cpu) i (given + 1)
+    fed-goes v x w e o r s a p q u y = rw y (goes-set w (e ∙ ap wordOf x) o r s p q u)
 
   -- instructions were done
   module _ (to : ℕ) (at : to ≡ until n (drop given es)) (later : i < to) (table : List ℕ) (tabled : table ≡ opcodes) (s : Settled) (r : List ℕ) (v : List ℕ) (ram′ : List ℕ)
@@ -226,3 +231,10 @@ pub finish : (n : ℕ) (rom es places : List ℕ) (whole : Ended) (answers ram s
 finish n rom es places whole answers ram seen registers core c i given room h l =
     ends es places whole answers given room (h .listed) (h .same) (h .rest) c ram (chipOf registers core) 0 i
     (h .total ∙ ap (prepended (take given answers)) (runs-done n i rom (drop given es) (machine c ram (chipOf registers core)) l (h .within)))
+
+pub stop : (n : ℕ) (rom es places : List ℕ) (whole : Ended) (answers ram seen registers : List ℕ) (core : Core) (c : Cpu) (i given : ℕ)
+    → length es ≤ length places → Going n rom es places whole answers ram seen registers core c i given
+    → (d : Cpu) (ram′ : List ℕ) (k : Chip) (x j : ℕ) → whole ≡ prepended (take given answers) (ended (machine d ram′ k) x j [])
+    → (outcome x d k j given ≡ resultOf (called whole places)) × (answers ≡ called whole places .answers) × (ram′ ≡ called whole places .ram)
+stop n rom es places whole answers ram seen registers core c i given room h d ram′ k x j e =
+    ends es places whole answers given room (h .listed) (h .same) (h .rest) d ram′ k x j e

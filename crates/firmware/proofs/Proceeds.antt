@@ -113,8 +113,8 @@ module _ (n from to : ℕ) (seen registers rom es : List ℕ) (core : Core) (c :
   settles-interrupt d i ram e h w g =
       record {
         goes-on =
-          e ∙ ap (λ (m : Machine). runs (n - i) i rom es m) (interrupt-is rom d ram (chipOf registers core)
-          ∙ ap (λ (k : Chip). machine (counted (interrupted rom d)) (stored ram (interrupted rom d .store)) k) (after-cycles (cyclesWith (interrupted rom d)) registers core));
+            e ∙ ap (λ (m : Machine). runs (n - i) i rom es m) (interrupt-is rom d ram (chipOf registers core)
+            ∙ ap (λ (k : Chip). machine (counted (interrupted rom d)) (stored ram (interrupted rom d .store)) k) (after-cycles (cyclesWith (interrupted rom d)) registers core));
         within = h;
         knows = knows-none (chipOf registers (coreAfterCycles (cyclesWith (interrupted rom d)) core));
         size = refl;
@@ -123,14 +123,14 @@ module _ (n from to : ℕ) (seen registers rom es : List ℕ) (core : Core) (c :
 
   settles-write : (t : Bool) (q d : Cpu) (x r v i : ℕ) (ram : List ℕ) → eqb (writeNumber (core .reset) r) 0 ≡ t → from ≤ i → i < to
       → whole ≡ onTurned (pick t (turned (machine (setOver ((q .over + x) % 32) q) ram (clockAfter (q .over + x) (next (chipOf registers core) (event.Write r v)))) 0)
-        (turned (machine d ram (chipOf registers core)) (writeNumber (core .reset) r))) i (λ (m : Machine). runs (n - (i + 1)) (i + 1) rom es m)
+      (turned (machine d ram (chipOf registers core)) (writeNumber (core .reset) r))) i (λ (m : Machine). runs (n - (i + 1)) (i + 1) rom es m)
       → P (kept (pick t (settledAs (setOver ((q .over + x) % 32) q) (coreAfterCycles (q .over + x) (written core r v)) (following i) 0) (settledAs d core i (writeNumber (core .reset) r)))
-        (pick t (keep (storedBy registers r v) registers) registers) noneSeen ram)
+      (pick t (keep (storedBy registers r v) registers) registers) noneSeen ram)
   settles-write true q d x r v i ram z f h e =
       let k = chipOf (keep (storedBy registers r v) registers) (written core r v) in
       let j : following i ≡ i + 1 = following-is i (omega arith) in
       let m : clockAfter (q .over + x) (next (chipOf registers core) (event.Write r v)) ≡ chipOf (keep (storedBy registers r v) registers) (coreAfterCycles (q .over + x) (written core r v))
-          = ap (clockAfter (q .over + x)) (write-chip registers core r v z) ∙ after-cycles (q .over + x) (keep (storedBy registers r v) registers) (written core r v) in
+      = ap (clockAfter (q .over + x)) (write-chip registers core r v z) ∙ after-cycles (q .over + x) (keep (storedBy registers r v) registers) (written core r v) in
       rw j (settles-clock (setOver ((q .over + x) % 32) q) (i + 1) ram (keep (storedBy registers r v) registers) (coreAfterCycles (q .over + x) (written core r v))
       (e ∙ ap (λ (l : Chip). runs (n - (i + 1)) (i + 1) rom es (machine (setOver ((q .over + x) % 32) q) ram l)) m) (omega arith) (omega arith))
   settles-write false q d x r v i ram z f h e =

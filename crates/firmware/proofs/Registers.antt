@@ -80,5 +80,5 @@ unfolding unseenOf
 unseen-set seen k r h e =
     let l : knownReading (reading k r) < 320 = known-lt (reading k r) (reading-byte-lt k r) (reading-number-lt k r) in
     let z : unseenFrom 0 (set seen r (knownReading (reading k r))) + 1 ≡ unseenFrom 0 seen
-        = unseen-set-from seen 0 r r (knownReading (reading k r)) (omega arith) h e (ne-eqb (knownReading (reading k r)) (notSeen r) (λ q. omega (arith, l, q))) in
+    = unseen-set-from seen 0 r r (knownReading (reading k r)) (omega arith) h e (ne-eqb (knownReading (reading k r)) (notSeen r) (λ q. omega (arith, l, q))) in
     omega (arith, z)

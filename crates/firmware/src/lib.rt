@@ -50,8 +50,44 @@ pub struct Settled {
 
 // Of no register anything is known: 320 and its own number.
 const NONE_SEEN: [u16; 38] = [
-    320, 321, 322, 323, 324, 325, 326, 327, 328, 329, 330, 331, 332, 333, 334, 335, 336, 337, 338,
-    339, 340, 341, 342, 343, 344, 345, 346, 347, 348, 349, 350, 351, 352, 353, 354, 355, 356, 357,
+    320,
+    321,
+    322,
+    323,
+    324,
+    325,
+    326,
+    327,
+    328,
+    329,
+    330,
+    331,
+    332,
+    333,
+    334,
+    335,
+    336,
+    337,
+    338,
+    339,
+    340,
+    341,
+    342,
+    343,
+    344,
+    345,
+    346,
+    347,
+    348,
+    349,
+    350,
+    351,
+    352,
+    353,
+    354,
+    355,
+    356,
+    357,
 ];
 
 // ---- events
@@ -137,7 +173,11 @@ fn forget(seen: &mut [u16; 38])
 fn known_reading(r: Reading) -> u16
     ensures { λ v. ⌜ v ≡ knownReading r ⌝ }
 {
-    if r.number == 0 { r.byte as u16 } else { 256 + (r.number as u16) }
+    if r.number == 0 {
+        r.byte as u16
+    } else {
+        256 + (r.number as u16)
+    }
 }
 
 fn note(seen: &mut [u16], r: u8, v: u16)
@@ -167,7 +207,11 @@ fn following(i: u32) -> u32
 fn core_after_cycles(n: u16, core: Core) -> Core
     ensures { λ r. ⌜ r ≡ coreAfterCycles n core ⌝ }
 {
-    if n < 32 { core } else { clocks::clocked(0, core, PERIOD) }
+    if n < 32 {
+        core
+    } else {
+        clocks::clocked(0, core, PERIOD)
+    }
 }
 
 fn settle_interrupt(ram: &mut [u8; 256], rom: &[u8], core: Core, c: Cpu, i: u32) -> Settled
@@ -351,7 +395,13 @@ fn run_all(
     while i < instructions {
         let to = until(events, given, instructions);
         if to <= i {
-            let o = occur(&mut registers, rom, core, c, word_of(event_at(events, given)));
+            let o = occur(
+                &mut registers,
+                rom,
+                core,
+                c,
+                word_of(event_at(events, given)),
+            );
             put(answers, given, o.answer);
             core = o.core;
             c = o.cpu;
@@ -403,7 +453,11 @@ fn not_run(number: u8, cpu: Cpu, chip: Chip) -> FirmwareResult
 fn is_well_formed(cpu: Cpu, chip: Chip) -> bool
     ensures { λ r. ⌜ r ≡ isWellFormed cpu chip ⌝ }
 {
-    if cpu.over < 32 { well_formed::well_formed(chip) } else { false }
+    if cpu.over < 32 {
+        well_formed::well_formed(chip)
+    } else {
+        false
+    }
 }
 
 // The firmware call: `instructions` instructions from the CPU, with the events of the list between them. Where it is refused before anything

@@ -1,5 +1,5 @@
 use borrow.Author.Tests.{lt-ltb, le-ltb, eq-eqb, ne-eqb}
-use mathlib.Core.Path.{refl, sym, _∙_}
+use mathlib.Core.Path.{_≡_, refl, sym, _∙_}
 use Rattle.writes.specs.Writes.{writeNumber}
 use Rattle.firmware.specs.Firmware.{afterWrite, registersWritten}
 use borrow.Author.Needs.{needs}

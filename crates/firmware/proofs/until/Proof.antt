@@ -1,4 +1,5 @@
 use borrow.Author.Tests.{lt-ltb, le-ltb, eq-eqb, ne-eqb}
+use denote.Ref.{now}
 use Rattle.firmware.proofs.Going.{until-cons, until-past}
 use borrow.Author.Needs.{needs}
 use Rattle.firmware.proofs.until.Statement.{statement}
@@ -11,6 +12,6 @@ until-spec =
     (λ c. search needs)
     (λ c. search needs)
     (λ c. search needs)
-    (λ c. simp (until-cons (c .before .before .before .args .n) _ _ (c .before .before .if1 .taken), lt-ltb _ _ (c .if2 .taken)))
-    (λ c. simp (until-cons (c .before .before .before .args .n) _ _ (c .before .before .if1 .taken), le-ltb _ _ (c .if2 .left)))
-    (λ c. simp (until-past (c .before .args .n) _ _ (c .if1 .left))))
+    (λ c. simp (until-cons (c .before .before .before .args .n) (now (c .before .before .before .args .events)) (c .before .before .before .args .next) (c .before .before .if1 .taken), lt-ltb _ _ (c .if2 .taken)))
+    (λ c. simp (until-cons (c .before .before .before .args .n) (now (c .before .before .before .args .events)) (c .before .before .before .args .next) (c .before .before .if1 .taken), le-ltb _ _ (c .if2 .left)))
+    (λ c. simp (until-past (c .before .args .n) (now (c .before .args .events)) (c .before .args .next) (c .if1 .left))))
