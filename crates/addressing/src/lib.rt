@@ -27,7 +27,7 @@ pub enum Located {
 }
 
 // An address n bytes further.
-// Wrong answers: one byte more; a wrap one address early.
+// Wrong answers: half as far; a wrap one address early.
 pub fn ahead(a: u16, n: u16) -> u16
     ensures { λ r. ⌜ r ≡ aheadOf a n ⌝ }
 {
@@ -92,7 +92,7 @@ fn branch_to(p: u16, b: u8) -> Effective
 }
 
 // The word whose low byte is at a and whose high byte is at b.
-// Wrong answers: the bytes exchanged; the low byte twice.
+// Wrong answers: the high byte from the low byte's address; the bytes exchanged.
 pub fn word_at(seen: &[u16; 38], ram: &[u8; 256], rom: &[u8], a: u16, b: u16) -> Word
     ensures { λ r. ⌜ wordResult r ≡ run (memory (now (seen .entry)) (now (ram .entry)) (now (rom .entry))) (word a b) ⌝ }
 {
@@ -187,7 +187,7 @@ fn relative_at(seen: &[u16; 38], ram: &[u8; 256], rom: &[u8], a: u16, p: u16) ->
 }
 
 // The effective address of the instruction at PC.
-// Wrong answers: the index added after the pointer for before; 21 for an opcode that is not documented.
+// Wrong answers: zero-page indexing that leaves page zero; a pointer at xxFF whose high byte is not at xx00.
 pub fn locate(m: Mode, c: Cpu, seen: &[u16; 38], ram: &[u8; 256], rom: &[u8]) -> Located
     ensures { λ r. ⌜ locatedResult r ≡ run (memory (now (seen .entry)) (now (ram .entry)) (now (rom .entry))) (locateOf m c) ⌝ }
 {

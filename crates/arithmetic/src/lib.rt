@@ -27,7 +27,7 @@ pub struct Computed {
 }
 
 // A byte and the flags with it.
-// Wrong answers: the byte 0; C cleared.
+// Wrong answers: the byte 0; bit 7 cut off.
 pub fn with_flags(r: u8, f: Flags) -> Computed
     ensures { λ q. ⌜ q ≡ computed r f ⌝ }
 {
@@ -35,22 +35,15 @@ pub fn with_flags(r: u8, f: Flags) -> Computed
 }
 
 // N and Z by a byte.
-// Wrong answers: N by bit 6; Z for a byte that is not 0.
+// Wrong answers: D taken for C; V taken for C.
 pub fn nz(r: u8, f: Flags) -> Flags
     ensures { λ q. ⌜ q ≡ nzOf r f ⌝ }
 {
-    Flags {
-        n: r > 127,
-        v: f.v,
-        d: f.d,
-        i: f.i,
-        z: r == 0,
-        c: f.c,
-    }
+    nzc(r, f.c, f)
 }
 
 // N and Z by a byte, and C.
-// Wrong answers: C kept; V taken for C.
+// Wrong answers: N from 64 on; Z for the byte 1.
 pub fn nzc(r: u8, k: bool, f: Flags) -> Flags
     ensures { λ q. ⌜ q ≡ nzcOf r k f ⌝ }
 {
@@ -77,7 +70,7 @@ fn with_carry(k: bool, f: Flags) -> Flags
     }
 }
 
-// A bit as a number.
+// A bit as a number, with the bound that sums need.
 // Wrong answers: 1 for false; 2 for true.
 pub fn num(b: bool) -> u8
     ensures { λ r. ⌜ (r ≡ numOf b) × (r < 2) ⌝ }
@@ -117,14 +110,14 @@ fn sum_flags(a: u8, b: u8, f: Flags) -> Flags
     ensures { λ r. ⌜ r ≡ sumFlags a b f ⌝ }
 {
     let t = total(a, b, f.c);
-    let r = low_byte(t);
-    let v = overflow(a > 127, b > 127, r > 127);
+    let low = low_byte(t);
+    let v = overflow(a > 127, b > 127, low > 127);
     Flags {
-        n: r > 127,
+        n: low > 127,
         v: v,
         d: f.d,
         i: f.i,
-        z: r == 0,
+        z: low == 0,
         c: t > 255,
     }
 }
@@ -188,7 +181,7 @@ fn decimal_difference(a: u8, b: u8, k: bool) -> Digit
 }
 
 // ADC.
-// Wrong answers: N of the decimal result; a sum of 9 that gains 6.
+// Wrong answers: D taken for C in a decimal sum; a sum of 9 that gains 6.
 pub fn adc(a: u8, b: u8, f: Flags) -> Computed
     ensures { λ r. ⌜ r ≡ adcOf a b f ⌝ }
 {
@@ -204,7 +197,7 @@ pub fn adc(a: u8, b: u8, f: Flags) -> Computed
 }
 
 // SBC.
-// Wrong answers: the byte itself added; a difference below 0 that loses 10.
+// Wrong answers: the terms of a decimal difference exchanged; a difference below 0 that loses 10.
 pub fn sbc(a: u8, b: u8, f: Flags) -> Computed
     ensures { λ r. ⌜ r ≡ sbcOf a b f ⌝ }
 {
@@ -220,7 +213,7 @@ pub fn sbc(a: u8, b: u8, f: Flags) -> Computed
 }
 
 // The flags of CMP, CPX and CPY.
-// Wrong answers: C 0 for equal bytes; the byte less the register.
+// Wrong answers: N and Z of the register; the byte less the register.
 pub fn compared(r: u8, b: u8, f: Flags) -> Flags
     ensures { λ q. ⌜ q ≡ comparedOf r b f ⌝ }
 {

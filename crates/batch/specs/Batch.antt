@@ -4,55 +4,25 @@ use Prim.Native.Nat.{ℕ, zero, suc, _+_, _%_}
 use mathlib.Core.Bool.{Bool, true, false}
 use mathlib.Core.List.{List}
 use lib.Dec.{ltb}
-use lib.ListN.{set}
 use Rattle.bits.specs.Byte.{pick}
 use Rattle.operations.specs.declared.Cpu.{Cpu}
 use Rattle.operations.specs.Operations.{setOver, isClear}
-use Rattle.memory.specs.declared.Place.{Place}
-use Rattle.memory.specs.declared.Place.the-variants as at
-use Rattle.memory.specs.declared.Store.{Store}
-use Rattle.memory.specs.declared.Store.the-variants.{Nothing, Byte, PushOne, PushTwo, PushThree}
-use Rattle.memory.specs.Memory.{memory, place, stackPlace, below}
+use Rattle.memory.specs.Memory.{memory}
 use Rattle.memory.specs.Reads.{Result, gives, refuses}
 use Rattle.instruction.specs.declared.Effect.{Effect}
 use Rattle.instruction.specs.Program.{perform}
 use Rattle.instruction.specs.Instruction.{instructionBy}
-use Rattle.batch.specs.declared.Destination.{Destination}
-use Rattle.batch.specs.declared.Destination.the-variants as to
+pub use Rattle.execution.specs.Execution.{destinationAt, storedAt, executedWith, ramWith}
+unfoldable pub use Rattle.execution.specs.Execution.{destination, stored, executedTo}
+use Rattle.execution.specs.declared.Destination.{Destination}
+use Rattle.execution.specs.declared.Destination.the-variants as to
+use Rattle.execution.specs.declared.Executed.{Executed}
+use Rattle.execution.specs.declared.Executed.the-variants as executed
 use Rattle.batch.specs.declared.Turn.{Turn}
 use Rattle.batch.specs.declared.Turn.the-variants as turn
 use Rattle.batch.specs.declared.Reason.{Reason}
 use Rattle.batch.specs.declared.Reason.the-variants as reason
 use Rattle.batch.specs.declared.Pause.{Pause}
-
--- ---- a store: where it goes, and RAM after it
-
--- a byte stored at a place: a register is the chip's; ROM and what is not mapped refuse with 21
-abbrev pub destinationAt : ℕ → Place → Destination
-destinationAt b (at.Register r) = to.Register r b
-destinationAt b (at.Ram i) = to.Ram
-destinationAt b (at.Rom i) = to.Refused 21
-destinationAt b at.Unmapped = to.Refused 21
-
-abbrev pub storedAt : List ℕ → ℕ → Place → List ℕ
-storedAt ram b (at.Register r) = ram
-storedAt ram b (at.Ram i) = set ram i b
-storedAt ram b (at.Rom i) = ram
-storedAt ram b at.Unmapped = ram
-
-unfoldable pub destination : Store → Destination
-destination Nothing = to.Ram
-destination (Byte a b) = destinationAt b (place a)
-destination (PushOne s b) = to.Ram
-destination (PushTwo s b c) = to.Ram
-destination (PushThree s b c d) = to.Ram
-
-unfoldable pub stored : List ℕ → Store → List ℕ
-stored ram Nothing = ram
-stored ram (Byte a b) = storedAt ram b (place a)
-stored ram (PushOne s b) = set ram (stackPlace s) b
-stored ram (PushTwo s b c) = set (set ram (stackPlace s) b) (stackPlace (below s)) c
-stored ram (PushThree s b c d) = set (set (set ram (stackPlace s) b) (stackPlace (below s)) c) (stackPlace (below (below s))) d
 
 -- ---- cycles
 
@@ -81,9 +51,11 @@ abbrev pub turnWith : Result Effect → Turn
 turnWith (gives e) = turnTo (destination (e .store)) e
 turnWith (refuses n) = turn.Refused n
 
-abbrev pub ramWith : Result Effect → List ℕ → List ℕ
-ramWith (gives e) ram = stored ram (e .store)
-ramWith (refuses n) ram = ram
+-- the same from what became of instruction and store
+unfoldable pub turnFrom : Executed → Turn
+turnFrom (executed.Done c n) = pick (ltb (c .over + n) 32) (turn.On (setOver ((c .over + n) % 32) c)) (turn.Clock (setOver ((c .over + n) % 32) c))
+turnFrom (executed.Write c n r b) = turn.Write c n r b
+turnFrom (executed.Refused n) = turn.Refused n
 
 unfoldable pub turnOf : List ℕ → List ℕ → List ℕ → Bool → Cpu → List ℕ → Turn
 turnOf table seen rom request c ram =

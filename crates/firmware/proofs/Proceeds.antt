@@ -26,7 +26,8 @@ use Rattle.operations.specs.Operations.{setOver}
 use Rattle.instruction.specs.Instruction.{interrupted}
 use Rattle.batch.specs.declared.Reason.{Reason}
 use Rattle.batch.specs.declared.Reason.the-variants.{Count, Clock, Interrupt, Write, Refused}
-use Rattle.batch.specs.Batch.{stored, cyclesWith, counted, Batch, batch}
+use Rattle.execution.specs.Execution.{stored}
+use Rattle.batch.specs.Batch.{cyclesWith, counted, Batch, batch}
 use Rattle.machine.specs.Machine.{Machine, machine, Turned, turned, clockAfter, isRequesting, interruptTaken, turn}
 use Rattle.machine.specs.Run.{Ended, ended, onTurned, runs}
 use Rattle.machine.specs.Seen.{Knows, Waiting, knownReading}

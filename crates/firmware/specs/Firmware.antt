@@ -22,7 +22,8 @@ use Rattle.operations.specs.Operations.{setOver}
 use Rattle.instruction.specs.Instruction.{interrupted, resetCpu}
 use Rattle.batch.specs.declared.Reason.{Reason}
 use Rattle.batch.specs.declared.Reason.the-variants.{Count, Clock, Interrupt, Write, Refused}
-use Rattle.batch.specs.Batch.{stored, cyclesWith, counted, Batch, batch}
+use Rattle.execution.specs.Execution.{stored}
+use Rattle.batch.specs.Batch.{cyclesWith, counted, Batch, batch}
 use Rattle.machine.specs.Machine.{isRequesting}
 use Rattle.machine.specs.Run.{numberOf, Ended, Called}
 use Rattle.machine.specs.Seen.{knownReading}

@@ -8,7 +8,7 @@ ghost use Rattle.outcome.specs.Outcome.{next as nextOf, wasReset};
 ghost use Rattle.machine.specs.Machine.{machine, isRequesting};
 ghost use Rattle.machine.specs.Run.{wordOf, called, runs, isWellFormed, firmware as firmwareOf};
 ghost use Rattle.machine.specs.Seen.{knownReading};
-ghost use Rattle.batch.specs.Batch.{stored};
+ghost use Rattle.execution.specs.Execution.{stored};
 ghost use Rattle.instruction.specs.Instruction.{interrupted};
 ghost use Rattle.firmware.specs.Firmware.{resultOf, refusedResult, occurredWith, until as untilOf, noneSeen, following as followingOf, coreAfterCycles, afterInterrupted, afterWrite, registersWritten, afterRefusal, seenAfter, settledBy, proceeded};
 use batch::Pause;
@@ -219,7 +219,7 @@ fn settle_interrupt(ram: &mut [u8; 256], rom: &[u8], core: Core, c: Cpu, i: u32)
 {
     let e = instruction::interrupt(c, rom);
     let t = e.store;
-    batch::commit(ram, t);
+    execution::commit(ram, t);
     let q = e.cpu;
     let n = (q.over as u16) + (e.cycles as u16);
     Settled {

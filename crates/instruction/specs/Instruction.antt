@@ -19,18 +19,11 @@ use Rattle.operations.specs.Operations.{setA, setP, setS, setPc, jumped, intoA,
 use Rattle.memory.specs.declared.Store.{Store as Stored}
 use Rattle.memory.specs.declared.Store.the-variants.{Nothing, Byte, PushOne, PushTwo, PushThree}
 use Rattle.memory.specs.Memory.{stack, below, above, romWord}
-use Rattle.memory.specs.Reads.{Reads, done, Result, gives, refuses, word}
+use Rattle.memory.specs.Reads.{Reads, done, word}
 use Rattle.addressing.specs.declared.Effective.{Effective}
 use Rattle.addressing.specs.Addressing.{ahead, effective, locate}
 use Rattle.instruction.specs.declared.Effect.{Effect}
-use Rattle.instruction.specs.declared.Performed.{Performed}
-use Rattle.instruction.specs.declared.Performed.the-variants as performed
 use Rattle.instruction.specs.Program.{Instruction, leaves, rejected, reads, pushes, andThen}
-
--- what the code's answer stands for
-abbrev pub performedResult : Performed → Result Effect
-performedResult (performed.Done e) = gives e
-performedResult (performed.Refused n) = refuses n
 
 -- what an instruction leaves: CPU, cycles, store
 abbrev pub effect : Cpu → ℕ → Stored → Effect

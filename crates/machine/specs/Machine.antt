@@ -23,9 +23,10 @@ use Rattle.memory.specs.Reads.{Result, gives, refuses}
 use Rattle.instruction.specs.declared.Effect.{Effect}
 use Rattle.instruction.specs.Program.{perform}
 use Rattle.instruction.specs.Instruction.{instruction, interrupt}
-use Rattle.batch.specs.declared.Destination.{Destination}
-use Rattle.batch.specs.declared.Destination.the-variants as to
-use Rattle.batch.specs.Batch.{destination, stored, cyclesWith, counted, isInterrupted}
+use Rattle.execution.specs.declared.Destination.{Destination}
+use Rattle.execution.specs.declared.Destination.the-variants as to
+use Rattle.execution.specs.Execution.{destination, stored}
+use Rattle.batch.specs.Batch.{cyclesWith, counted, isInterrupted}
 
 pub record Machine : Type 0 where
   pub cpu : Cpu

@@ -28,7 +28,7 @@ pub enum Store {
 }
 
 // Where an address leads.
-// Wrong answers: the mirror mapped one page further; 0026 taken for a register.
+// Wrong answers: 0200 mapped; 0026 taken for a register.
 pub fn place_of(a: u16) -> Place
     ensures { λ r. ⌜ (r ≡ place a) × Reaches r ⌝ }
 {
@@ -73,7 +73,7 @@ fn rom_byte(rom: &[u8], i: usize) -> u8
 }
 
 // A read at an address: RAM, ROM, or what is known of a register.
-// Wrong answers: 20 where nothing is mapped; RAM one place further.
+// Wrong answers: 20 where nothing is mapped; the refusal of a register told without its upper bit.
 pub fn load(seen: &[u16; 38], ram: &[u8; 256], rom: &[u8], a: u16) -> Loaded
     ensures { λ r. ⌜ r ≡ memory (now (seen .entry)) (now (ram .entry)) (now (rom .entry)) a ⌝ }
 {
@@ -87,7 +87,7 @@ pub fn load(seen: &[u16; 38], ram: &[u8; 256], rom: &[u8], a: u16) -> Loaded
 }
 
 // The vector at two places of ROM.
-// Wrong answers: the high byte first; the next two places.
+// Wrong answers: the high byte first; the low byte twice.
 pub fn rom_word(rom: &[u8], i: u16) -> u16
     ensures { λ r. ⌜ r ≡ romWord (now (rom .entry)) i ⌝ }
 {
@@ -97,7 +97,7 @@ pub fn rom_word(rom: &[u8], i: u16) -> u16
 }
 
 // S after a push.
-// Wrong answers: S that stays at 0; two less.
+// Wrong answers: S that stays at 0; S that goes from 0 to 254.
 pub fn below(s: u8) -> u8
     ensures { λ r. ⌜ r ≡ belowOf s ⌝ }
 {
@@ -105,7 +105,7 @@ pub fn below(s: u8) -> u8
 }
 
 // S after a pull.
-// Wrong answers: two more; one less.
+// Wrong answers: two more; a wrap one early.
 pub fn above(s: u8) -> u8
     ensures { λ r. ⌜ r ≡ aboveOf s ⌝ }
 {
@@ -121,7 +121,7 @@ pub fn stack(s: u8) -> u16
 }
 
 // The place in RAM of a stack place.
-// Wrong answers: the place next to it; the upper half not mirrored.
+// Wrong answers: 0180 one place further; 0100 one place short.
 pub fn stack_place(s: u8) -> usize
     ensures { λ r. ⌜ (r ≡ stackPlace s) × (r < 256) ⌝ }
 {
@@ -142,7 +142,7 @@ fn is_stack_place(s: u8, a: u16) -> bool
 }
 
 // A read after two bytes were pushed from S down, the first of them h.
-// Wrong answers: the bytes exchanged; the byte that stood there before.
+// Wrong answers: the first byte for the second; every place of ROM taken for the stack.
 pub fn load_after_push(
     seen: &[u16; 38],
     ram: &[u8; 256],

@@ -372,7 +372,7 @@ const OPCODES: [u32; 256] = [
 ];
 
 // The table, for the caller to lend: a constant array would be built anew at each use.
-// Wrong answers: BRK of two bytes; an undocumented opcode taken as NOP.
+// Wrong answers: BRK of two bytes; NOP not documented.
 pub fn table() -> [u32; 256]
     ensures { λ r. ⌜ r ≡ opcodes ⌝ }
 {
@@ -380,7 +380,7 @@ pub fn table() -> [u32; 256]
 }
 
 // The entry of an opcode.
-// Wrong answers: the entry of the next opcode; the entry of opcode 0.
+// Wrong answers: the entry of half the opcode; bit 7 of the opcode dropped.
 pub fn entry(table: &[u32; 256], opcode: u8) -> u32
     ensures { λ r. ⌜ r ≡ getD (now (table .entry)) opcode 0 ⌝ }
 {
@@ -493,7 +493,7 @@ pub fn mode_of(entry: u32) -> Mode
 }
 
 // The length of an entry, in bytes.
-// Wrong answers: the digit of the cycles taken; one byte more.
+// Wrong answers: one bit too low; one bit too high.
 pub fn length_of(entry: u32) -> u8
     ensures { λ r. ⌜ r ≡ lengthOf entry ⌝ }
 {

@@ -23,7 +23,8 @@ pub struct Cpu {
 
 // ---- the CPU with a register changed
 
-// Wrong answers: A kept; X changed for A.
+// A and the flags.
+// Wrong answers: A kept; X taken.
 pub fn set_a(r: u8, f: Flags, c: Cpu) -> Cpu
     ensures { λ q. ⌜ q ≡ setA r f c ⌝ }
 {
@@ -38,7 +39,8 @@ pub fn set_a(r: u8, f: Flags, c: Cpu) -> Cpu
     }
 }
 
-// Wrong answers: X kept; Y changed for X.
+// X and the flags.
+// Wrong answers: X kept; A taken.
 pub fn set_x(r: u8, f: Flags, c: Cpu) -> Cpu
     ensures { λ q. ⌜ q ≡ setX r f c ⌝ }
 {
@@ -53,7 +55,8 @@ pub fn set_x(r: u8, f: Flags, c: Cpu) -> Cpu
     }
 }
 
-// Wrong answers: Y kept; X changed for Y.
+// Y and the flags.
+// Wrong answers: Y kept; X taken.
 pub fn set_y(r: u8, f: Flags, c: Cpu) -> Cpu
     ensures { λ q. ⌜ q ≡ setY r f c ⌝ }
 {
@@ -68,12 +71,14 @@ pub fn set_y(r: u8, f: Flags, c: Cpu) -> Cpu
     }
 }
 
-// Wrong answers: A cleared; S cleared.
+// The flags.
+// Wrong answers: A changed to X; A changed to Y.
 pub fn set_p(f: Flags, c: Cpu) -> Cpu
     ensures { λ r. ⌜ r ≡ setP f c ⌝ }
 {
+    let a = c.a;
     Cpu {
-        a: c.a,
+        a: a,
         x: c.x,
         y: c.y,
         s: c.s,
@@ -83,7 +88,8 @@ pub fn set_p(f: Flags, c: Cpu) -> Cpu
     }
 }
 
-// Wrong answers: S kept; A changed for S.
+// S.
+// Wrong answers: S kept; X taken.
 pub fn set_s(s: u8, c: Cpu) -> Cpu
     ensures { λ r. ⌜ r ≡ setS s c ⌝ }
 {
@@ -99,7 +105,8 @@ pub fn set_s(s: u8, c: Cpu) -> Cpu
     }
 }
 
-// Wrong answers: PC kept; the cycles over cleared.
+// PC.
+// Wrong answers: PC kept; PC 0.
 pub fn set_pc(pc: u16, c: Cpu) -> Cpu
     ensures { λ r. ⌜ r ≡ setPc pc c ⌝ }
 {
@@ -115,22 +122,24 @@ pub fn set_pc(pc: u16, c: Cpu) -> Cpu
     }
 }
 
+// PC, S and the flags.
 // Wrong answers: S kept; PC kept.
-pub fn jumped(pc: u16, s: u8, f: Flags, c: Cpu) -> Cpu
-    ensures { λ r. ⌜ r ≡ jumpedOf pc s f c ⌝ }
+pub fn jumped(to: u16, sp: u8, f: Flags, c: Cpu) -> Cpu
+    ensures { λ r. ⌜ r ≡ jumpedOf to sp f c ⌝ }
 {
     Cpu {
         a: c.a,
         x: c.x,
         y: c.y,
-        s: s,
+        s: sp,
         p: f,
-        pc: pc,
+        pc: to,
         over: c.over,
     }
 }
 
-// Wrong answers: the cycles over kept; PC cleared.
+// The cycles over.
+// Wrong answers: the cycles over kept; 0.
 pub fn set_over(n: u8, c: Cpu) -> Cpu
     ensures { λ r. ⌜ r ≡ setOver n c ⌝ }
 {
@@ -231,7 +240,7 @@ fn one_less(b: u8) -> u8
 }
 
 // An operation that changes a byte.
-// Wrong answers: C of LSR by bit 7; DEC of two.
+// Wrong answers: LSR by two places; ROR that puts C into bit 6.
 pub fn modify_operation(o: ModifyOperation, b: u8, f: Flags) -> Computed
     ensures { λ r. ⌜ r ≡ modifyOperation o b f ⌝ }
 {
@@ -366,7 +375,7 @@ pub fn pushed_p(f: Flags, b: bool) -> u8
 }
 
 // The flags of a pulled P.
-// Wrong answers: D from bit 4; V from bit 5.
+// Wrong answers: D from bit 4; I from bit 1.
 pub fn pulled_p(b: u8) -> Flags
     ensures { λ r. ⌜ r ≡ pulledP b ⌝ }
 {

@@ -1,4 +1,5 @@
 use mathlib.Core.Path.{refl}
+use Rattle.batch.proofs.Turns.{turn-with}
 use Rattle.batch.specs.Batch.{turnOf, ramAfter}
 use borrow.Author.Needs.{needs}
 use Rattle.batch.proofs.turn_of.Statement.{statement}
@@ -11,10 +12,6 @@ turn-of-spec =
     (tie.spec
     (λ c κs. search needs)
     (λ c κs. search needs)
-    (λ c. search needs)
     (λ c κs. search needs)
-    (λ c κs. search needs)
-    (λ c. search needs)
     (λ c. simp (← (c .before .is-interrupted .ensures), c .if1 .taken) (refl, refl))
-    (λ c. simp (← (c .before .before .before .before .before .before .before .before .before .is-interrupted .ensures), c .before .before .before .before .before .before .before .before .if1 .left, ← (c .before .before .before .before .before .before .perform .ensures), c .before .before .before .before .d .given .1, c .turn-to .ensures, c .before .commit .ensures .0, c .before .commit .ensures .1) (refl, refl))
-    (λ c. simp (← (c .before .before .before .before .before .before .is-interrupted .ensures), c .before .before .before .before .before .if1 .left, ← (c .before .before .before .perform .ensures), c .before .d2 .given .1) (refl, refl)))
+    (λ c. simp (← (c .before .before .before .before .is-interrupted .ensures), c .before .before .before .if1 .left, c .turn-from .ensures, c .before .instruction-at .ensures .0, c .before .instruction-at .ensures .1, turn-with) (refl, refl)))
