@@ -462,7 +462,7 @@ fn is_well_formed(cpu: Cpu, chip: Chip) -> bool
 
 // The firmware call: `instructions` instructions from the CPU, with the events of the list between them. Where it is refused before anything
 // runs, all that is lent is left as it was.
-// Wrong answers: 31 cycles over refused; the answer places tested before the ROM; RAM or answers written where the call is refused.
+// Wrong answers: a ROM of 24,575 bytes asked for; 8 where there are fewer answer places than events.
 pub fn run(
     cpu: Cpu,
     ram: &mut [u8; 256],
