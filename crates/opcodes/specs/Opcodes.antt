@@ -26,7 +26,7 @@ abbrev pub numbered : {A : Type 0} → List A → ℕ → ℕ → A → A
 numbered [] i k d = d
 numbered (a ∷ l) i k d = pick (eqb k i) a (numbered l (suc i) k d)
 
--- the operations, numbered from 0
+-- the operations, numbered from 0; four numbers of six bits are left over
 unfoldable pub operations : List Operation
 operations =
     Read Lda ∷ Read Ldx ∷ Read Ldy ∷ Read And ∷ Read Ora ∷ Read Eor ∷ Read Adc ∷ Read Sbc ∷ Read Cmp ∷ Read Cpx ∷ Read Cpy ∷ Read Bit ∷
@@ -36,17 +36,18 @@ operations =
     Implied Clc ∷ Implied Sec ∷ Implied Cli ∷ Implied Sei ∷ Implied Cld ∷ Implied Sed ∷ Implied Clv ∷ Implied Nop ∷
     Implied Tax ∷ Implied Tay ∷ Implied Txa ∷ Implied Tya ∷ Implied Tsx ∷ Implied Txs ∷ Implied Inx ∷ Implied Iny ∷ Implied Dex ∷ Implied Dey ∷
     Branch Bpl ∷ Branch Bmi ∷ Branch Bvc ∷ Branch Bvs ∷ Branch Bcc ∷ Branch Bcs ∷ Branch Bne ∷ Branch Beq ∷
-    Jmp ∷ Jsr ∷ Rts ∷ Rti ∷ Brk ∷ Pha ∷ Php ∷ Pla ∷ Plp ∷ []
+    Jmp ∷ Jsr ∷ Rts ∷ Rti ∷ Brk ∷ Pha ∷ Php ∷ Pla ∷ Plp ∷
+    Undocumented ∷ Undocumented ∷ Undocumented ∷ Undocumented ∷ []
 
 unfoldable pub operationNumbered : ℕ → Operation
 unfolding operations
 operationNumbered k = numbered operations 0 k Undocumented
 
--- the addressing modes, numbered from 0
+-- the addressing modes, numbered from 0; three numbers of four bits are left over
 unfoldable pub modes : List Mode
 modes =
     mode.Implied ∷ mode.Accumulator ∷ mode.Immediate ∷ mode.ZeroPage ∷ mode.ZeroPageX ∷ mode.ZeroPageY ∷ mode.Absolute ∷
-    mode.AbsoluteX ∷ mode.AbsoluteY ∷ mode.AbsoluteIndirect ∷ mode.IndexedIndirect ∷ mode.IndirectIndexed ∷ mode.Relative ∷ []
+    mode.AbsoluteX ∷ mode.AbsoluteY ∷ mode.AbsoluteIndirect ∷ mode.IndexedIndirect ∷ mode.IndirectIndexed ∷ mode.Relative ∷ mode.Undocumented ∷ mode.Undocumented ∷ mode.Undocumented ∷ []
 
 unfoldable pub modeNumbered : ℕ → Mode
 unfolding modes
@@ -72,7 +73,7 @@ modeLength mode.Undocumented = 0
 
 -- the digits of an entry
 unfoldable pub operationOf : ℕ → Operation
-operationOf e = operationNumbered (e / 4096 % 256)
+operationOf e = operationNumbered (e / 4096 % 64)
 
 unfoldable pub modeOf : ℕ → Mode
 modeOf e = modeNumbered (e / 256 % 16)
@@ -85,7 +86,7 @@ cyclesOf e = e % 16
 
 -- the entry is JSR's, the one operation that fetches its operand itself
 unfoldable pub isJsr : ℕ → Bool
-isJsr e = eqb (e / 4096 % 256) 52
+isJsr e = eqb (e / 4096 % 64) 52
 
 -- an opcode's own
 unfoldable pub entryOf : ℕ → ℕ

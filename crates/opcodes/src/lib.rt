@@ -387,6 +387,7 @@ pub fn entry(table: &[u32; 256], opcode: u8) -> u32
     table[opcode as usize]
 }
 
+// All numbers of six bits have an arm, so that the jump needs no test of its range.
 fn operation_numbered(k: u8) -> Operation
     ensures { λ r. ⌜ r ≡ operationNumbered k ⌝ }
 {
@@ -451,6 +452,10 @@ fn operation_numbered(k: u8) -> Operation
         57 => Operation::Php,
         58 => Operation::Pla,
         59 => Operation::Plp,
+        60 => Operation::Undocumented,
+        61 => Operation::Undocumented,
+        62 => Operation::Undocumented,
+        63 => Operation::Undocumented,
         _ => Operation::Undocumented,
     }
 }
@@ -460,9 +465,10 @@ fn operation_numbered(k: u8) -> Operation
 pub fn operation_of(entry: u32) -> Operation
     ensures { λ r. ⌜ r ≡ operationOf entry ⌝ }
 {
-    operation_numbered((entry / 4096 % 256) as u8)
+    operation_numbered((entry / 4096 % 64) as u8)
 }
 
+// All numbers of four bits have an arm.
 fn mode_numbered(k: u8) -> Mode
     ensures { λ r. ⌜ r ≡ modeNumbered k ⌝ }
 {
@@ -480,6 +486,9 @@ fn mode_numbered(k: u8) -> Mode
         10 => Mode::IndexedIndirect,
         11 => Mode::IndirectIndexed,
         12 => Mode::Relative,
+        13 => Mode::Undocumented,
+        14 => Mode::Undocumented,
+        15 => Mode::Undocumented,
         _ => Mode::Undocumented,
     }
 }
@@ -513,5 +522,5 @@ pub fn cycles_of(entry: u32) -> u8
 pub fn is_jsr(entry: u32) -> bool
     ensures { λ r. ⌜ r ≡ isJsr entry ⌝ }
 {
-    entry / 4096 % 256 == 52
+    entry / 4096 % 64 == 52
 }
