@@ -1,0 +1,4 @@
+pub mod Loads
+pub mod Instructions
+pub mod Interrupts
+pub mod Pauses
