@@ -1,3 +1,4 @@
 pub mod Trees
 pub mod Numbers
 pub mod Clocks
+pub mod Parts
