@@ -90,7 +90,7 @@ dropped-by : (rom : List ℕ) (i e x : ℕ) (es : List ℕ) (l : List ℕ) (b : 
 dropped-by rom i e x es l true h = refl
 dropped-by rom i e x es l false h = h
 
-left-dropped : (rom : List ℕ) (i : ℕ) (es : List ℕ) (m : Machine) → left i es ≡ drop (length (answersBefore rom i es m)) es
+pub left-dropped : (rom : List ℕ) (i : ℕ) (es : List ℕ) (m : Machine) → left i es ≡ drop (length (answersBefore rom i es m)) es
 unfolding left answersBefore
 left-dropped rom i [] m = refl
 left-dropped rom i (e ∷ es) m =
