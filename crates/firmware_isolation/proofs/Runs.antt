@@ -13,7 +13,7 @@ use Rattle.chip.specs.declared.Chip.{Chip}
 use Rattle.chip.specs.State.{modeOf}
 use Rattle.well_formed.specs.WellFormed.{wellFormed}
 use Rattle.step.specs.Step.{answered}
-use Rattle.isolation.specs.Foreign.{Trace, Observer, observerOf, Begun, comparedAnswer, comparedAnswers, comparedState}
+use Rattle.isolation.specs.Foreign.{Trace, Observer, observerOf, observe, untouched, Begun, comparedAnswer, comparedAnswers, comparedState}
 use Rattle.isolation.proofs.Runs.{related-agree}
 use Rattle.isolation.proofs.Theorems.{self-related, flags-lt}
 use Rattle.operations.specs.declared.Cpu.{Cpu}
@@ -21,7 +21,7 @@ use Rattle.instruction.specs.Program.{Access}
 use Rattle.machine.specs.Machine.{Machine, machine, Turned, turned, turn}
 use Rattle.machine.specs.Run.{Ended, ended, prepended, onTurned, runs, Called, called, isWellFormed, firmware, numberOf, wordOf, occurred, fed, left, answersBefore}
 use Rattle.firmware_isolation.specs.Trace.{Entry, given, made, entries, turnAccesses, eventsBefore, trace, eventsOf, wordsOf, answersOf, accessesOf}
-use Rattle.firmware_isolation.specs.Transfers.{ForeignRuns, comparedTrace, RunsAgree, CallsAgree}
+use Rattle.firmware_isolation.specs.Transfers.{happening, throughout, leavesSda, equalThroughout, ForeignRuns, OneForeignTransfer, comparedTrace, RunsAgree, CallsAgree}
 use Rattle.firmware_isolation.proofs.Observers.{watch}
 use Rattle.firmware_isolation.proofs.Turns.{Both, both, Ended as TurnEnds, onward, halted, turns}
 use Rattle.firmware_isolation.proofs.Lists.{left-permitted, left-unread, behind-accesses, Fed, feeds, behindEvents, later-behind}
@@ -178,6 +178,22 @@ firmware-runs n rom m w h b es fs q =
       ram = e .ram;
       chip = e .chip;
     }
+
+-- ---- one transfer
+
+untouched-equal : (o p : Observer) (s t : List Entry) → throughout leavesSda o s ≡ true → equalThroughout o p s t ≡ true
+untouched-equal o p [] t h = refl
+untouched-equal o p (x ∷ s) [] h = refl
+untouched-equal o p (given e x ∷ s) (given f y ∷ t) h =
+    let z = both-true (untouched o (decode (wordOf e))) _ h in
+    rw (z .0) (untouched-equal (observe o (decode (wordOf e))) (observe p (decode (wordOf f))) s t (z .1))
+untouched-equal o p (given e x ∷ s) (made b ∷ t) h =
+    untouched-equal (observe o (decode (wordOf e))) (observe p (happening (made b))) s t (both-true (untouched o (decode (wordOf e))) _ h .1)
+untouched-equal o p (made a ∷ s) (y ∷ t) h = untouched-equal (observe o (happening (made a))) (observe p (happening y)) s t h
+
+-- SDA left alone while SCL is high is SDA touched equally there
+pub foreign-of : {o p : Observer} {s t : List Entry} → OneForeignTransfer o p s t → ForeignRuns o p s t
+foreign-of {o} {p} {s} {t} q = record { events = q .events; left = q .left; right = q .right; sda = untouched-equal o p s t (q .sda); unread = q .unread }
 
 -- ---- the firmware call
 

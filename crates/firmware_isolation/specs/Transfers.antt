@@ -10,7 +10,7 @@ use Rattle.registers.specs.Names.{IIDAT}
 use Rattle.events.specs.declared.Decoded.{Decoded}
 use Rattle.events.specs.declared.Decoded.the-variants.{Read, Write}
 use Rattle.events.specs.Word.{decode}
-use Rattle.isolation.specs.Foreign.{Observer, observe, permitted, sameButSda, equalAtHigh, comparedAnswer, comparedAnswers, comparedState}
+use Rattle.isolation.specs.Foreign.{Observer, observe, permitted, untouched, sameButSda, equalAtHigh, comparedAnswer, comparedAnswers, comparedState}
 use Rattle.instruction.specs.Program.{Access, readAt, writeAt}
 use Rattle.machine.specs.Run.{Ended, Called, numberOf, wordOf}
 use Rattle.firmware_isolation.specs.Trace.{Entry, given, made, wordsOf, eventsOf, accessesOf}
@@ -73,6 +73,18 @@ pub record ForeignRuns (o p : Observer) (s t : List Entry) : Type 0 where
   pub left : throughout mayHappen o s ≡ true
   pub right : throughout mayBeListed p t ≡ true
   pub sda : equalThroughout o p s t ≡ true
+  pub unread : throughout leavesData o s ≡ true
+
+-- one transfer: SDA is left alone while SCL is high. One run is enough for that: the other touches SDA at the same places.
+abbrev pub leavesSda : Observer → Entry → Bool
+leavesSda o (given e x) = untouched o (decode (wordOf e))
+leavesSda o (made a) = true
+
+pub record OneForeignTransfer (o p : Observer) (s t : List Entry) : Type 0 where
+  pub events : alikeEvents (eventsOf s) (eventsOf t) ≡ true
+  pub left : throughout mayHappen o s ≡ true
+  pub right : throughout mayBeListed p t ≡ true
+  pub sda : throughout leavesSda o s ≡ true
   pub unread : throughout leavesData o s ≡ true
 
 -- ---- what is the same

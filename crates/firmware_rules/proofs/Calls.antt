@@ -97,6 +97,21 @@ module _ (c : Cpu) (ram rom : List ℕ) (k : Chip) (es places : List ℕ) (n : �
   unfolding firmware
   only-few-places h = seven-by (isWellFormed c k) (eqb (length rom) 24576) (ltb (length places) (length es)) h
 
+  -- ---- a well formed state is left well formed
+
+  kept-by : (w r p : Bool) → isWellFormed c k ≡ true → w ≡ true
+      → isWellFormed
+      (pick w (pick r (pick p (notRun 7 c ram k places) (called (runs n 0 rom es (machine c ram k)) places)) (notRun 22 c ram k places)) (notRun 8 c ram k places) .cpu)
+      (pick w (pick r (pick p (notRun 7 c ram k places) (called (runs n 0 rom es (machine c ram k)) places)) (notRun 22 c ram k places)) (notRun 8 c ram k places) .chip) ≡ true
+  kept-by true true true h g = h
+  kept-by true true false h g = run-well-formed n 0 rom es (machine c ram k) h
+  kept-by true false p h g = h
+  kept-by false r p h g = absurd (true≢false (sym g))
+
+  pub call-well-formed : isWellFormed c k ≡ true → isWellFormed (firmware c ram rom k es places n .cpu) (firmware c ram rom k es places n .chip) ≡ true
+  unfolding firmware
+  call-well-formed h = kept-by (isWellFormed c k) (eqb (length rom) 24576) (ltb (length places) (length es)) h h
+
 -- ---- a run that is refused
 
 -- it is refused at instruction i + at: the run up to there is not, and what is left is what that instruction's events and interrupt leave
