@@ -1,3 +1,4 @@
 pub mod Opened
 pub mod Holds
 pub mod Needed
+pub mod Rules

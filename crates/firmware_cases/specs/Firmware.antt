@@ -19,6 +19,13 @@ cpu = record { a = 0; x = 0; y = 0; s = 255; p = flags false false false true fa
 abbrev pub ram : List ℕ
 ram = replicate 256 0
 
+-- the same CPU with I clear; and with 31 cycles over
+abbrev pub openCpu : Cpu
+openCpu = record { a = 7; x = 0; y = 0; s = 255; p = flags false false true false false true; pc = 0xA000; over = 0 }
+
+abbrev pub fullCpu : Cpu
+fullCpu = record { a = 0; x = 0; y = 0; s = 255; p = flags false false false true false false; pc = 0xA000; over = 31 }
+
 -- words given one after another
 abbrev pub wordsGiven : Chip → List ℕ → Chip
 wordsGiven k [] = k
@@ -38,6 +45,15 @@ startedMachine = machine cpu ram startedChip
 unfoldable pub idleMachine : Machine
 unfolding idleChip
 idleMachine = machine cpu ram idleChip
+
+-- flag S, raised by a fall of SCL, is enabled, so that a request stands
+unfoldable pub requestingMachine : Machine
+unfolding startedChip
+requestingMachine = machine openCpu ram (wordsGiven startedChip (0x02000F20 ∷ 0x03001900 ∷ []))
+
+unfoldable pub fullMachine : Machine
+unfolding startedChip
+fullMachine = machine fullCpu ram startedChip
 
 -- a listed event for instruction i
 abbrev pub event : ℕ → ℕ → ℕ
