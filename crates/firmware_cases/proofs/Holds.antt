@@ -1,21 +1,20 @@
 -- The theorem at work: a firmware that polls the flags while a host talks to another device.
 use Prim.Native.Nat.{ℕ, _+_}
 use mathlib.Core.Path.{_≡_, refl, ap, _∙_}
-use mathlib.Core.Bool.{Bool, true, false}
-use mathlib.Core.List.{List, [], _∷_, _++_}
-use lib.ListN.{length, replicate, getD, length-append, length-replicate}
+use mathlib.Core.Bool.{true}
+use mathlib.Core.List.{[], _∷_, _++_}
+use lib.ListN.{length, replicate, length-append, length-replicate}
 use Rattle.bus.specs.declared.Phase.{Phase}
 use Rattle.bus.specs.declared.Phase.the-variants.{Ignoring}
-use Rattle.isolation.specs.Foreign.{none, since, observerOf, start-seen, bus-idle}
+use Rattle.isolation.specs.Foreign.{since, start-seen, bus-idle}
 use Rattle.memory.specs.declared.Loaded.the-variants.{Byte}
-use Rattle.instruction.specs.Program.{Access, readAt, writeAt}
-use Rattle.machine.specs.Machine.{Machine}
+use Rattle.instruction.specs.Program.{readAt, writeAt}
 use Rattle.machine.specs.Run.{runs, firmware}
 use Rattle.firmware_isolation.specs.Trace.{trace, accessesOf}
-use Rattle.firmware_isolation.specs.Transfers.{ForeignRuns, RunsAgree, CallsAgree}
+use Rattle.firmware_isolation.specs.Transfers.{RunsAgree, CallsAgree}
 use Rattle.firmware_isolation.proofs.Runs.{firmware-runs, firmware-calls}
 use Rattle.firmware_cases.specs.Firmware.{cpu, ram, startedChip, startedMachine, idleMachine, event, transfer, whole, times, polling, pollingRom}
-use Rattle.firmware_cases.specs.Tests.{Tested, tests}
+use Rattle.firmware_cases.specs.Tests.{tests}
 use Rattle.firmware_cases.proofs.Opened.{opened}
 
 -- ---- one transfer: A2H and 54H are not for this chip

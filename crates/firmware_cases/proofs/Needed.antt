@@ -1,7 +1,7 @@
 -- No premise can be left out: for each a pair of runs where it alone fails, and something compared differs.
 use Prim.Native.Nat.{ℕ}
 use mathlib.Core.Path.{_≡_, refl}
-use mathlib.Core.Bool.{Bool, true, false}
+use mathlib.Core.Bool.{true, false}
 use mathlib.Core.List.{List, [], _∷_, _++_}
 use lib.ListN.{getD}
 use Rattle.bus.specs.declared.Phase.{Phase}

@@ -1,17 +1,17 @@
 -- The rules of a firmware run at small programs, computed.
 use Prim.Native.Nat.{ℕ}
 use mathlib.Core.Path.{_≡_, refl}
-use mathlib.Core.Bool.{Bool, true, false}
-use mathlib.Core.List.{List, [], _∷_, _++_}
+use mathlib.Core.Bool.{Bool, true}
+use mathlib.Core.List.{List, [], _∷_}
 use lib.ListN.{getD, length}
-use Rattle.memory.specs.declared.Loaded.the-variants.{Byte, Refused}
+use Rattle.memory.specs.declared.Loaded.the-variants.{Byte}
 use Rattle.instruction.specs.Program.{Access, readAt, writeAt}
 use Rattle.machine.specs.Machine.{Machine}
 use Rattle.machine.specs.Run.{runs, firmware}
-use Rattle.firmware_rules.specs.History.{Given, listed, written, clocked, history, cyclesCounted}
+use Rattle.firmware_rules.specs.History.{Given, listed, clocked, history, cyclesCounted}
 use Rattle.firmware_rules.specs.Numbers.{madeBy}
 use Rattle.firmware_rules.specs.Parts.{renumbered}
-use Rattle.firmware_cases.specs.Firmware.{cpu, ram, startedChip, startedMachine, idleMachine, requestingMachine, fullMachine, event, polling}
+use Rattle.firmware_cases.specs.Firmware.{cpu, ram, startedChip, startedMachine, requestingMachine, fullMachine, event, polling}
 use Rattle.firmware_cases.proofs.Opened.{opened}
 
 abbrev numberOfRun : List ℕ → ℕ

@@ -1,18 +1,18 @@
 -- Lists of what happens in two runs: the premises of what is left of them behind the same accesses, and behind the events given before an
 -- instruction.
 use Prim.Native.Nat.{ℕ, zero, suc, _+_}
-use mathlib.Core.Path.{_≡_, refl, ap, ap₂, sym, _∙_}
-use mathlib.Core.Bool.{Bool, true, false, not, _&&_, true≢false}
+use mathlib.Core.Path.{_≡_, refl, ap₂, sym, _∙_}
+use mathlib.Core.Bool.{Bool, true, false, not, true≢false}
 use mathlib.Core.List.{List, [], _∷_, _++_}
 use lib.Dec.{eqb, ltb}
 use borrow.Author.Tests.{eqb-true, not-true}
 use Rattle.bits.specs.Byte.{pick}
 use Rattle.bits.proofs.Finite.{both as both-true}
 use Rattle.events.specs.declared.Decoded.{Decoded}
-use Rattle.events.specs.declared.Decoded.the-variants.{Pin, Write, Clock}
+use Rattle.events.specs.declared.Decoded.the-variants.{Write}
 use Rattle.events.specs.Word.{decode}
 use Rattle.chip.specs.declared.Chip.{Chip}
-use Rattle.outcome.specs.Outcome.{next, wasReset}
+use Rattle.outcome.specs.Outcome.{wasReset}
 use Rattle.step.specs.Step.{answered}
 use Rattle.isolation.specs.Foreign.{Observer, observe, permitted, sameButSda, equalAtHigh, comparedAnswer}
 use Rattle.isolation.proofs.Related.{RelatedChips}
@@ -22,8 +22,8 @@ use Rattle.instruction.specs.Program.{Access, readAt, writeAt, Unread}
 use Rattle.instruction.specs.Instruction.{resetCpu}
 use Rattle.machine.specs.Machine.{Machine, machine, turn}
 use Rattle.machine.specs.Run.{numberOf, wordOf, occurred, fed, left}
-use Rattle.firmware_isolation.specs.Trace.{Entry, given, made, entries, eventsBefore, turnAccesses, trace, eventsOf}
-use Rattle.firmware_isolation.specs.Transfers.{sameEvent, alikeEvents, happening, mayHappen, mayBeListed, leavesData, throughout, equalEntry, equalThroughout, ForeignRuns, comparedEntry, comparedTrace}
+use Rattle.firmware_isolation.specs.Trace.{Entry, given, entries, eventsBefore, turnAccesses, trace, eventsOf}
+use Rattle.firmware_isolation.specs.Transfers.{sameEvent, alikeEvents, mayHappen, mayBeListed, leavesData, throughout, equalThroughout, ForeignRuns, comparedTrace}
 use Rattle.firmware_isolation.proofs.Observers.{watch, writesPermitted}
 use Rattle.firmware_isolation.proofs.Turns.{Both, both}
 

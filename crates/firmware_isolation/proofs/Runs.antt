@@ -1,5 +1,5 @@
 -- Demand 3 for firmware (document 02, Wish 5): two runs through transfers to other devices agree.
-use Prim.Native.Nat.{ℕ, zero, suc, _+_, _<_}
+use Prim.Native.Nat.{ℕ, zero, suc, _+_}
 use mathlib.Core.Path.{_≡_, refl, ap, ap₂, sym, _∙_}
 use mathlib.Core.Bool.{Bool, true, false}
 use mathlib.Core.List.{List, [], _∷_, _++_}
@@ -18,13 +18,13 @@ use Rattle.isolation.proofs.Runs.{related-agree}
 use Rattle.isolation.proofs.Theorems.{self-related, flags-lt}
 use Rattle.operations.specs.declared.Cpu.{Cpu}
 use Rattle.instruction.specs.Program.{Access}
-use Rattle.machine.specs.Machine.{Machine, machine, Turned, turned, turn}
-use Rattle.machine.specs.Run.{Ended, ended, prepended, onTurned, runs, Called, called, isWellFormed, firmware, numberOf, wordOf, occurred, fed, left, answersBefore}
-use Rattle.firmware_isolation.specs.Trace.{Entry, given, made, entries, turnAccesses, eventsBefore, trace, eventsOf, wordsOf, answersOf, accessesOf}
+use Rattle.machine.specs.Machine.{Machine, machine, Turned, turn}
+use Rattle.machine.specs.Run.{Ended, ended, onTurned, runs, called, isWellFormed, firmware, numberOf, wordOf, occurred, fed, left, answersBefore}
+use Rattle.firmware_isolation.specs.Trace.{Entry, given, made, entries, turnAccesses, eventsBefore, trace, wordsOf, answersOf, accessesOf}
 use Rattle.firmware_isolation.specs.Transfers.{happening, throughout, leavesSda, equalThroughout, ForeignRuns, OneForeignTransfer, comparedTrace, RunsAgree, CallsAgree}
 use Rattle.firmware_isolation.proofs.Observers.{watch}
 use Rattle.firmware_isolation.proofs.Turns.{Both, both, Ended as TurnEnds, onward, halted, turns}
-use Rattle.firmware_isolation.proofs.Lists.{left-permitted, left-unread, behind-accesses, Fed, feeds, behindEvents, later-behind}
+use Rattle.firmware_isolation.proofs.Lists.{left-permitted, left-unread, behind-accesses, feeds, behindEvents, later-behind}
 
 -- ---- the parts of what happens
 

@@ -1,14 +1,13 @@
 -- One turn of two related machines: the same accesses, the same number, and related machines again. No case for any opcode.
 use Prim.Native.Nat.{ℕ, _+_, _-_}
 use mathlib.Core.Path.{_≡_, refl, ap, ap₂, sym, _∙_}
-use mathlib.Core.Bool.{Bool, true, false, not, _&&_}
-use mathlib.Core.List.{List, [], _∷_, _++_}
+use mathlib.Core.Bool.{Bool, true, false, not}
+use mathlib.Core.List.{List, [], _++_}
 use lib.Dec.{eqb, ltb}
 use Rattle.bits.specs.Byte.{pick}
 use Rattle.bits.proofs.Finite.{both as both-true}
 use Rattle.events.specs.declared.Decoded.the-variants.{Write, Clock}
 use Rattle.chip.specs.declared.Chip.{Chip}
-use Rattle.chip.specs.State.{requests}
 use Rattle.writes.specs.Writes.{writeNumber}
 use Rattle.outcome.specs.Outcome.{next}
 use Rattle.isolation.specs.Foreign.{Observer, observe, permitted}
@@ -26,7 +25,7 @@ use Rattle.instruction.specs.Program.{andThen, perform, Access, lastAccess, acc
 use Rattle.instruction.specs.Instruction.{trap, instruction, interrupt, interrupted}
 use Rattle.instruction.proofs.Agree.{agree}
 use Rattle.batch.specs.Batch.{destinationAt, destination, stored, cyclesWith, counted, isInterrupted}
-use Rattle.machine.specs.Machine.{Machine, machine, Turned, turned, registerRead, loadAt, load, clockAfter, finished, storedTo, completed, instruct, isRequesting, interruptTaken, afterInterrupt, turn}
+use Rattle.machine.specs.Machine.{Machine, machine, Turned, turned, registerRead, loadAt, load, finished, storedTo, completed, instruct, isRequesting, interruptTaken, afterInterrupt, turn}
 use Rattle.machine.proofs.Loads.{LowResult, low}
 use Rattle.machine.proofs.Interrupts.{interrupt-is}
 use Rattle.firmware_isolation.specs.Trace.{interruptAccesses, instructionAccesses, turnAccesses}

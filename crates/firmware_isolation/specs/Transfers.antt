@@ -11,7 +11,7 @@ use Rattle.events.specs.declared.Decoded.{Decoded}
 use Rattle.events.specs.declared.Decoded.the-variants.{Read, Write}
 use Rattle.events.specs.Word.{decode}
 use Rattle.isolation.specs.Foreign.{Observer, observe, permitted, untouched, sameButSda, equalAtHigh, comparedAnswer, comparedAnswers, comparedState}
-use Rattle.instruction.specs.Program.{Access, readAt, writeAt}
+use Rattle.instruction.specs.Program.{readAt, writeAt}
 use Rattle.machine.specs.Run.{Ended, Called, numberOf, wordOf}
 use Rattle.firmware_isolation.specs.Trace.{Entry, given, made, wordsOf, eventsOf, accessesOf}
 
@@ -35,14 +35,14 @@ happening (given e x) = decode (wordOf e)
 happening (made (readAt a l)) = Read a
 happening (made (writeAt a b)) = Write a b
 
--- DDC2B stays selected, no address is the chip's, nothing resets it: by listed events and by the CPU's writes
-abbrev pub mayHappen : Observer → Entry → Bool
-mayHappen o x = permitted o (happening x)
-
--- the same of listed events alone
+-- DDC2B stays selected, no address is the chip's, nothing resets it: by listed events
 abbrev pub mayBeListed : Observer → Entry → Bool
 mayBeListed o (given e x) = permitted o (decode (wordOf e))
 mayBeListed o (made a) = true
+
+-- and by the CPU's writes too
+abbrev pub mayHappen : Observer → Entry → Bool
+mayHappen o x = permitted o (happening x)
 
 -- the CPU does not read II DAT
 abbrev pub leavesData : Observer → Entry → Bool

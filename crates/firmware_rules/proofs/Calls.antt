@@ -1,6 +1,6 @@
 -- The firmware call: each number exactly when, what a refusal leaves, and a call taken in two parts.
-use Prim.Native.Nat.{ℕ, zero, suc, _+_, _-_, _<_, _≤_}
-use mathlib.Core.Path.{_≡_, refl, ap, ap₂, sym, subst, _∙_}
+use Prim.Native.Nat.{ℕ, zero, suc, _+_, _-_, _<_}
+use mathlib.Core.Path.{_≡_, refl, ap, ap₂, sym, _∙_}
 use mathlib.Core.Bool.{Bool, true, false, not, true≢false}
 use mathlib.Core.List.{List, [], _∷_, _++_, append-assoc, append-nil}
 use mathlib.Core.Logic.{_⊎_, inl, inr}
@@ -12,10 +12,10 @@ use borrow.Author.Tests.{le-ltb, ltb-false}
 use Rattle.bits.specs.Byte.{pick}
 use Rattle.chip.specs.declared.Chip.{Chip}
 use Rattle.operations.specs.declared.Cpu.{Cpu}
-use Rattle.machine.specs.Machine.{Machine, machine, Turned, turned, afterInterrupt, turn}
+use Rattle.machine.specs.Machine.{Machine, machine, afterInterrupt, turn}
 use Rattle.machine.specs.Run.{fed, answersBefore, left, Ended, ended, prepended, runs, Called, notRun, called, isWellFormed, firmware}
-use Rattle.firmware_rules.specs.Parts.{renumbered, followed, goingOn, followedCall, callingOn, callInParts}
-use Rattle.firmware_rules.proofs.Numbers.{RefusedNumber, write-only, read-only, not-documented, not-mapped, RunNumber, none, refusal, run-number, turn-refused}
+use Rattle.firmware_rules.specs.Parts.{renumbered, followed, followedCall, callingOn, callInParts}
+use Rattle.firmware_rules.proofs.Numbers.{write-only, read-only, not-documented, not-mapped, RunNumber, none, refusal, run-number, turn-refused}
 use Rattle.firmware_rules.proofs.Clocks.{run-well-formed}
 use Rattle.firmware_rules.proofs.Parts.{left-dropped, run-in-parts}
 

@@ -1,11 +1,10 @@
 -- Cycles and clocks: what the chip is given makes the chip that a run leaves, its clocks are the cycles by 32, and well formed is kept.
-use Prim.Native.Nat.{ℕ, zero, suc, _+_, _-_, _*_, _/_, _%_, _<_, _≤_}
+use Prim.Native.Nat.{ℕ, zero, suc, _+_, _-_, _*_, _/_, _%_, _<_}
 use mathlib.Core.Path.{_≡_, refl, ap, sym, subst, _∙_}
-use mathlib.Core.Bool.{Bool, true, false, not, _&&_, true≢false}
+use mathlib.Core.Bool.{Bool, true, false, true≢false}
 use mathlib.Core.List.{List, [], _∷_, _++_}
 use native.Mathlib.Omega.{arith}
 use lib.Dec.{eqb, ltb}
-use lib.ListN.{getD}
 use borrow.Author.Tests.{lt-ltb, ltb-true, ltb-false}
 use Rattle.bits.specs.Byte.{pick}
 use Rattle.bits.proofs.Finite.{both as both-true}
@@ -28,8 +27,8 @@ use Rattle.instruction.specs.Instruction.{instruction, instructionBy, instructi
 use Rattle.batch.specs.declared.Destination.{Destination}
 use Rattle.batch.specs.declared.Destination.the-variants as to
 use Rattle.batch.specs.Batch.{destination, stored, cyclesWith, counted, isInterrupted}
-use Rattle.machine.specs.Machine.{Machine, machine, Turned, turned, load, clockAfter, finished, storedTo, completed, instruct, isRequesting, interruptTaken, afterInterrupt, turn}
-use Rattle.machine.specs.Run.{Ended, ended, prepended, onTurned, runs, fed, left, occurred, numberOf, wordOf, isWellFormed}
+use Rattle.machine.specs.Machine.{Machine, machine, turned, load, finished, storedTo, completed, instruct, isRequesting, interruptTaken, afterInterrupt, turn}
+use Rattle.machine.specs.Run.{Ended, ended, runs, fed, left, occurred, numberOf, wordOf, isWellFormed}
 use Rattle.firmware_rules.specs.History.{Given, listed, written, clocked, eventOf, chipAfter, clocksIn, clockDue, givenTo, givenWith, cyclesTo, cyclesBy, instructionResult, interruptResult, interruptGiven, interruptCycles, instructionGiven, instructionCycles, turnGiven, turnCycles, givenBefore, history, cyclesCounted}
 use Rattle.firmware_rules.proofs.Trees.{Regular, documented-regular, undocumented-rejected}
 

@@ -1,6 +1,6 @@
 -- When an interrupt is taken and what it leaves, and what a reset of the chip does to the CPU.
-use Prim.Native.Nat.{ℕ, _+_, _%_}
-use mathlib.Core.Path.{_≡_, refl, ap, sym, _∙_}
+use Prim.Native.Nat.{ℕ}
+use mathlib.Core.Path.{_≡_, refl, ap, _∙_}
 use mathlib.Core.Bool.{Bool, true, false, not, _&&_, and-false}
 use mathlib.Core.List.{List}
 use lib.Dec.{eqb}
@@ -14,10 +14,10 @@ use Rattle.outcome.specs.Outcome.{next, wasReset}
 use Rattle.operations.specs.declared.Cpu.{Cpu}
 use Rattle.instruction.specs.Instruction.{interrupted, resetCpu}
 use Rattle.batch.specs.Batch.{stored, isInterrupted}
-use Rattle.machine.specs.Machine.{Machine, machine, Turned, turned, instruct, isRequesting, interruptTaken, afterInterrupt, turn}
+use Rattle.machine.specs.Machine.{Machine, machine, turned, instruct, isRequesting, interruptTaken, afterInterrupt, turn}
 use Rattle.machine.specs.Run.{occurred}
 use Rattle.machine.proofs.Interrupts.{interrupt-is}
-use Rattle.firmware_rules.specs.Interrupts.{isTaken, interruptedCpu, interruptedRam, interruptedMachine, turnOf, restartedCpu}
+use Rattle.firmware_rules.specs.Interrupts.{isTaken, interruptedMachine, turnOf, restartedCpu}
 
 -- ---- the interrupt
 

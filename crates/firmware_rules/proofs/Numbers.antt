@@ -1,18 +1,16 @@
 -- The numbers of refusals: which there are, when each is given, and what a refusal leaves.
 use Prim.Native.Nat.{ℕ, zero, suc, _+_, _-_, _<_}
 use mathlib.Core.Path.{_≡_, refl, ap, sym, _∙_}
-use mathlib.Core.Bool.{Bool, true, false, not, _&&_, true≢false}
-use mathlib.Core.List.{List, [], _∷_, _++_}
+use mathlib.Core.Bool.{Bool, true, false, not, true≢false}
+use mathlib.Core.List.{List, [], _∷_}
 use native.Mathlib.Omega.{arith}
 use lib.Dec.{eqb, ltb}
-use lib.ListN.{getD}
 use borrow.Author.Tests.{eqb-true, lt-ltb, le-ltb}
 use Rattle.bits.specs.Byte.{pick}
 use Rattle.registers.specs.Table.{isReadable, isWritable}
 use Rattle.chip.specs.declared.Chip.{Chip}
 use Rattle.reads.specs.Reads.{reading, readingOf}
 use Rattle.writes.specs.Writes.{writeNumber}
-use Rattle.opcodes.specs.Table.{opcodes}
 use Rattle.opcodes.specs.Opcodes.{operationOf, entryOf, isDocumented}
 use Rattle.operations.specs.declared.Cpu.{Cpu}
 use Rattle.memory.specs.declared.Loaded.{Loaded}
@@ -24,15 +22,15 @@ use Rattle.memory.specs.declared.Store.the-variants as store
 use Rattle.memory.specs.Memory.{place, stack, isStackPlace, afterPush}
 use Rattle.memory.specs.Reads.{Result, gives, refuses, onByte}
 use Rattle.instruction.specs.declared.Effect.{Effect}
-use Rattle.instruction.specs.Program.{Instruction, leaves, rejected, reads, pushes, perform, Access, readAt, writeAt, lastAccess, behindByte, accesses}
+use Rattle.instruction.specs.Program.{Instruction, leaves, rejected, reads, pushes, perform, readAt, lastAccess, behindByte, accesses}
 use Rattle.instruction.specs.Instruction.{instruction, instructionBy, instructionOf, interrupted}
 use Rattle.batch.specs.declared.Destination.{Destination}
 use Rattle.batch.specs.declared.Destination.the-variants as to
-use Rattle.batch.specs.Batch.{destinationAt, destination, stored, cyclesWith, counted, isInterrupted}
-use Rattle.machine.specs.Machine.{Machine, machine, Turned, turned, registerRead, loadAt, load, clockAfter, finished, storedTo, completed, instruct, isRequesting, interruptTaken, afterInterrupt, turn}
-use Rattle.machine.specs.Run.{Ended, ended, prepended, onTurned, runs, fed, left}
+use Rattle.batch.specs.Batch.{destinationAt, destination, cyclesWith, isInterrupted}
+use Rattle.machine.specs.Machine.{Machine, machine, Turned, turned, registerRead, loadAt, load, finished, storedTo, completed, instruct, isRequesting, interruptTaken, afterInterrupt, turn}
+use Rattle.machine.specs.Run.{Ended, ended, runs, fed, left}
 use Rattle.machine.proofs.Interrupts.{interrupt-is, clock-reset}
-use Rattle.firmware_rules.specs.Numbers.{writtenNumber, accessNumber, firstRefused, isUndocumented, madeBy, instructionNumber}
+use Rattle.firmware_rules.specs.Numbers.{writtenNumber, firstRefused, isUndocumented, madeBy, instructionNumber}
 use Rattle.firmware_rules.proofs.Trees.{Regular, documented-regular, undocumented-rejected}
 
 -- ---- the first failing access

@@ -1,6 +1,6 @@
 -- A run of n + k instructions is a run of n and then one of k.
-use Prim.Native.Nat.{ℕ, zero, suc, _+_, _-_, _*_, _/_, _%_, _<_, _≤_}
-use mathlib.Core.Path.{_≡_, refl, ap, ap₂, sym, subst, _∙_}
+use Prim.Native.Nat.{ℕ, zero, suc, _+_, _-_}
+use mathlib.Core.Path.{_≡_, refl, ap, ap₂, sym, _∙_}
 use mathlib.Core.Bool.{Bool, true, false, true≢false}
 use mathlib.Core.List.{List, [], _∷_, _++_, append-assoc}
 use native.Mathlib.Omega.{arith}
@@ -11,9 +11,9 @@ use borrow.Author.Tests.{lt-ltb, le-ltb, ltb-true, ltb-false}
 use Rattle.bits.specs.Byte.{pick}
 use Rattle.events.specs.Word.{decode}
 use Rattle.step.specs.Step.{answered}
-use Rattle.machine.specs.Machine.{Machine, machine, Turned, turned, turn}
+use Rattle.machine.specs.Machine.{Machine, machine, Turned, turn}
 use Rattle.machine.specs.Run.{numberOf, wordOf, occurred, fed, answersBefore, left, Ended, ended, prepended, onTurned, runs}
-use Rattle.firmware_rules.specs.Parts.{earlier, renumbered, followed, goingOn, runInParts}
+use Rattle.firmware_rules.specs.Parts.{earlier, renumbered, followed, runInParts}
 
 -- ---- renumbered events
 

@@ -1,13 +1,11 @@
 -- What the instructions have in common: a documented one ends, keeps the cycles over, takes at most nine cycles and pushes inside the stack.
-use Prim.Native.Nat.{ℕ, _+_, _-_, _<_, _≤_}
+use Prim.Native.Nat.{ℕ, _-_, _<_, _≤_}
 use mathlib.Core.Path.{_≡_, refl, ap, sym, _∙_}
 use mathlib.Core.Bool.{Bool, true, false, Bool·beq, true≢false}
-use mathlib.Core.List.{List, [], _∷_, _++_}
 use mathlib.Core.Logic.{_⊎_, inl, inr}
 use native.Mathlib.Omega.{arith}
-use lib.Dec.{eqb, ltb, T}
-use lib.ListN.{getD, length, List·getD-eq-default}
-use borrow.Author.Tests.{eqb-false}
+use lib.Dec.{eqb}
+use lib.ListN.{List·getD-eq-default}
 use Rattle.bits.specs.Byte.{pick, num}
 use Rattle.bits.proofs.Finite.{at-each, beq-eq, true-T, lt-or-le}
 use Rattle.opcodes.specs.Table.{opcodes}
@@ -21,7 +19,6 @@ use Rattle.opcodes.specs.declared.Mode.the-variants as mode
 use Rattle.opcodes.specs.declared.Operation.{Operation}
 use Rattle.opcodes.specs.declared.Operation.the-variants.{Read, Store, Modify, ModifyA, Implied, Branch, Jmp, Jsr, Rts, Rti, Brk, Pha, Php, Pla, Plp, Undocumented}
 use Rattle.opcodes.proofs.Rules.{isUndocumentedMode, undocumented as table-undocumented, cycles-at-most-seven, isJsrOperation, jsr as table-jsr}
-use Rattle.arithmetic.specs.declared.Flags.{Flags}
 use Rattle.operations.specs.declared.Cpu.{Cpu}
 use Rattle.operations.specs.Operations.{readOperation, impliedOperation, setPc, taken}
 use Rattle.memory.specs.Memory.{below}

@@ -18,7 +18,7 @@ use Rattle.batch.specs.declared.Destination.{Destination}
 use Rattle.batch.specs.declared.Destination.the-variants as to
 use Rattle.batch.specs.Batch.{destination, cyclesWith, isInterrupted}
 use Rattle.machine.specs.Machine.{Machine, load, isRequesting, afterInterrupt, turn}
-use Rattle.machine.specs.Run.{numberOf, wordOf, occurred, fed, left}
+use Rattle.machine.specs.Run.{numberOf, wordOf, fed, left}
 
 -- a listed word; a register written by an instruction, with its byte; the 8 µs clock that cycles complete
 pub data Given : Type 0 where

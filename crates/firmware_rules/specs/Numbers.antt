@@ -1,12 +1,11 @@
 -- The number of a refusal by the accesses of an instruction (document 02, Wish 5): its first failing access tells.
 use Prim.Native.Nat.{ℕ}
-use mathlib.Core.Bool.{Bool, true, false, not}
+use mathlib.Core.Bool.{Bool, false, not}
 use mathlib.Core.List.{List, [], _∷_}
 use lib.Dec.{eqb}
 use Rattle.bits.specs.Byte.{pick}
 use Rattle.writes.specs.Writes.{writeNumber}
 use Rattle.opcodes.specs.Opcodes.{operationOf, entryOf, isDocumented}
-use Rattle.memory.specs.declared.Loaded.{Loaded}
 use Rattle.memory.specs.declared.Loaded.the-variants.{Byte, Refused}
 use Rattle.memory.specs.declared.Place.{Place}
 use Rattle.memory.specs.declared.Place.the-variants as at
