@@ -1,0 +1,58 @@
+-- The theorem at work: a firmware that polls the flags while a host talks to another device.
+use Prim.Native.Nat.{ℕ, _+_}
+use mathlib.Core.Path.{_≡_, refl, ap, _∙_}
+use mathlib.Core.Bool.{true}
+use mathlib.Core.List.{[], _∷_, _++_}
+use lib.ListN.{length, replicate, length-append, length-replicate}
+use Rattle.bus.specs.declared.Phase.{Phase}
+use Rattle.bus.specs.declared.Phase.the-variants.{Ignoring}
+use Rattle.isolation.specs.Foreign.{since, start-seen, bus-idle}
+use Rattle.memory.specs.declared.Loaded.the-variants.{Byte}
+use Rattle.instruction.specs.Program.{readAt, writeAt}
+use Rattle.machine.specs.Run.{runs, firmware}
+use Rattle.firmware_isolation.specs.Trace.{trace, accessesOf}
+use Rattle.firmware_isolation.specs.Transfers.{RunsAgree, CallsAgree}
+use Rattle.firmware_isolation.proofs.Runs.{firmware-runs, firmware-calls}
+use Rattle.firmware_cases.specs.Firmware.{cpu, ram, startedChip, startedMachine, idleMachine, event, transfer, whole, times, polling, pollingRom}
+use Rattle.firmware_cases.specs.Tests.{tests}
+use Rattle.firmware_cases.proofs.Opened.{opened}
+
+-- ---- one transfer: A2H and 54H are not for this chip
+
+rom-length : length pollingRom ≡ 24576
+unfolding pollingRom
+rom-length = length-append polling (replicate 24568 0) ∙ ap (λ (n : ℕ). 8 + n) (length-replicate {A = ℕ} 24568 0)
+
+pub transfers-agree : CallsAgree (firmware cpu ram pollingRom startedChip (transfer 0 0xa2) (replicate 28 0) 4) (firmware cpu ram pollingRom startedChip (transfer 0 0x54) (replicate 28 0) 4)
+    (trace 4 0 pollingRom (transfer 0 0xa2) startedMachine) (trace 4 0 pollingRom (transfer 0 0x54) startedMachine)
+unfolding opened pollingRom
+transfers-agree =
+    firmware-calls cpu ram pollingRom startedChip 4 refl rom-length refl start-seen (transfer 0 0xa2) (transfer 0 0x54) (replicate 28 0) (replicate 28 0) refl refl
+    (record { events = refl; left = refl; right = refl; sda = refl; unread = refl })
+
+-- the accesses of both
+pub accesses-made : accessesOf (trace 4 0 polling (transfer 0 0xa2) startedMachine)
+    ≡ readAt 0xA000 (Byte 0xA9) ∷ readAt 0xA001 (Byte 0x55) ∷ readAt 0xA002 (Byte 0x85) ∷ readAt 0xA003 (Byte 0x12) ∷ writeAt 0x12 0x55
+    ∷ readAt 0xA004 (Byte 0xA5) ∷ readAt 0xA005 (Byte 0x10) ∷ readAt 0x10 (Byte 0x20) ∷ readAt 0xA006 (Byte 0x85) ∷ readAt 0xA007 (Byte 0x80) ∷ writeAt 0x80 0x20 ∷ []
+unfolding opened
+accesses-made = refl
+
+-- both chips end ignoring, and II DAT is what differs
+pub data-differs : _≡_ {A = Phase × ℕ × ℕ} (runs 4 0 polling (transfer 0 0xa2) startedMachine .machine .chip .core .bus .phase, runs 4 0 polling (transfer 0 0xa2) startedMachine .machine .chip .core .bus .iidat, runs 4 0 polling (transfer 0 0x54) startedMachine .machine .chip .core .bus .iidat)
+    (Ignoring, 0xa2, 0x54)
+unfolding opened
+data-differs = refl
+
+-- ---- several transfers from an idle bus
+
+pub several-agree : RunsAgree (runs 4 0 polling (whole 0 0xa2 ++ whole 2 0x10) idleMachine) (runs 4 0 polling (whole 0 0x54 ++ whole 2 0xee) idleMachine)
+    (trace 4 0 polling (whole 0 0xa2 ++ whole 2 0x10) idleMachine) (trace 4 0 polling (whole 0 0x54 ++ whole 2 0xee) idleMachine)
+unfolding opened
+several-agree = firmware-runs 4 polling idleMachine refl refl bus-idle (whole 0 0xa2 ++ whole 2 0x10) (whole 0 0x54 ++ whole 2 0xee) (record { events = refl; left = refl; right = refl; sda = refl; unread = refl })
+
+-- ---- the CPU clears the watchdog: 40 clocks before it does and 40 after are no reset
+
+pub watchdog-cleared : tests 4 polling startedMachine (since []) (times 40 (event 0 0x04000300) ++ times 40 (event 3 0x04000300)) (times 40 (event 0 0x04000300) ++ times 40 (event 3 0x04000300))
+    ≡ (true, true, true, true, true)
+unfolding opened
+watchdog-cleared = refl

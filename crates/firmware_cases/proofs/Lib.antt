@@ -1,0 +1,4 @@
+pub mod Opened
+pub mod Holds
+pub mod Needed
+pub mod Rules

@@ -1,0 +1,89 @@
+-- The rules of a firmware run at small programs, computed.
+use Prim.Native.Nat.{ℕ}
+use mathlib.Core.Path.{_≡_, refl}
+use mathlib.Core.Bool.{Bool, true}
+use mathlib.Core.List.{List, [], _∷_}
+use lib.ListN.{getD, length}
+use Rattle.memory.specs.declared.Loaded.the-variants.{Byte}
+use Rattle.instruction.specs.Program.{Access, readAt, writeAt}
+use Rattle.machine.specs.Machine.{Machine}
+use Rattle.machine.specs.Run.{runs, firmware}
+use Rattle.firmware_rules.specs.History.{Given, listed, clocked, history, cyclesCounted}
+use Rattle.firmware_rules.specs.Numbers.{madeBy}
+use Rattle.firmware_rules.specs.Parts.{renumbered}
+use Rattle.firmware_cases.specs.Firmware.{cpu, ram, startedChip, startedMachine, requestingMachine, fullMachine, event, polling}
+use Rattle.firmware_cases.proofs.Opened.{opened}
+
+abbrev numberOfRun : List ℕ → ℕ
+numberOfRun rom = runs 1 0 rom [] startedMachine .number
+
+-- an opcode that is not documented; LDA 02, which is write-only; STA 10, read-only; STA A000, ROM; LDA 0300, not mapped; STA 0300
+pub refusals : numberOfRun (0x02 ∷ []) ∷ numberOfRun (0xA5 ∷ 0x02 ∷ []) ∷ numberOfRun (0x85 ∷ 0x10 ∷ []) ∷ numberOfRun (0x8D ∷ 0x00 ∷ 0xA0 ∷ []) ∷ numberOfRun (0xAD ∷ 0x00 ∷ 0x03 ∷ []) ∷ numberOfRun (0x8D ∷ 0x00 ∷ 0x03 ∷ []) ∷ []
+    ≡ 20 ∷ 5 ∷ 6 ∷ 21 ∷ 21 ∷ 21 ∷ []
+unfolding opened
+refusals = refl
+
+-- INC 10 reads the flags and is refused at its write; nothing is changed
+pub first-failing : _≡_ {A = List Access × ℕ × ℕ} (madeBy (0xE6 ∷ 0x10 ∷ []) startedMachine, runs 1 0 (0xE6 ∷ 0x10 ∷ []) [] startedMachine .number, runs 1 0 (0xE6 ∷ 0x10 ∷ []) [] startedMachine .machine .cpu .pc)
+    (readAt 0xA000 (Byte 0xE6) ∷ readAt 0xA001 (Byte 0x10) ∷ readAt 0x10 (Byte 0) ∷ writeAt 0x10 1 ∷ [], 6, 0xA000)
+unfolding opened
+first-failing = refl
+
+-- nothing behind an opcode that is not documented is fetched
+pub opcode-alone : madeBy (0x02 ∷ 0x00 ∷ []) startedMachine ≡ readAt 0xA000 (Byte 0x02) ∷ []
+unfolding opened
+opcode-alone = refl
+
+-- 8, 22 and 7 in that order
+pub before-anything : firmware (fullMachine .cpu) ram [] startedChip (event 0 0 ∷ []) [] 1 .number ≡ 22
+unfolding opened firmware
+before-anything = refl
+
+-- NOP with 31 cycles over: 33, of which 32 are a clock; the second NOP gives none
+pub clock-given : _≡_ {A = List Given × ℕ × ℕ} (history 2 0 (0xEA ∷ 0xEA ∷ []) [] fullMachine, cyclesCounted 2 0 (0xEA ∷ 0xEA ∷ []) [] fullMachine, runs 2 0 (0xEA ∷ 0xEA ∷ []) [] fullMachine .machine .cpu .over)
+    (clocked ∷ [], 4, 3)
+unfolding opened
+clock-given = refl
+
+-- a listed write, then STA 80 and STA 0E, which is refused: its cycles are not counted
+pub refused-not-counted : _≡_ {A = List Given × ℕ × ℕ} (history 2 0 (0x85 ∷ 0x80 ∷ 0x85 ∷ 0x0E ∷ []) (event 0 0x02001200 ∷ []) startedMachine, cyclesCounted 2 0 (0x85 ∷ 0x80 ∷ 0x85 ∷ 0x0E ∷ []) (event 0 0x02001200 ∷ []) startedMachine, runs 2 0 (0x85 ∷ 0x80 ∷ 0x85 ∷ 0x0E ∷ []) (event 0 0x02001200 ∷ []) startedMachine .next)
+    (listed 0x02001200 ∷ [], 3, 1)
+unfolding opened
+refused-not-counted = refl
+
+-- an interrupt with D and C set: PC A000 and P with bit 5 are pushed, I is set and D kept, seven cycles; then the opcode at 0000, FFH by the
+-- vector of this ROM, is refused, and the interrupt stays
+abbrev interruptedRun : Machine
+interruptedRun = runs 1 0 [] [] requestingMachine .machine
+
+pub interrupt-taken : _≡_ {A = List ℕ} (runs 1 0 [] [] requestingMachine .number ∷ getD (interruptedRun .ram) 127 0 ∷ getD (interruptedRun .ram) 126 0 ∷ getD (interruptedRun .ram) 125 0 ∷ interruptedRun .cpu .s ∷ interruptedRun .cpu .pc ∷ interruptedRun .cpu .over ∷ [])
+    (20 ∷ 0xA0 ∷ 0x00 ∷ 0x29 ∷ 0xFC ∷ 0 ∷ 7 ∷ [])
+unfolding opened
+interrupt-taken = refl
+
+pub interrupt-flags : _≡_ {A = Bool × Bool × Bool} (interruptedRun .cpu .p .i, interruptedRun .cpu .p .d, interruptedRun .cpu .p .c) (true, true, true)
+unfolding opened
+interrupt-flags = refl
+
+-- with RESET low nothing is taken and nothing done, and the instruction counts; the event that put it low restarted the CPU
+pub reset-low : _≡_ {A = List ℕ × Bool} (
+  runs 2 0 (0xEA ∷ []) (event 0 0x03001C00 ∷ []) requestingMachine .number ∷ runs 2 0 (0xEA ∷ []) (event 0 0x03001C00 ∷ []) requestingMachine .next
+      ∷ runs 2 0 (0xEA ∷ []) (event 0 0x03001C00 ∷ []) requestingMachine .machine .cpu .pc ∷ runs 2 0 (0xEA ∷ []) (event 0 0x03001C00 ∷ []) requestingMachine .machine .cpu .a
+      ∷ runs 2 0 (0xEA ∷ []) (event 0 0x03001C00 ∷ []) requestingMachine .machine .cpu .s ∷ runs 2 0 (0xEA ∷ []) (event 0 0x03001C00 ∷ []) requestingMachine .machine .cpu .over ∷ [],
+  runs 2 0 (0xEA ∷ []) (event 0 0x03001C00 ∷ []) requestingMachine .machine .cpu .p .i,
+)
+    (0 ∷ 2 ∷ 0 ∷ 7 ∷ 255 ∷ 0 ∷ [], true)
+unfolding opened
+reset-low = refl
+
+-- a late event holds back the one behind it: none of the two is given before instruction 5, both are before it
+abbrev late : List ℕ
+late = event 5 0x01001000 ∷ event 3 0x01000F00 ∷ []
+
+pub late-event : _≡_ {A = ℕ × ℕ} (length (runs 5 0 polling late startedMachine .answers), length (runs 6 0 polling late startedMachine .answers)) (0, 2)
+unfolding opened
+late-event = refl
+
+-- for a run that begins at instruction 4 their numbers are 1 and 0
+pub late-renumbered : renumbered 4 late ≡ event 1 0x01001000 ∷ event 0 0x01000F00 ∷ []
+late-renumbered = refl

@@ -1,0 +1,115 @@
+-- Small firmware and lists of events for it.
+use Prim.Native.Nat.{ℕ, _+_, _*_, _/_, _%_}
+use mathlib.Core.Bool.{true, false}
+use mathlib.Core.List.{List, [], _∷_, _++_}
+use lib.ListN.{replicate}
+use Rattle.events.specs.Word.{decode}
+use Rattle.chip.specs.declared.Chip.{Chip}
+use Rattle.chip.specs.State.{fresh}
+use Rattle.outcome.specs.Outcome.{next}
+use Rattle.operations.specs.declared.Cpu.{Cpu}
+use Rattle.operations.specs.Operations.{flags}
+use Rattle.machine.specs.Machine.{Machine, machine}
+
+-- the CPU at A000 with I set
+abbrev pub cpu : Cpu
+cpu = record { a = 0; x = 0; y = 0; s = 255; p = flags false false false true false false; pc = 0xA000; over = 0 }
+
+-- RAM of zeros, and ROM that begins with a program
+abbrev pub ram : List ℕ
+ram = replicate 256 0
+
+-- the same CPU with I clear; and with 31 cycles over
+abbrev pub openCpu : Cpu
+openCpu = record { a = 7; x = 0; y = 0; s = 255; p = flags false false true false false true; pc = 0xA000; over = 0 }
+
+abbrev pub fullCpu : Cpu
+fullCpu = record { a = 0; x = 0; y = 0; s = 255; p = flags false false false true false false; pc = 0xA000; over = 31 }
+
+-- words given one after another
+abbrev pub wordsGiven : Chip → List ℕ → Chip
+wordsGiven k [] = k
+wordsGiven k (w ∷ ws) = wordsGiven (next k (decode w)) ws
+
+-- MDCON and II STS written 0: DDC2B, the bus idle; then a START
+unfoldable pub idleChip : Chip
+idleChip = wordsGiven fresh (0x02000500 ∷ 0x02001500 ∷ [])
+
+unfoldable pub startedChip : Chip
+startedChip = wordsGiven fresh (0x02000500 ∷ 0x02001500 ∷ 0x03001800 ∷ [])
+
+unfoldable pub startedMachine : Machine
+unfolding startedChip
+startedMachine = machine cpu ram startedChip
+
+unfoldable pub idleMachine : Machine
+unfolding idleChip
+idleMachine = machine cpu ram idleChip
+
+-- flag S, raised by a fall of SCL, is enabled, so that a request stands
+unfoldable pub requestingMachine : Machine
+unfolding startedChip
+requestingMachine = machine openCpu ram (wordsGiven startedChip (0x02000F20 ∷ 0x03001900 ∷ []))
+
+unfoldable pub fullMachine : Machine
+unfolding startedChip
+fullMachine = machine fullCpu ram startedChip
+
+-- a listed event for instruction i
+abbrev pub event : ℕ → ℕ → ℕ
+event i w = i * 4294967296 + w
+
+-- a bit on the bus before instruction i: SCL falls, SDA is put, SCL rises
+unfoldable pub clockBit : ℕ → ℕ → List ℕ
+clockBit i level = event i 0x03001900 ∷ event i (0x03001800 + level) ∷ event i 0x03001901 ∷ []
+
+-- a byte, top bit first, and a ninth clock with SDA high, from instruction i on, three bits before each of three; then II DAT is read
+unfoldable pub transfer : ℕ → ℕ → List ℕ
+unfolding clockBit
+transfer i n =
+    clockBit i (n / 128 % 2) ++ (clockBit i (n / 64 % 2) ++ (clockBit i (n / 32 % 2)
+    ++ (clockBit (i + 1) (n / 16 % 2) ++ (clockBit (i + 1) (n / 8 % 2) ++ (clockBit (i + 1) (n / 4 % 2)
+    ++ (clockBit (i + 2) (n / 2 % 2) ++ (clockBit (i + 2) (n % 2) ++ (clockBit (i + 2) 1 ++ (event (i + 2) 0x01001400 ∷ [])))))))))
+
+-- START, a transfer and a STOP, from instruction i on
+unfoldable pub whole : ℕ → ℕ → List ℕ
+unfolding clockBit transfer
+whole i n = event i 0x03001800 ∷ (transfer i n ++ (clockBit (i + 2) 0 ++ (event (i + 2) 0x03001801 ∷ [])))
+
+-- SCL falls and SDA is put, before instruction i
+abbrev pub sdaPut : ℕ → ℕ → List ℕ
+sdaPut i level = event i 0x03001900 ∷ event i (0x03001800 + level) ∷ []
+
+-- n times the same event
+abbrev pub times : ℕ → ℕ → List ℕ
+times n e = replicate n e
+
+-- ---- programs
+
+-- LDA #55, STA 12 (the watchdog), LDA 10 (the flags), STA 80
+abbrev pub polling : List ℕ
+polling = 0xA9 ∷ 0x55 ∷ 0x85 ∷ 0x12 ∷ 0xA5 ∷ 0x10 ∷ 0x85 ∷ 0x80 ∷ []
+
+-- the whole ROM of it
+unfoldable pub pollingRom : List ℕ
+pollingRom = polling ++ replicate 24568 0
+
+-- LDA #54, STA 13 (II ADR), LDA 10, STA 80
+abbrev pub adrWriting : List ℕ
+adrWriting = 0xA9 ∷ 0x54 ∷ 0x85 ∷ 0x13 ∷ 0xA5 ∷ 0x10 ∷ 0x85 ∷ 0x80 ∷ []
+
+-- LDA #08, STA 15 (DDC off), LDA 04 (PT3, which then shows SDA)
+abbrev pub turningOff : List ℕ
+turningOff = 0xA9 ∷ 0x08 ∷ 0x85 ∷ 0x15 ∷ 0xA5 ∷ 0x04 ∷ []
+
+-- NOP, NOP, NOP, LDA #01, STA 05 (DDC1), NOP
+abbrev pub askingDdc1 : List ℕ
+askingDdc1 = 0xEA ∷ 0xEA ∷ 0xEA ∷ 0xA9 ∷ 0x01 ∷ 0x85 ∷ 0x05 ∷ 0xEA ∷ []
+
+-- LDA 04
+abbrev pub port3Reading : List ℕ
+port3Reading = 0xA5 ∷ 0x04 ∷ []
+
+-- NOP, NOP, NOP, LDA 14 (II DAT)
+abbrev pub dataReading : List ℕ
+dataReading = 0xEA ∷ 0xEA ∷ 0xEA ∷ 0xA5 ∷ 0x14 ∷ []

@@ -1,0 +1,4 @@
+pub mod Observers
+pub mod Turns
+pub mod Lists
+pub mod Runs

@@ -1,0 +1,6 @@
+pub mod Trees
+pub mod Numbers
+pub mod Clocks
+pub mod Parts
+pub mod Interrupts
+pub mod Calls

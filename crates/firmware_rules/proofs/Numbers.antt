@@ -1,0 +1,252 @@
+-- The numbers of refusals: which there are, when each is given, and what a refusal leaves.
+use Prim.Native.Nat.{ℕ, zero, suc, _+_, _-_, _<_}
+use mathlib.Core.Path.{_≡_, refl, ap, sym, _∙_}
+use mathlib.Core.Bool.{Bool, true, false, not, true≢false}
+use mathlib.Core.List.{List, [], _∷_}
+use native.Mathlib.Omega.{arith}
+use lib.Dec.{eqb, ltb}
+use borrow.Author.Tests.{eqb-true, lt-ltb, le-ltb}
+use Rattle.bits.specs.Byte.{pick}
+use Rattle.registers.specs.Table.{isReadable, isWritable}
+use Rattle.chip.specs.declared.Chip.{Chip}
+use Rattle.reads.specs.Reads.{reading, readingOf}
+use Rattle.writes.specs.Writes.{writeNumber}
+use Rattle.opcodes.specs.Opcodes.{operationOf, entryOf, isDocumented}
+use Rattle.operations.specs.declared.Cpu.{Cpu}
+use Rattle.memory.specs.declared.Loaded.{Loaded}
+use Rattle.memory.specs.declared.Loaded.the-variants.{Byte, Refused}
+use Rattle.memory.specs.declared.Place.{Place}
+use Rattle.memory.specs.declared.Place.the-variants as at
+use Rattle.memory.specs.declared.Store.{Store}
+use Rattle.memory.specs.declared.Store.the-variants as store
+use Rattle.memory.specs.Memory.{place, stack, isStackPlace, afterPush}
+use Rattle.memory.specs.Reads.{Result, gives, refuses, onByte}
+use Rattle.instruction.specs.declared.Effect.{Effect}
+use Rattle.instruction.specs.Program.{Instruction, leaves, rejected, reads, pushes, perform, readAt, lastAccess, behindByte, accesses}
+use Rattle.instruction.specs.Instruction.{instruction, instructionBy, instructionOf, interrupted}
+use Rattle.execution.specs.declared.Destination.{Destination}
+use Rattle.execution.specs.declared.Destination.the-variants as to
+use Rattle.batch.specs.Batch.{destinationAt, destination, cyclesWith, isInterrupted}
+use Rattle.machine.specs.Machine.{Machine, machine, Turned, turned, registerRead, loadAt, load, finished, storedTo, completed, instruct, isRequesting, interruptTaken, afterInterrupt, turn}
+use Rattle.machine.specs.Run.{Ended, ended, runs, fed, left}
+use Rattle.machine.proofs.Interrupts.{interrupt-is, clock-reset}
+use Rattle.firmware_rules.specs.Numbers.{writtenNumber, firstRefused, isUndocumented, madeBy, instructionNumber}
+use Rattle.firmware_rules.proofs.Trees.{Regular, documented-regular, undocumented-rejected}
+
+-- ---- the first failing access
+
+written-by : (t : Bool) (e : Effect) (ram : List ℕ) (k : Chip) (m : Machine) (n : ℕ) → pick t (finished e ram k) (turned m n) .number ≡ pick t 0 n
+written-by true e ram k m n = refl
+written-by false e ram k m n = refl
+
+stored-number : (e : Effect) (m : Machine) (b : ℕ) (q : Place)
+    → storedTo (destinationAt b q) e m .number ≡ pick (eqb (writtenNumber (m .chip .core .reset) q) 0) 0 (writtenNumber (m .chip .core .reset) q)
+stored-number e m b (at.Register r) = written-by (eqb (writeNumber (m .chip .core .reset) r) 0) e _ _ m (writeNumber (m .chip .core .reset) r)
+stored-number e m b (at.Ram i) = refl
+stored-number e m b (at.Rom i) = refl
+stored-number e m b at.Unmapped = refl
+
+store-number : (e : Effect) (m : Machine) (s : Store) → storedTo (destination s) e m .number ≡ firstRefused (m .chip .core .reset) (lastAccess s)
+unfolding destination
+store-number e m store.Nothing = refl
+store-number e m (store.Byte a b) = stored-number e m b (place a)
+store-number e m (store.PushOne s b) = refl
+store-number e m (store.PushTwo s b c) = refl
+store-number e m (store.PushThree s b c d) = refl
+
+stack-by : (reset b : Bool) (s : ℕ) → s < 256
+    → writtenNumber reset (pick (ltb (stack s) 0xA000) (pick b (pick (ltb (stack s) 0x80) (pick (ltb (stack s) 0x26) (at.Register (stack s)) at.Unmapped) (at.Ram (stack s - 0x80)))
+    (pick (ltb (stack s) 0x200) (at.Ram (stack s - 0x180)) at.Unmapped)) (at.Rom (stack s - 0xA000))) ≡ 0
+stack-by reset true s h = rw (lt-ltb (stack s) 0xA000 (omega arith), le-ltb (stack s) 0x80 (omega arith))
+stack-by reset false s h = rw (lt-ltb (stack s) 0xA000 (omega arith), lt-ltb (stack s) 0x200 (omega arith))
+
+-- the stack is RAM
+stack-number : (reset : Bool) (s : ℕ) → s < 256 → writtenNumber reset (place (stack s)) ≡ 0
+unfolding place
+stack-number reset s h = stack-by reset (ltb (stack s) 0x180) s h
+
+zero-or : (n : ℕ) (t : Bool) → eqb n 0 ≡ t → n ≡ pick t 0 n
+zero-or n true h = eqb-true n 0 h
+zero-or n false h = refl
+
+byte-number : (f : ℕ → Loaded) (a : ℕ) (k : ℕ → Instruction) (m : Machine) (l : Loaded)
+    → ((b : ℕ) → completed (perform f (k b)) m .number ≡ firstRefused (m .chip .core .reset) (accesses f (k b)))
+    → completed (onByte l (λ (b : ℕ). perform f (k b))) m .number ≡ firstRefused (m .chip .core .reset) (readAt a l ∷ behindByte l (λ (b : ℕ). accesses f (k b)))
+byte-number f a k m (Byte b) h = h b
+byte-number f a k m (Refused n) h = zero-or n (eqb n 0) refl
+
+regular-number : (over : ℕ) (f : ℕ → Loaded) (t : Instruction) (m : Machine) → Regular true over t
+    → completed (perform f t) m .number ≡ firstRefused (m .chip .core .reset) (accesses f t)
+unfolding perform accesses
+regular-number over f (leaves e) m r = store-number e m (e .store)
+regular-number over f rejected m r = absurd r
+regular-number over f (reads a k) m r = byte-number f a k m (f a) (λ (b : ℕ). regular-number over f (k b) m (r b))
+regular-number over f (pushes s b t) m r = rw (stack-number (m .chip .core .reset) s (r .0 refl)) (regular-number over (afterPush s b f) t m (r .1))
+
+documented-by : (f : ℕ → Loaded) (a opcode : ℕ) (c : Cpu) (m : Machine) → c .s < 256 → (d : Bool) → isDocumented (operationOf (entryOf opcode)) ≡ d
+    → completed (perform f (instructionOf (entryOf opcode) c)) m .number ≡ pick (not d) 20 (firstRefused (m .chip .core .reset) (accesses f (instructionOf (entryOf opcode) c)))
+unfolding perform
+documented-by f a opcode c m s true h = regular-number (c .over) f (instructionOf (entryOf opcode) c) m (documented-regular true opcode c h (λ (k : true ≡ true). s))
+documented-by f a opcode c m s false h = rw (undocumented-rejected opcode c h)
+
+opcode-number : (f : ℕ → Loaded) (a : ℕ) (c : Cpu) (m : Machine) → c .s < 256 → (l : Loaded)
+    → completed (onByte l (λ (b : ℕ). perform f (instructionOf (entryOf b) c))) m .number
+    ≡ pick (isUndocumented (readAt a l ∷ behindByte l (λ (b : ℕ). accesses f (instructionOf (entryOf b) c)))) 20
+    (firstRefused (m .chip .core .reset) (readAt a l ∷ behindByte l (λ (b : ℕ). accesses f (instructionOf (entryOf b) c))))
+opcode-number f a c m s (Byte b) = documented-by f a b c m s (isDocumented (operationOf (entryOf b))) refl
+opcode-number f a c m s (Refused n) = zero-or n (eqb n 0) refl
+
+-- An instruction is refused with 20 where the opcode fetched is not documented, else with the number of its first access that fails; its
+-- number is 0 where none fails
+pub instruct-number : (rom : List ℕ) (m : Machine) → m .cpu .s < 256 → instruct rom m .number ≡ instructionNumber rom m
+unfolding instruct madeBy perform accesses instructionBy entryOf
+instruct-number rom m s = opcode-number (load (m .ram) (m .chip) rom) (m .cpu .pc) (m .cpu) m s (load (m .ram) (m .chip) rom (m .cpu .pc))
+
+-- ---- the numbers that there are
+
+pub data RefusedNumber : ℕ → Type 0 where
+  write-only : RefusedNumber 5
+  read-only : RefusedNumber 6
+  not-documented : RefusedNumber 20
+  not-mapped : RefusedNumber 21
+
+pub data RunNumber : ℕ → Type 0 where
+  none : RunNumber 0
+  refusal : {n : ℕ} → RefusedNumber n → RunNumber n
+
+abbrev KnownLoad : Loaded → Type 0
+KnownLoad (Byte b) = Unit {0}
+KnownLoad (Refused n) = RefusedNumber n
+
+abbrev KnownResult : Result Effect → Type 0
+KnownResult (gives e) = Unit {0}
+KnownResult (refuses n) = RefusedNumber n
+
+reading-by : (z t : Bool) (n : ℕ) → z ≡ true → KnownLoad (registerRead (pick z (pick t (readingOf 0 n) (readingOf 5 0)) (readingOf 4 0)))
+reading-by true true n h = tt
+reading-by true false n h = write-only
+reading-by false t n h = absurd (true≢false (sym h))
+
+load-at : (ram rom : List ℕ) (k : Chip) → k .core .reset ≡ true → (q : Place) → KnownLoad (loadAt ram k rom q)
+unfolding reading
+load-at ram rom k h (at.Register r) = reading-by (k .core .reset) (isReadable r) _ h
+load-at ram rom k h (at.Ram i) = tt
+load-at ram rom k h (at.Rom i) = tt
+load-at ram rom k h at.Unmapped = not-mapped
+
+load-known : (ram rom : List ℕ) (k : Chip) → k .core .reset ≡ true → (a : ℕ) → KnownLoad (load ram k rom a)
+unfolding load
+load-known ram rom k h a = load-at ram rom k h (place a)
+
+push-by : (t : Bool) (b : ℕ) (l : Loaded) → KnownLoad l → KnownLoad (pick t (Byte b) l)
+push-by true b l h = tt
+push-by false b l h = h
+
+push-known : (s b : ℕ) (f : ℕ → Loaded) → ((a : ℕ) → KnownLoad (f a)) → (a : ℕ) → KnownLoad (afterPush s b f a)
+unfolding afterPush
+push-known s b f h a = push-by (isStackPlace s (place a)) b (f a) (h a)
+
+byte-known : (l : Loaded) (g : ℕ → Result Effect) → KnownLoad l → ((b : ℕ) → KnownResult (g b)) → KnownResult (onByte l g)
+byte-known (Byte b) g h k = k b
+byte-known (Refused n) g h k = h
+
+perform-known : (f : ℕ → Loaded) → ((a : ℕ) → KnownLoad (f a)) → (t : Instruction) → KnownResult (perform f t)
+unfolding perform
+perform-known f h (leaves e) = tt
+perform-known f h rejected = not-documented
+perform-known f h (reads a k) = byte-known (f a) (λ (b : ℕ). perform f (k b)) (h a) (λ (b : ℕ). perform-known f h (k b))
+perform-known f h (pushes s b t) = perform-known (afterPush s b f) (push-known s b f h) t
+
+write-by : (z t : Bool) (e : Effect) (ram : List ℕ) (k : Chip) (m : Machine) → z ≡ true
+    → RunNumber (pick (eqb (pick z (pick t 0 6) 4) 0) (finished e ram k) (turned m (pick z (pick t 0 6) 4)) .number)
+write-by true true e ram k m h = none
+write-by true false e ram k m h = refusal read-only
+write-by false t e ram k m h = absurd (true≢false (sym h))
+
+place-known : (e : Effect) (m : Machine) (b : ℕ) → m .chip .core .reset ≡ true → (q : Place) → RunNumber (storedTo (destinationAt b q) e m .number)
+unfolding writeNumber
+place-known e m b h (at.Register r) = write-by (m .chip .core .reset) (isWritable r) e _ _ m h
+place-known e m b h (at.Ram i) = none
+place-known e m b h (at.Rom i) = refusal not-mapped
+place-known e m b h at.Unmapped = refusal not-mapped
+
+store-known : (e : Effect) (m : Machine) → m .chip .core .reset ≡ true → (s : Store) → RunNumber (storedTo (destination s) e m .number)
+unfolding destination
+store-known e m h store.Nothing = none
+store-known e m h (store.Byte a b) = place-known e m b h (place a)
+store-known e m h (store.PushOne s b) = none
+store-known e m h (store.PushTwo s b c) = none
+store-known e m h (store.PushThree s b c d) = none
+
+completed-known : (r : Result Effect) (m : Machine) → m .chip .core .reset ≡ true → KnownResult r → RunNumber (completed r m .number)
+completed-known (gives e) m h k = store-known e m h (e .store)
+completed-known (refuses n) m h k = refusal k
+
+instruct-known : (rom : List ℕ) (m : Machine) → m .chip .core .reset ≡ true → RunNumber (instruct rom m .number)
+unfolding instruct
+instruct-known rom m h = completed-known (perform (load (m .ram) (m .chip) rom) (instruction (m .cpu))) m h (perform-known (load (m .ram) (m .chip) rom) (load-known (m .ram) rom (m .chip) h) (instruction (m .cpu)))
+
+interrupt-high : (rom : List ℕ) (m : Machine) → m .chip .core .reset ≡ true → interruptTaken rom m .chip .core .reset ≡ true
+interrupt-high rom m h =
+    ap (λ (x : Machine). x .chip .core .reset) (interrupt-is rom (m .cpu) (m .ram) (m .chip)) ∙ clock-reset (cyclesWith (interrupted rom (m .cpu))) (m .chip) h
+
+after-by : (b : Bool) (rom : List ℕ) (m : Machine) → m .chip .core .reset ≡ true → pick b (interruptTaken rom m) m .chip .core .reset ≡ true
+after-by true rom m h = interrupt-high rom m h
+after-by false rom m h = h
+
+-- an interrupt leaves RESET high
+pub after-high : (rom : List ℕ) (m : Machine) → m .chip .core .reset ≡ true → afterInterrupt rom m .chip .core .reset ≡ true
+unfolding afterInterrupt
+after-high rom m h = after-by (isInterrupted (isRequesting (m .chip)) (m .cpu)) rom m h
+
+turn-by : (b : Bool) (rom : List ℕ) (m : Machine) → m .chip .core .reset ≡ b → RunNumber (pick b (instruct rom (afterInterrupt rom m)) (turned m 0) .number)
+turn-by true rom m h = instruct-known rom (afterInterrupt rom m) (after-high rom m h)
+turn-by false rom m h = none
+
+-- a turn is refused with 5, 6, 20 or 21, never with 4
+pub turn-number : (rom : List ℕ) (m : Machine) → RunNumber (turn rom m .number)
+unfolding turn
+turn-number rom m = turn-by (m .chip .core .reset) rom m refl
+
+on-known : (t : Turned) (i : ℕ) (k : Machine → Ended) → RunNumber (t .number) → RunNumber (k (t .machine) .number) → (b : Bool) → RunNumber (pick b (k (t .machine)) (ended (t .machine) (t .number) i []) .number)
+on-known t i k h g true = g
+on-known t i k h g false = h
+
+-- and so is a run
+pub run-number : (n i : ℕ) (rom es : List ℕ) (m : Machine) → RunNumber (runs n i rom es m .number)
+unfolding runs
+run-number zero i rom es m = none
+run-number (suc n) i rom es m =
+    let x = turn rom (fed rom i es m) in
+    on-known x i (λ (t : Machine). runs n (i + 1) rom (left i es) t) (turn-number rom (fed rom i es m)) (run-number n (i + 1) rom (left i es) (x .machine)) (eqb (x .number) 0)
+
+-- ---- what a refusal leaves
+
+register-leaves : (t : Bool) (e : Effect) (ram : List ℕ) (k : Chip) (m : Machine) (n : ℕ) → eqb n 0 ≡ t
+    → eqb (pick t (finished e ram k) (turned m n) .number) 0 ≡ false → pick t (finished e ram k) (turned m n) .machine ≡ m
+register-leaves true e ram k m n z h = absurd (true≢false h)
+register-leaves false e ram k m n z h = refl
+
+stored-leaves : (d : Destination) (e : Effect) (m : Machine) → eqb (storedTo d e m .number) 0 ≡ false → storedTo d e m .machine ≡ m
+stored-leaves to.Ram e m h = absurd (true≢false h)
+stored-leaves (to.Register r b) e m h = register-leaves (eqb (writeNumber (m .chip .core .reset) r) 0) e _ _ m (writeNumber (m .chip .core .reset) r) refl h
+stored-leaves (to.Refused n) e m h = refl
+
+completed-leaves : (r : Result Effect) (m : Machine) → eqb (completed r m .number) 0 ≡ false → completed r m .machine ≡ m
+completed-leaves (gives e) m h = stored-leaves (destination (e .store)) e m h
+completed-leaves (refuses n) m h = refl
+
+-- an instruction that is refused leaves CPU, RAM and chip as they were
+pub instruct-refused : (rom : List ℕ) (m : Machine) → eqb (instruct rom m .number) 0 ≡ false → instruct rom m .machine ≡ m
+unfolding instruct
+instruct-refused rom m h = completed-leaves (perform (load (m .ram) (m .chip) rom) (instruction (m .cpu))) m h
+
+refused-by : (b : Bool) (rom : List ℕ) (m : Machine) → eqb (pick b (instruct rom (afterInterrupt rom m)) (turned m 0) .number) 0 ≡ false
+    → pick b (instruct rom (afterInterrupt rom m)) (turned m 0) .machine ≡ afterInterrupt rom m
+refused-by true rom m h = instruct-refused rom (afterInterrupt rom m) h
+refused-by false rom m h = absurd (true≢false h)
+
+-- a turn that is refused leaves them as its interrupt did
+pub turn-refused : (rom : List ℕ) (m : Machine) → eqb (turn rom m .number) 0 ≡ false → turn rom m .machine ≡ afterInterrupt rom m
+unfolding turn
+turn-refused rom m h = refused-by (m .chip .core .reset) rom m h

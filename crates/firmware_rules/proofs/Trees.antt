@@ -1,0 +1,245 @@
+-- What the instructions have in common: a documented one ends, keeps the cycles over, takes at most nine cycles and pushes inside the stack.
+use Prim.Native.Nat.{ℕ, _-_, _<_, _≤_}
+use mathlib.Core.Path.{_≡_, refl, ap, sym, _∙_}
+use mathlib.Core.Bool.{Bool, true, false, Bool·beq, true≢false}
+use mathlib.Core.Logic.{_⊎_, inl, inr}
+use native.Mathlib.Omega.{arith}
+use lib.Dec.{eqb}
+use lib.ListN.{List·getD-eq-default}
+use Rattle.bits.specs.Byte.{pick, num}
+use Rattle.bits.proofs.Finite.{at-each, beq-eq, true-T, lt-or-le}
+use Rattle.opcodes.specs.Table.{opcodes}
+use Rattle.opcodes.specs.Opcodes.{operations, operationNumbered, modes, modeNumbered, operationOf, modeOf, lengthOf, cyclesOf, isJsr, entryOf, isDocumented}
+use Rattle.opcodes.specs.declared.ReadOperation.{ReadOperation}
+use Rattle.opcodes.specs.declared.ReadOperation.the-variants.{Lda, Ldx, Ldy, And, Ora, Eor, Adc, Sbc, Cmp, Cpx, Cpy, Bit}
+use Rattle.opcodes.specs.declared.ImpliedOperation.{ImpliedOperation}
+use Rattle.opcodes.specs.declared.ImpliedOperation.the-variants.{Clc, Sec, Cli, Sei, Cld, Sed, Clv, Nop, Tax, Tay, Txa, Tya, Tsx, Txs, Inx, Iny, Dex, Dey}
+use Rattle.opcodes.specs.declared.Mode.{Mode}
+use Rattle.opcodes.specs.declared.Mode.the-variants as mode
+use Rattle.opcodes.specs.declared.Operation.{Operation}
+use Rattle.opcodes.specs.declared.Operation.the-variants.{Read, Store, Modify, ModifyA, Implied, Branch, Jmp, Jsr, Rts, Rti, Brk, Pha, Php, Pla, Plp, Undocumented}
+use Rattle.opcodes.proofs.Rules.{isUndocumentedMode, undocumented as table-undocumented, cycles-at-most-seven, isJsrOperation, jsr as table-jsr}
+use Rattle.operations.specs.declared.Cpu.{Cpu}
+use Rattle.operations.specs.Operations.{readOperation, impliedOperation, setPc, taken}
+use Rattle.memory.specs.Memory.{below}
+use Rattle.memory.specs.Reads.{Reads, done, undocumented, read, then}
+use Rattle.addressing.specs.declared.Effective.{Effective}
+use Rattle.addressing.specs.Addressing.{ahead, locate}
+use Rattle.instruction.specs.Program.{Instruction, leaves, rejected, reads, pushes, andThen}
+use Rattle.instruction.specs.Instruction.{trap, branched, execute, addressed, instructionOf}
+
+-- ---- reads that do not end at an opcode that is not documented
+
+abbrev pub Finds : {A : Type 0} → Reads A → Type 0
+Finds (done a) = Unit {0}
+Finds undocumented = ⊥
+Finds (read a k) = (b : ℕ) → Finds (k b)
+
+-- ---- an instruction that ends; its pushes are inside the stack where S is known to be a byte
+
+abbrev pub Regular : Bool → ℕ → Instruction → Type 0
+Regular known over (leaves e) = (e .cpu .over ≡ over) × (e .cycles < 10)
+Regular known over rejected = ⊥
+Regular known over (reads a k) = (b : ℕ) → Regular known over (k b)
+Regular known over (pushes s b t) = (known ≡ true → s < 256) × Regular known over t
+
+then-regular : {A : Type 0} (known : Bool) (over : ℕ) (r : Reads A) (g : A → Instruction) → Finds r → ((a : A) → Regular known over (g a)) → Regular known over (andThen r g)
+unfolding andThen
+then-regular known over (done a) g f h = h a
+then-regular known over undocumented g f h = f
+then-regular known over (read a k) g f h = λ (b : ℕ). then-regular known over (k b) g (f b) h
+
+-- ---- the operations keep the cycles over
+
+read-over : (o : ReadOperation) (b : ℕ) (c : Cpu) → readOperation o b c .over ≡ c .over
+unfolding readOperation
+read-over Lda b c = refl
+read-over Ldx b c = refl
+read-over Ldy b c = refl
+read-over And b c = refl
+read-over Ora b c = refl
+read-over Eor b c = refl
+read-over Adc b c = refl
+read-over Sbc b c = refl
+read-over Cmp b c = refl
+read-over Cpx b c = refl
+read-over Cpy b c = refl
+read-over Bit b c = refl
+
+implied-over : (o : ImpliedOperation) (c : Cpu) → impliedOperation o c .over ≡ c .over
+unfolding impliedOperation
+implied-over Clc c = refl
+implied-over Sec c = refl
+implied-over Cli c = refl
+implied-over Sei c = refl
+implied-over Cld c = refl
+implied-over Sed c = refl
+implied-over Clv c = refl
+implied-over Nop c = refl
+implied-over Tax c = refl
+implied-over Tay c = refl
+implied-over Txa c = refl
+implied-over Tya c = refl
+implied-over Tsx c = refl
+implied-over Txs c = refl
+implied-over Inx c = refl
+implied-over Iny c = refl
+implied-over Dex c = refl
+implied-over Dey c = refl
+
+num-le : (b : Bool) → num b ≤ 1
+num-le true = omega arith
+num-le false = omega arith
+
+below-by : (b : Bool) (s : ℕ) → s < 256 → pick b 255 (s - 1) < 256
+below-by true s h = omega arith
+below-by false s h = omega arith
+
+below-lt : (known : Bool) (s : ℕ) → (known ≡ true → s < 256) → known ≡ true → below s < 256
+below-lt known s h k = below-by (eqb s 0) s (h k)
+
+branched-regular : (known b : Bool) (t : Effective) (n : ℕ) (c : Cpu) → n < 8 → Regular known (c .over) (leaves (branched b t n c))
+branched-regular known true t n c h = (refl, omega (arith, num-le (t .crossed)))
+branched-regular known false t n c h = (refl, omega arith)
+
+trap-regular : (known b : Bool) (r n : ℕ) (c : Cpu) → n < 8 → (known ≡ true → c .s < 256) → Regular known (c .over) (trap b r n c)
+unfolding trap andThen
+trap-regular known b r n c h s = (s, (below-lt known (c .s) s, (below-lt known (below (c .s)) (below-lt known (c .s) s), λ (l k : ℕ). (refl, omega arith))))
+
+execute-regular : (known : Bool) (o : Operation) (t : Effective) (n : ℕ) (c : Cpu) → isDocumented o ≡ true → n < 8 → (known ≡ true → c .s < 256) → Regular known (c .over) (execute o t n c)
+unfolding execute andThen
+execute-regular known (Read o) t n c d h s = λ (b : ℕ). (read-over o b c, omega (arith, num-le (t .crossed)))
+execute-regular known (Store o) t n c d h s = (refl, omega arith)
+execute-regular known (Modify o) t n c d h s = λ (b : ℕ). (refl, omega arith)
+execute-regular known (ModifyA o) t n c d h s = (refl, omega arith)
+execute-regular known (Implied o) t n c d h s = (implied-over o c, omega arith)
+execute-regular known (Branch o) t n c d h s = branched-regular known (taken o (c .p)) t n c h
+execute-regular known Jmp t n c d h s = (refl, omega arith)
+execute-regular known Jsr t n c d h s = λ (l : ℕ). (s, (below-lt known (c .s) s, λ (k : ℕ). (refl, omega arith)))
+execute-regular known Rts t n c d h s = λ (l k : ℕ). (refl, omega arith)
+execute-regular known Rti t n c d h s = λ (b l k : ℕ). (refl, omega arith)
+execute-regular known Brk t n c d h s = trap-regular known true (ahead (c .pc) 1) n c h s
+execute-regular known Pha t n c d h s = (s, (refl, omega arith))
+execute-regular known Php t n c d h s = (s, (refl, omega arith))
+execute-regular known Pla t n c d h s = λ (b : ℕ). (refl, omega arith)
+execute-regular known Plp t n c d h s = λ (b : ℕ). (refl, omega arith)
+execute-regular known Undocumented t n c d h s = true≢false (sym d)
+
+-- ---- the addressing modes of documented opcodes
+
+locate-finds : (m : Mode) (c : Cpu) → isUndocumentedMode m ≡ false → Finds (locate m c)
+unfolding locate then isUndocumentedMode
+locate-finds mode.Implied c h = tt
+locate-finds mode.Accumulator c h = tt
+locate-finds mode.Immediate c h = tt
+locate-finds mode.ZeroPage c h = λ (o : ℕ). tt
+locate-finds mode.ZeroPageX c h = λ (o : ℕ). tt
+locate-finds mode.ZeroPageY c h = λ (o : ℕ). tt
+locate-finds mode.Absolute c h = λ (l k : ℕ). tt
+locate-finds mode.AbsoluteX c h = λ (l k : ℕ). tt
+locate-finds mode.AbsoluteY c h = λ (l k : ℕ). tt
+locate-finds mode.AbsoluteIndirect c h = λ (l k l′ k′ : ℕ). tt
+locate-finds mode.IndexedIndirect c h = λ (o l k : ℕ). tt
+locate-finds mode.IndirectIndexed c h = λ (o l k : ℕ). tt
+locate-finds mode.Relative c h = λ (o : ℕ). tt
+locate-finds mode.Undocumented c h = true≢false h
+
+addressed-finds : (j : Bool) (m : Mode) (c : Cpu) → isUndocumentedMode m ≡ false → Finds (addressed j m c)
+addressed-finds true m c h = tt
+addressed-finds false m c h = locate-finds m c h
+
+-- ---- the table, past its end too: there the entry is 0
+
+past : (opcode : ℕ) → 256 ≤ opcode → entryOf opcode ≡ 0
+unfolding entryOf opcodes
+past opcode h = List·getD-eq-default opcodes 0 {n = opcode} h
+
+few-past : cyclesOf 0 < 8
+unfolding cyclesOf
+few-past = omega arith
+
+few-by : (opcode : ℕ) → (opcode < 256) ⊎ (256 ≤ opcode) → cyclesOf (entryOf opcode) < 8
+few-by opcode (inl h) = cycles-at-most-seven opcode h
+few-by opcode (inr h) = rw (past opcode h) few-past
+
+few : (opcode : ℕ) → cyclesOf (entryOf opcode) < 8
+few opcode = few-by opcode (lt-or-le opcode 256)
+
+abbrev Marked : ℕ → Type 0
+Marked e = isUndocumentedMode (modeOf e) ≡ Bool·beq (isDocumented (operationOf e)) false
+
+marked-past : Marked 0
+unfolding operations operationNumbered operationOf modes modeNumbered modeOf isUndocumentedMode
+marked-past = refl
+
+marked-by : (opcode : ℕ) → (opcode < 256) ⊎ (256 ≤ opcode) → Marked (entryOf opcode)
+marked-by opcode (inl h) = beq-eq _ _ (at-each (λ (k : ℕ). Bool·beq (isUndocumentedMode (modeOf (entryOf k))) (Bool·beq (isDocumented (operationOf (entryOf k))) false)) 256 (true-T _ table-undocumented) opcode h)
+marked-by opcode (inr h) = rw (past opcode h) marked-past
+
+marked : (opcode : ℕ) → Marked (entryOf opcode)
+marked opcode = marked-by opcode (lt-or-le opcode 256)
+
+abbrev Jumps : ℕ → Type 0
+Jumps e = isJsr e ≡ isJsrOperation (operationOf e)
+
+jumps-past : Jumps 0
+unfolding operations operationNumbered operationOf isJsr isJsrOperation
+jumps-past = refl
+
+jumps-by : (opcode : ℕ) → (opcode < 256) ⊎ (256 ≤ opcode) → Jumps (entryOf opcode)
+jumps-by opcode (inl h) = beq-eq _ _ (at-each (λ (k : ℕ). Bool·beq (isJsr (entryOf k)) (isJsrOperation (operationOf (entryOf k)))) 256 (true-T _ table-jsr) opcode h)
+jumps-by opcode (inr h) = rw (past opcode h) jumps-past
+
+-- ---- an instruction whose opcode is read
+
+pub documented-regular : (known : Bool) (opcode : ℕ) (c : Cpu) → isDocumented (operationOf (entryOf opcode)) ≡ true → (known ≡ true → c .s < 256) → Regular known (c .over) (instructionOf (entryOf opcode) c)
+unfolding instructionOf
+documented-regular known opcode c d s =
+    let e = entryOf opcode in
+    let k : isUndocumentedMode (modeOf e) ≡ false = marked opcode ∙ ap (λ (b : Bool). Bool·beq b false) d in
+    then-regular known (c .over) (addressed (isJsr e) (modeOf e) c) _ (addressed-finds (isJsr e) (modeOf e) c k)
+    (λ (t : Effective). execute-regular known (operationOf e) t (cyclesOf e) (setPc (ahead (c .pc) (lengthOf e)) c) d (few opcode) s)
+
+not-jsr : (o : Operation) → isDocumented o ≡ false → isJsrOperation o ≡ false
+unfolding isJsrOperation
+not-jsr (Read o) h = refl
+not-jsr (Store o) h = refl
+not-jsr (Modify o) h = refl
+not-jsr (ModifyA o) h = refl
+not-jsr (Implied o) h = refl
+not-jsr (Branch o) h = refl
+not-jsr Jmp h = refl
+not-jsr Jsr h = h
+not-jsr Rts h = refl
+not-jsr Rti h = refl
+not-jsr Brk h = refl
+not-jsr Pha h = refl
+not-jsr Php h = refl
+not-jsr Pla h = refl
+not-jsr Plp h = refl
+not-jsr Undocumented h = refl
+
+rejects : (m : Mode) (c : Cpu) (g : Effective → Instruction) → isUndocumentedMode m ≡ true → andThen (locate m c) g ≡ rejected
+unfolding isUndocumentedMode locate andThen
+rejects mode.Implied c g h = absurd (true≢false (sym h))
+rejects mode.Accumulator c g h = absurd (true≢false (sym h))
+rejects mode.Immediate c g h = absurd (true≢false (sym h))
+rejects mode.ZeroPage c g h = absurd (true≢false (sym h))
+rejects mode.ZeroPageX c g h = absurd (true≢false (sym h))
+rejects mode.ZeroPageY c g h = absurd (true≢false (sym h))
+rejects mode.Absolute c g h = absurd (true≢false (sym h))
+rejects mode.AbsoluteX c g h = absurd (true≢false (sym h))
+rejects mode.AbsoluteY c g h = absurd (true≢false (sym h))
+rejects mode.AbsoluteIndirect c g h = absurd (true≢false (sym h))
+rejects mode.IndexedIndirect c g h = absurd (true≢false (sym h))
+rejects mode.IndirectIndexed c g h = absurd (true≢false (sym h))
+rejects mode.Relative c g h = absurd (true≢false (sym h))
+rejects mode.Undocumented c g h = refl
+
+pub undocumented-rejected : (opcode : ℕ) (c : Cpu) → isDocumented (operationOf (entryOf opcode)) ≡ false → instructionOf (entryOf opcode) c ≡ rejected
+unfolding instructionOf
+undocumented-rejected opcode c d =
+    let e = entryOf opcode in
+    let k : isUndocumentedMode (modeOf e) ≡ true = marked opcode ∙ ap (λ (b : Bool). Bool·beq b false) d in
+    let j : isJsr e ≡ false = jumps-by opcode (lt-or-le opcode 256) ∙ not-jsr (operationOf e) d in
+    rw j (rejects (modeOf e) c _ k)

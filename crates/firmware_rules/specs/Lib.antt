@@ -1,0 +1,4 @@
+pub mod Numbers
+pub mod History
+pub mod Parts
+pub mod Interrupts
