@@ -97,6 +97,17 @@ uint8_t nt6861_read_block(uint32_t number, const uint8_t *bytes, size_t bytes_le
  * more than 126 words, then 17 for an area of another length. */
 uint8_t nt6861_write_block(uint16_t number, const uint32_t *words, size_t words_length, uint8_t *area, size_t area_length);
 
+/* ---- a plain reading of the bus: libaddresses_capi.a */
+
+/* Lists the addresses in a list of outside changes of SCL and SDA, from both lines 1, for a chip idle in DDC2B with `ii_adr` in II ADR.
+ * A change has the line in its upper byte (18H SDA, 19H SCL) and the level in its lower (0, 1). Returns 0, writes each address to the
+ * start of `found`, its byte above and its outcome below (0 none, 1 A0H, 2 II ADR, 3 both), and how many they are to `count`; places
+ * past them keep their content. The list is read up to the ninth rise of SCL since the START of an address that matched. Or writes
+ * nothing and returns, for the first bad change, also past that rise, 2 for another line or 3 for a level above 1; then 7 where there
+ * are fewer places than addresses; `changes_length` / 16 + 1 places are always enough. The time grows at most with the square of the
+ * length. */
+uint8_t nt6861_addresses(uint8_t ii_adr, const uint16_t *changes, size_t changes_length, uint16_t *found, size_t found_length, size_t *count);
+
 #ifdef __cplusplus
 }
 #endif

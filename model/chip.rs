@@ -314,6 +314,48 @@ impl Chip {
         *self = Chip::after_reset(self.levels);
     }
 
+    /// What document 01 calls well formed, with Wishes 2, 9 and 12, in this model's terms.
+    pub fn well_formed(&self) -> bool {
+        let counts = self.hcnt.count <= 4095
+            && self.hcnt.latch <= 4095
+            && self.vcnt.count <= 4095
+            && self.vcnt.latch <= 4095
+            && self.interval <= 1023
+            && self.watchdog <= 63
+            && self.edges_left <= 9;
+        let reserved = self.pt1 & 0xC0 == 0
+            && self.pt3 & 0xFC == 0
+            && self.syncon & 0x20 == 0x20
+            && self.iex & 0xC0 == 0
+            && self.irqx & 0xC0 == 0
+            && self.iiadr & 0x01 == 0x01;
+        let mode = (self.ddc2b() || self.phase == Phase::Idle)
+            && (self.ddc1() || self.edges_left == 9)
+            && (self.edges_left < 9 || self.shift == 0xFF);
+        let sda_as_said = match self.phase {
+            Phase::Idle if self.ddc1() => self.pull_sda == (self.shift & 0x80 == 0),
+            Phase::Incoming { bits: 8, .. } => true,
+            Phase::Incoming { bits, byte, .. } => {
+                bits < 8 && u32::from(byte) < 1 << bits && !self.pull_sda
+            }
+            Phase::Outgoing { rest, falls, acked } => {
+                falls <= 8
+                    && (falls == 8 || !acked)
+                    && self.pull_sda == (falls < 8 && rest & 0x80 == 0)
+            }
+            _ => !self.pull_sda,
+        };
+        let held = self.phase == Phase::Held;
+        let count = held || self.held_clocks == 0;
+        let matched = match self.phase {
+            Phase::Idle | Phase::Ignoring => false,
+            Phase::Incoming { address, bits, .. } => !address || bits == 8,
+            Phase::NotAcknowledged | Phase::Outgoing { .. } | Phase::Held => true,
+        };
+        let outcome = matched == (self.outcome() != Outcome::None);
+        counts && reserved && mode && sda_as_said && self.pull_scl == held && count && outcome
+    }
+
     pub fn requests(&self) -> u8 {
         self.irqx & self.iex
     }
@@ -370,7 +412,7 @@ impl Chip {
 /// Registers.
 impl Chip {
     /// None for a register that only takes writes.
-    fn read(&self, register: u8) -> Option<u8> {
+    pub fn read(&self, register: u8) -> Option<u8> {
         Some(match register {
             0x00 => self.read_pt0(),
             0x01 => self.read_pt1(),
@@ -403,7 +445,8 @@ impl Chip {
         })
     }
 
-    fn write(&mut self, register: u8, byte: u8) -> Result<(), u8> {
+    /// The number of a refusal for a register that only takes reads.
+    pub fn write(&mut self, register: u8, byte: u8) -> Result<(), u8> {
         match register {
             0x00 => self.pt0 = byte,
             0x01 => self.pt1 = byte & 0x3F,
@@ -516,7 +559,7 @@ impl Chip {
 
 /// Clocks and pins.
 impl Chip {
-    fn sync_clock(&mut self) {
+    pub fn sync_clock(&mut self) {
         if self.phase == Phase::Held {
             self.held_clocks = self.held_clocks.saturating_add(1);
         }

@@ -1,8 +1,12 @@
-//! The independent model as a program: it reads words and answers them, makes seeded words, and compares another program's
-//! answers with its own.
+//! The independent model as a program: it reads words and answers them, makes seeded words, compares another program's
+//! answers with its own, and runs firmware.
 
 use nt6861_model::chip::Chip;
+use nt6861_model::core6502::{Listed, ROM_SIZE};
 use nt6861_model::coverage;
+use nt6861_model::firmware;
+use nt6861_model::host::{self, ddc1_bytes};
+use nt6861_model::programs::{self, Random};
 use nt6861_model::replay::{generate, hold_text, outcome_text, replay, sample};
 use nt6861_model::traffic::Traffic;
 use std::fs;
@@ -21,7 +25,15 @@ const USAGE: &str = "usage:
                                          every EVERY generated words
   model outcomes SEED COUNT EVERY        likewise what the current transfer's address was equal
                                          to: none, a0, ii-adr or both
-  model time COUNT                       speed of the step";
+  model time COUNT                       speed of the step
+  model firmware [-t] ROM COUNT [EVENTS] runs so many instructions of an image from power up, with
+                                         the listed events; prints answers and registers, with -t
+                                         a trace
+  model host ROM DESCRIPTION             the events of a host that does as described, as a list
+  model bus ROM COUNT EVENTS             what passes over the bus in such a run, and what DDC1 sends
+  model image SEED                       a random program, as an image
+  model events SEED COUNT                random events, as a list
+  model firmware-bench FOLDER            instructions a second of the images in the folder";
 
 fn main() -> ExitCode {
     let arguments: Vec<String> = std::env::args().skip(1).collect();
@@ -36,6 +48,15 @@ fn main() -> ExitCode {
         ["holds", seed, count, every] => sampled(seed, count, every, hold_text),
         ["outcomes", seed, count, every] => sampled(seed, count, every, outcome_text),
         ["time", count] => time(count),
+        ["firmware", "-t", rom, count] => firmware(rom, count, None, true),
+        ["firmware", "-t", rom, count, events] => firmware(rom, count, Some(events), true),
+        ["firmware", rom, count] => firmware(rom, count, None, false),
+        ["firmware", rom, count, events] => firmware(rom, count, Some(events), false),
+        ["host", rom, description] => hosted(rom, description),
+        ["bus", rom, count, events] => bus(rom, count, events),
+        ["image", seed] => random_image(seed),
+        ["events", seed, count] => random_events(seed, count),
+        ["firmware-bench", folder] => firmware_bench(folder),
         _ => Err(USAGE.to_string()),
     };
     match outcome {
@@ -150,4 +171,118 @@ fn time(count: &str) -> Result<bool, String> {
         words.len() as f64 / seconds
     );
     Ok(true)
+}
+
+fn read_file(name: &str) -> Result<Vec<u8>, String> {
+    fs::read(name).map_err(|error| format!("{name}: {error}"))
+}
+
+fn image(name: &str) -> Result<[u8; ROM_SIZE], String> {
+    let bytes = read_file(name)?;
+    bytes[..]
+        .try_into()
+        .map_err(|_| format!("{name}: {} bytes, not {ROM_SIZE}", bytes.len()))
+}
+
+fn instructions(text: &str) -> Result<u32, String> {
+    firmware::decimal(text.as_bytes())
+        .ok_or(format!("{text}: not a decimal number up to 4294967295"))
+}
+
+fn listed(name: &str) -> Result<Vec<Listed>, String> {
+    firmware::parse_events(&read_file(name)?)
+        .map_err(|bad| format!("{name}:{}: not NUMBER WORD", bad.line))
+}
+
+fn firmware(rom: &str, count: &str, events: Option<&str>, trace: bool) -> Result<bool, String> {
+    let rom = image(rom)?;
+    let count = instructions(count)?;
+    let events = events.map_or(Ok(Vec::new()), listed)?;
+    let text = if trace {
+        firmware::print_trace(&rom, count, &events)
+    } else {
+        firmware::print(&rom, count, &events)
+    };
+    print_bytes(text.as_bytes())
+}
+
+fn hosted(rom: &str, description: &str) -> Result<bool, String> {
+    let image = image(rom)?;
+    let text = String::from_utf8(read_file(description)?)
+        .map_err(|_| format!("{description}: not text"))?;
+    let hosted = host::host(&image, &text).map_err(|why| format!("{description}: {why}"))?;
+    print_bytes(hosted.text.as_bytes())
+}
+
+fn random_image(seed: &str) -> Result<bool, String> {
+    print_bytes(&programs::rom(&mut Random::new(number(seed)?))[..])
+}
+
+fn random_events(seed: &str, count: &str) -> Result<bool, String> {
+    let events = programs::events(&mut Random::new(number(seed)?), number(count)?);
+    let line = |listed: &Listed| format!("{} {:08X}\n", listed.number, listed.word);
+    print_bytes(events.iter().map(line).collect::<String>().as_bytes())
+}
+
+/// A line of bytes as hex digits for every sixteen.
+fn dump(bytes: &[u8]) -> String {
+    let line = |bytes: &[u8]| {
+        let digits: Vec<String> = bytes.iter().map(|byte| format!("{byte:02X}")).collect();
+        digits.join(" ") + "\n"
+    };
+    bytes.chunks(16).map(line).collect()
+}
+
+fn bus(rom: &str, count: &str, events: &str) -> Result<bool, String> {
+    let (monitor, levels) = host::monitor(&image(rom)?, instructions(count)?, &listed(events)?);
+    let mut text = monitor.text;
+    if let Some(bytes) = ddc1_bytes(&levels).filter(|bytes| !bytes.is_empty()) {
+        text += &format!("DDC1\n{}", dump(&bytes));
+    }
+    print_bytes(text.as_bytes())
+}
+
+/// Each image alone, then with its host's events again and again; the best of seven.
+fn firmware_bench(folder: &str) -> Result<bool, String> {
+    const INSTRUCTIONS: u32 = 10_000_000;
+    println!("image, events, million instructions a second of processor time");
+    for line in String::from_utf8_lossy(&read_file(&format!("{folder}/runs.txt"))?).lines() {
+        let parts: Vec<&str> = line.split_whitespace().collect();
+        let [name, list, count] = parts[..] else {
+            continue;
+        };
+        let rom = image(&format!("{folder}/{name}.rom"))?;
+        let events = listed(&format!("{folder}/{list}.events"))?;
+        let count = instructions(count)?;
+        let alone = best_rate(1, || firmware::run(black_box(&rom), INSTRUCTIONS, &[]));
+        println!("{name}, none, {alone:.1}");
+        let times = INSTRUCTIONS / count + 1;
+        let rate = best_rate(times, || firmware::run(black_box(&rom), count, &events));
+        println!("{name}, {list}, {rate:.1}");
+    }
+    Ok(true)
+}
+
+fn best_rate(times: u32, run: impl Fn() -> firmware::Ended) -> f64 {
+    let mut best: f64 = 0.0;
+    for _ in 0..7 {
+        let begin = processor_seconds();
+        let mut counted = 0;
+        for _ in 0..times {
+            counted += run().told.counted as u64;
+        }
+        best = best.max(counted as f64 / (processor_seconds() - begin));
+    }
+    best / 1e6
+}
+
+/// Of this thread, as the kernel counts it; other work beside it does not.
+fn processor_seconds() -> f64 {
+    let told = fs::read_to_string("/proc/thread-self/schedstat").expect("schedstat");
+    let nanoseconds: f64 = told
+        .split_whitespace()
+        .next()
+        .and_then(|number| number.parse().ok())
+        .expect("nanoseconds");
+    nanoseconds / 1e9
 }

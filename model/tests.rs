@@ -1229,7 +1229,7 @@ fn hold_stands_in_reset() {
     let mut rig = Rig::addressed_for_write(0x00);
     rig.clocks(0, 4);
     rig.0.levels &= !(1 << pin::RESET);
-    assert!(well_formed(&rig.0));
+    assert!(rig.0.well_formed());
     rig.clocks(0, 5);
     assert_eq!(rig.0.hold(), Some(4));
     rig.pin(pin::RESET, 1);
@@ -1380,7 +1380,7 @@ fn iiadr_counts_until_the_eighth_rise() {
         rig.write(0x13, late);
         rig.ninth_clock(1);
         assert_eq!(rig.0.outcome(), outcome);
-        assert!(well_formed(&rig.0));
+        assert!(rig.0.well_formed());
         let matched = outcome != Outcome::None;
         assert_eq!(rig.0.phase == Phase::Held, matched);
         let flags = if matched { flag::A | flag::D } else { 0 };
@@ -1456,7 +1456,7 @@ fn outcome_ends_with_the_transfer() {
             assert_eq!(rig.0.outcome(), outcome);
             end(&mut rig);
             assert_eq!(rig.0.outcome(), Outcome::None, "{name}");
-            assert!(well_formed(&rig.0), "{name}");
+            assert!(rig.0.well_formed(), "{name}");
         }
     }
     // Between the eighth rise and the fall.
@@ -1499,46 +1499,6 @@ fn every_class_occurs() {
     assert!(always_empty.is_empty(), "{always_empty:?}");
 }
 
-/// What document 01 calls well formed, in this model's terms.
-fn well_formed(chip: &Chip) -> bool {
-    let counts = chip.hcnt.count <= 4095
-        && chip.hcnt.latch <= 4095
-        && chip.vcnt.count <= 4095
-        && chip.vcnt.latch <= 4095
-        && chip.interval <= 1023
-        && chip.watchdog <= 63
-        && chip.edges_left <= 9;
-    let reserved = chip.pt1 & 0xC0 == 0
-        && chip.pt3 & 0xFC == 0
-        && chip.syncon & 0x20 == 0x20
-        && chip.iex & 0xC0 == 0
-        && chip.irqx & 0xC0 == 0
-        && chip.iiadr & 0x01 == 0x01;
-    let mode = (chip.ddc2b() || chip.phase == Phase::Idle)
-        && (chip.ddc1() || chip.edges_left == 9)
-        && (chip.edges_left < 9 || chip.shift == 0xFF);
-    let sda_as_said = match chip.phase {
-        Phase::Idle if chip.ddc1() => chip.pull_sda == (chip.shift & 0x80 == 0),
-        Phase::Incoming { bits: 8, .. } => true,
-        Phase::Incoming { bits, byte, .. } => {
-            bits < 8 && u32::from(byte) < 1 << bits && !chip.pull_sda
-        }
-        Phase::Outgoing { rest, falls, acked } => {
-            falls <= 8 && (falls == 8 || !acked) && chip.pull_sda == (falls < 8 && rest & 0x80 == 0)
-        }
-        _ => !chip.pull_sda,
-    };
-    let held = chip.phase == Phase::Held;
-    let count = held || chip.held_clocks == 0;
-    let matched = match chip.phase {
-        Phase::Idle | Phase::Ignoring => false,
-        Phase::Incoming { address, bits, .. } => !address || bits == 8,
-        Phase::NotAcknowledged | Phase::Outgoing { .. } | Phase::Held => true,
-    };
-    let outcome = matched == (chip.outcome() != Outcome::None);
-    counts && reserved && mode && sda_as_said && chip.pull_scl == held && count && outcome
-}
-
 #[test]
 fn states_stay_well_formed() {
     let mut chip = Chip::fresh();
@@ -1546,7 +1506,7 @@ fn states_stay_well_formed() {
         let old = chip;
         let answer = chip.step(word);
         assert!(
-            well_formed(&chip),
+            chip.well_formed(),
             "place {place}, word {word:08X}: {chip:?}"
         );
         if answer >> 24 != 0 {

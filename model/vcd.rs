@@ -62,7 +62,7 @@ fn is_index(t: &[u8]) -> bool {
 }
 
 /// What C's %.16g prints.
-fn is_real(t: &[u8]) -> bool {
+pub fn is_real(t: &[u8]) -> bool {
     let t = t.strip_prefix(b"+").or_else(|| t.strip_prefix(b"-")).unwrap_or(t);
     if t.eq_ignore_ascii_case(b"nan") || t.eq_ignore_ascii_case(b"inf") {
         return true;
@@ -185,6 +185,33 @@ fn header<'a>(all: &[Token<'a>]) -> Result<Header<'a>, Refusal> {
         }
     }
     Ok(h)
+}
+
+/// A header: the unit in ps, each variable's code with the pin that it stands for, and the place where the body begins.
+pub struct Head {
+    pub unit: Option<u128>,
+    pub variables: Vec<(Vec<u8>, Option<u32>)>,
+    pub body: usize,
+}
+
+/// The header alone. Its tokens end with the first `$end` behind `$enddefinitions`; where these words are inside a comment, all
+/// tokens are looked at.
+pub fn head(file: &[u8]) -> Result<Head, (u8, usize)> {
+    let behind = |word: &[u8], from: usize| file[from..].windows(word.len()).position(|w| w == word).map(|n| from + n + word.len());
+    let near = behind(b"$enddefinitions", 0).and_then(|n| behind(b"$end", n)).unwrap_or(file.len());
+    for end in [near, file.len()] {
+        let all = tokens(&file[..end]);
+        let whole = all.len() > 1 && all[all.len() - 2].bytes == b"$enddefinitions" && file.get(end).is_none_or(|b| is_white(*b));
+        match header(&all) {
+            Ok(h) if end == file.len() || (whole && h.next == all.len()) => {
+                let variables = h.variables.iter().map(|v| (v.code.to_vec(), v.pin)).collect();
+                return Ok(Head { unit: h.unit, variables, body: all.get(h.next).map_or(end, |t| t.place) });
+            }
+            Err(refusal) if end == file.len() => return Err(refusal),
+            _ => {}
+        }
+    }
+    unreachable!("the second turn is over the whole file")
 }
 
 struct Writer {

@@ -1,9 +1,12 @@
 #!/usr/bin/env bash
-# Reads the logs of the must-fail edits that `rt ci` has tried. An edit file with headers '# FUNCTION: wrong answer' holds a wrong
-# answer for each of these functions, and each of them is refused by its own proof; any other edit file is one wrong program,
-# and its first error counts. A refusal that only says that a proof no longer fits the code, or that a callee was refused, shows
-# nothing about the contract and fails the check. It cannot tell a fact that fails from one that the proof does not find: that the
-# edited code is wrong indeed, scripts/check-wrong-answers.sh sees by running it. Each public function has at least two wrong answers.
+# Reads the logs of the must-fail edits that `rt ci` has tried. An edit file with headers holds several wrong answers. Under
+# '# FUNCTION: wrong answer' stands one of a function, refused by that function's own proof; under '# MODULE.THEOREM: wrong rule' one
+# of a definition, refused by a fact of that theorem of proofs/MODULE.antt. No two of a file name the same function or theorem, so
+# each refusal is told apart; that a theorem named is refused by its own wrong rule alone, scripts/check-apart.sh sees by trying each
+# by itself. Any other edit file is one wrong program, and its first error counts. A refusal that only says that a proof no longer
+# fits the code, or that what it rests on was refused, shows nothing about the contract and fails the check. It cannot tell a fact
+# that fails from one that the proof does not find: that the edited code is wrong indeed, scripts/check-wrong-answers.sh sees by
+# running it. Each public function has at least two wrong answers.
 set -euo pipefail
 cd "$(dirname "$0")/.."
 bad=0
@@ -23,9 +26,18 @@ judge() {
     esac
 }
 
-# headers EDIT: for each wrong answer its function and the public function that it is an answer of: '# FUNCTION of PUBLIC (LABEL): ..'
+# headers EDIT: for each wrong answer its function and the public function that it is an answer of, '# FUNCTION of PUBLIC (LABEL): ..';
+# for each wrong rule its theorem twice
 headers() {
-    sed -nE 's/^# ([a-z0-9_]+) of ([a-z0-9_]+)( \([a-z0-9_]+\))?: .*/\1 \2/p; s/^# ([a-z0-9_]+)( \([a-z0-9_]+\))?: .*/\1 \1/p' "$1"
+    sed -nE 's/^# ([a-z0-9_]+) of ([a-z0-9_]+)( \([a-z0-9_]+\))?: .*/\1 \2/p; s/^# ([a-z0-9_]+|[A-Z][A-Za-z0-9]*\.[^ .:]+)( \([a-z0-9_]+\))?: .*/\1 \1/p' "$1"
+}
+
+# refusal LOG NAME: the first error of a function's own proof, or of a theorem MODULE.THEOREM
+refusal() {
+    case $2 in
+    *.*) grep -m 1 -E "/proofs/${2%%.*}\.antt:[0-9]+:[0-9]+: error: \`${2#*.}\`:" "$1" || true ;;
+    *) grep -m 1 -E "/proofs/$2/Proof\.antt:[0-9]+:[0-9]+: error" "$1" || true ;;
+    esac
 }
 
 answers=0
@@ -43,11 +55,13 @@ for edit in crates/*/must-fail/*.edit; do
         judge "$edit" "$(grep -m 1 ': error' "$log" || true)"
         continue
     fi
-    while read -r function public; do
+    while read -r name public; do
         answers=$((answers + 1))
         tried="$tried$crate::$public"$'\n'
-        judge "$edit, $function" "$(grep -m 1 -E "/proofs/$function/Proof\.antt:[0-9]+:[0-9]+: error" "$log" || true)"
+        judge "$edit, $name" "$(refusal "$log" "$name")"
     done <<< "$named"
+    twice=$(grep '\.' <<< "$named" | sort | uniq -d || true)
+    [ -z "$twice" ] || complain "$edit names a theorem twice: ${twice%% *}"
 done
 
 functions=0
@@ -59,5 +73,5 @@ while IFS=: read -r source name; do
     [ "$count" -ge 2 ] || complain "$name has $count wrong answers tried, not two"
 done < <(grep -oE '^pub (extern "C" )?fn [a-z0-9_]+' crates/*/src/lib.rt | sed -E 's/:pub .*fn /:/')
 
-[ "$bad" = 0 ] && echo "must-fail: $answers wrong answers, each refused at a fact of its own proof; at least two for each of $functions public functions"
+[ "$bad" = 0 ] && echo "must-fail: $answers wrong answers, each refused at a fact of its own proof or theorem; at least two for each of $functions public functions"
 exit "$bad"

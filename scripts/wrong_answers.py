@@ -23,7 +23,7 @@ RT = pathlib.Path(shutil.which("rt") or sys.exit("wrong answers: the Rattle tool
 KIT = pathlib.Path(os.environ.get("RATTLE_HOME", RT.parent.parent))
 OWN = KIT / "on" / os.uname().machine
 WORDS = 30000
-HEADER = re.compile(r"# ([a-z0-9_]+)(?: of ([a-z0-9_]+))?(?: \(([a-z0-9_]+)\))?: (.*)")
+HEADER = re.compile(r"# ([a-z0-9_]+|[A-Z]\w*\.[^ .:]+)(?: of ([a-z0-9_]+))?(?: \(([a-z0-9_]+)\))?: (.*)")
 
 
 def dependencies(path):

@@ -5,6 +5,8 @@ use nt6861_model::vcd::{read, Answer};
 #[path = "../model/vcd_link.rs"]
 mod vcd_link;
 use vcd_link::{more, whole};
+#[path = "../bench/vcd.rs"]
+mod tuned;
 
 /// A small generator of pseudo-random numbers (xorshift).
 struct Dice(u64);
@@ -26,6 +28,9 @@ const SENTINEL: u32 = 0xa5a5_5a5a;
 /// Compares one file at one room: words, number, place, places past the words, and the same in pieces.
 fn compare(file: &[u8], room: usize, piece: usize) -> Answer {
     let expected = read(file, room);
+    let mut plain = vec![SENTINEL; room];
+    let (number, count, place) = tuned::read(file, &mut plain);
+    assert_eq!((number, &plain[..count], place), (expected.number, &expected.words[..], expected.place), "the bench's reader on {file:?}");
     let mut words = vec![SENTINEL; room];
     let (number, told) = whole(file, &mut words);
     let count = told[0] as usize;
@@ -145,7 +150,8 @@ fn bench() {
         for size in [2_000_000, 8_000_000, 32_000_000] {
             let file = traffic(size, codes, step);
             let mut words = vec![0u32; 64_000_000];
-            let mut best = [f64::MAX; 2];
+            let mut plain = vec![0u32; 64_000_000];
+            let mut best = [f64::MAX; 3];
             for _ in 0..5 {
                 let began = std::time::Instant::now();
                 let (number, told) = whole(&file, &mut words);
@@ -153,10 +159,21 @@ fn bench() {
                 let began = std::time::Instant::now();
                 let model = read(&file, words.len());
                 best[1] = best[1].min(began.elapsed().as_secs_f64());
+                let began = std::time::Instant::now();
+                let (_, count, _) = tuned::read(&file, &mut plain);
+                best[2] = best[2].min(began.elapsed().as_secs_f64());
                 assert!(number == 0 && model.number == 0 && told[0] as usize == model.words.len());
+                assert!(plain[..count] == model.words[..] && words[..count] == model.words[..]);
             }
             let speed = |s: f64| file.len() as f64 / s / 1e6;
-            println!("| {what}, {} MB | {:.0} | {:.0} | {:.2} |", size / 1_000_000, speed(best[0]), speed(best[1]), best[1] / best[0]);
+            println!(
+                "| {what}, {} MB | {:.0} | {:.0} | {:.0} | {:.2} |",
+                size / 1_000_000,
+                speed(best[0]),
+                speed(best[2]),
+                speed(best[1]),
+                best[2] / best[0]
+            );
         }
     }
 }

@@ -10,7 +10,7 @@ use lib.Seq.{take-suc, take-all}
 use Rattle.hex.specs.Hex.{hexLine}
 use Rattle.hex.proofs.Line.{length-line}
 use Rattle.block_replay.specs.Replay.{hexLines}
-use Rattle.block_replay.proofs.Place.{put, put-take, put-drop, put-length, drop-later}
+use Rattle.places.proofs.Place.{put, put-take, put-drop, put-length, drop-later}
 
 pub length-lines : (xs : List ℕ) → length (hexLines xs) ≡ 9 * length xs
 unfolding hexLines

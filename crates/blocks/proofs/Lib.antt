@@ -1,4 +1,3 @@
-pub mod Place
 pub mod Words
 pub mod Loops
 pub mod Parts

@@ -11,7 +11,7 @@ use lib.ListN.{length, take, drop, getD, set, replicate, length-append, length-s
 use lib.Seq.{drop-cons, take-suc, take-suc-set, drop-set-lt, drop-drop, take-all}
 use Rattle.blocks.specs.Bytes.{fourBytes, wordsBytes, allZero, sum}
 use Rattle.blocks.specs.Block.{padded}
-use Rattle.blocks.proofs.Place.{put-take, put-drop, put-length, drop-later}
+use Rattle.places.proofs.Place.{put-take, put-drop, put-length, drop-later}
 
 -- ---- the sum: of the bytes bs, i are added up
 

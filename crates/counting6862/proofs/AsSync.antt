@@ -1,7 +1,7 @@
 -- The unit for the NT6861 does what document 01's counters do on the same events, over any list of calls.
 -- Assumes nothing.
 use mathlib.Core.Path.{_≡_, refl, sym, _∙_}
-use mathlib.Core.Bool.{true}
+use mathlib.Core.Bool.{Bool, true}
 use mathlib.Core.List.{List, [], _∷_}
 use Rattle.sync.specs.Sync.{clearLines, clearPeriods, stepPeriods, intervalNext, linesOnPeriod, onPeriod, clearOverflow, wellSync}
 use Rattle.sync6862.specs.declared.Part.the-variants.{Nt6861}
@@ -19,14 +19,22 @@ pub well-same : (b : Base) → wellFormed (unitOf b) ≡ wellSync (b .sync)
 unfolding wellFormed wellTo periodsLast intervalLast wellSync
 well-same b = refl
 
+hsel-same : (b : Base) (new : Bool) → answered (unitOf b) (Hsel new) .state ≡ unitOf (baseStep b (Hsel new))
+unfolding answered hselSet baseStep restarts
+hsel-same b new = refl
+
+clear-h-same : (b : Base) → answered (unitOf b) ClearH .state ≡ unitOf (baseStep b ClearH)
+unfolding answered clearedH baseStep clearLinesOf clearOverflow clearLines clearPeriods
+clear-h-same b = refl
+
 answered-same : (b : Base) (call : Call) → answered (unitOf b) call .state ≡ unitOf (baseStep b call)
 unfolding answered hsyncMoved vsyncMoved clocked hselSet clearedH clearedV onEnhsel baseStep perField periodsLast intervalLast restarts clearLinesOf onPeriodTo linesOnPeriodTo intervalNextTo stepPeriodsTo onPeriod linesOnPeriod intervalNext stepPeriods clearOverflow clearLines clearPeriods
 answered-same b (Hsynci level) = refl
 answered-same b (Vsynci level) = refl
 answered-same b Clock = refl
 answered-same b (Enhsel new) = refl
-answered-same b (Hsel new) = refl
-answered-same b ClearH = refl
+answered-same b (Hsel new) = hsel-same b new
+answered-same b ClearH = clear-h-same b
 answered-same b ClearV = refl
 
 -- one call

@@ -66,16 +66,24 @@ unfolding onHsync
 rising true s = refl
 rising false s = refl
 
+rise-effect : (s : Counters) (level : Bool) → answered s (Hsynci level) .state .sync .lines ≡ pick (risesHsynci (s .hsynci) (Hsynci level)) (stepLines (s .sync .lines)) (s .sync .lines)
+unfolding answered hsyncMoved
+rise-effect s level = rising (level && not (s .hsynci)) (s .sync)
+
+clear-effect : (s : Counters) → zeroesLines s ClearH ≡ false → releasesLines s ClearH ≡ false → answered s ClearH .state .sync .lines ≡ s .sync .lines
+unfolding answered clearedH zeroesLines releasesLines
+clear-effect s h k = clear-lines (s .part) (s .sync .lines) h k
+
 -- HCNT steps at a rise of HSYNCI and at no other call
 pub lines-effect : (s : Counters) (call : Call) → zeroesLines s call ≡ false → releasesLines s call ≡ false
     → answered s call .state .sync .lines ≡ pick (risesHsynci (s .hsynci) call) (stepLines (s .sync .lines)) (s .sync .lines)
 unfolding answered hsyncMoved vsyncMoved clocked hselSet clearedH clearedV onPeriodTo linesOnPeriodTo clearOverflow clearLines zeroesLines releasesLines
-lines-effect s (Hsynci level) h k = rising (level && not (s .hsynci)) (s .sync)
+lines-effect s (Hsynci level) h k = rise-effect s level
 lines-effect s (Vsynci level) h k = rise-lines (level && not (s .vsynci)) (perField (s .part) (s .hsel)) (s .sync) h
 lines-effect s Clock h k = period-lines (perField (s .part) (s .hsel)) (ltb (s .sync .interval) (intervalLast (s .part) (s .hsel))) (s .sync .lines) h
 lines-effect s (Enhsel new) h k = enhsel-lines (s .part) s new h
 lines-effect s (Hsel new) h k = restarted-lines (restarts (s .part) (s .hsel) new) (s .sync) h
-lines-effect s ClearH h k = clear-lines (s .part) (s .sync .lines) h k
+lines-effect s ClearH h k = clear-effect s h k
 lines-effect s ClearV h k = refl
 
 enhsel-hsynci : (part : Part) (s : Counters) (new : Bool) → onEnhsel part s new .state .hsynci ≡ s .hsynci

@@ -50,6 +50,10 @@ unfolding clearLinesOf clearLines hasEnhsel
 clear-lines Nt6861 c h = refl
 clear-lines (Nt6862 enhsel) c h = cc
 
+clear-zeroed : (s : Counters) → zeroesLines s ClearH ≡ true → answered s ClearH .state .sync .lines .count .0 ≡ 0
+unfolding answered clearedH zeroesLines
+clear-zeroed s h = clear-lines (s .part) (s .sync .lines) h
+
 pub lines-zeroed : (s : Counters) (call : Call) → zeroesLines s call ≡ true → answered s call .state .sync .lines .count .0 ≡ 0
 unfolding answered vsyncMoved clocked hselSet clearedH onPeriodTo linesOnPeriodTo zeroesLines
 lines-zeroed s (Hsynci level) h = cc
@@ -57,7 +61,7 @@ lines-zeroed s (Vsynci level) h = rise-lines (level && not (s .vsynci)) (perFiel
 lines-zeroed s Clock h = period-lines (perField (s .part) (s .hsel)) (ltb (s .sync .interval) (intervalLast (s .part) (s .hsel))) (s .sync .lines) h
 lines-zeroed s (Enhsel new) h = enhsel-lines (s .part) s new h
 lines-zeroed s (Hsel new) h = restarted-lines (restarts (s .part) (s .hsel) new) (s .sync) h
-lines-zeroed s ClearH h = clear-lines (s .part) (s .sync .lines) h
+lines-zeroed s ClearH h = clear-zeroed s h
 lines-zeroed s ClearV h = cc
 
 -- ---- VCNT

@@ -94,18 +94,40 @@ other : (n a : ℕ) (elsewhere : Bool) → elsewhere ≡ false → (eqb n a && n
 other n a elsewhere e h same = let z : _≡_ {A = Bool} true false = rw (eq-eqb n a same, e) at h in let k : _≡_ {A = ℕ} 0 1 = cc in omega arith
 
 module _ (c : Chip) (a b : ℕ) where
-  at-fields : (p : Part) → alters a p ≡ false → SameAt p (fields c a b) c
+  place-kept : (n : ℕ) → alters a (Place n) ≡ false → SameAt (Place n) (fields c a b) c
   unfolding alters
-  at-fields (Place n) h =
+  place-kept n h =
       pick-by (λ (l : List ℕ). getD l n 0 ≡ registerAt (c .registers) n) (actsElsewhere a)
       (λ _. refl)
       (λ e. getD-set-other (c .registers) a n _ 0 (other n a (actsElsewhere a) e h))
+
+  line-count-kept : alters a LineCount ≡ false → SameAt LineCount (fields c a b) c
+  unfolding alters
+  line-count-kept h = let k = neither (eqb a MDCON) (eqb a CLRFLG) h in rw (k .0, k .1)
+
+  phase-kept : alters a BusPhase ≡ false → SameAt BusPhase (fields c a b) c
+  unfolding alters
+  phase-kept h =
+      let j = neither (eqb a MDCON) (eqb a IIDAT || eqb a IISTS) h in
+      let k = neither (eqb a IIDAT) (eqb a IISTS) (j .1) in
+      rw (j .0, k .0, k .1) (pick-by (λ (x : Bus). x .phase ≡ c .core .bus .phase) (eqb a IIADR) (λ _. refl) (λ _. refl))
+
+  shifter-kept : alters a ShiftRegister ≡ false → SameAt ShiftRegister (fields c a b) c
+  unfolding alters
+  shifter-kept h =
+      let k = neither (eqb a MDCON) (eqb a IISTS) h in
+      let P : Bus → Type 0 = λ (x : Bus). x .shifter ≡ c .core .bus .shifter in
+      rw (k .0, k .1) (pick-by P (eqb a IIADR) (λ _. refl) (λ _. pick-by P (eqb a IIDAT) (λ _. data-keeps (c .core .scl) (c .core .sda) b (c .core .bus) .shifter) (λ _. refl)))
+
+  at-fields : (p : Part) → alters a p ≡ false → SameAt p (fields c a b) c
+  unfolding alters
+  at-fields (Place n) h = place-kept n h
   at-fields Irqx h = rw h
   at-fields Mdcon h = rw h
   at-fields Polarity h = rw h
   at-fields Bt h = rw h
   at-fields Watchdog h = rw h
-  at-fields LineCount h = let k = neither (eqb a MDCON) (eqb a CLRFLG) h in rw (k .0, k .1)
+  at-fields LineCount h = line-count-kept h
   at-fields LineLatch h =
       pick-by (λ (s : Sync). s .lines .latch ≡ c .core .sync .lines .latch) (eqb a MDCON) (λ _. hsel-keeps _ _ (c .core .sync) .latch)
       (λ _. pick-by (λ (s : Sync). s .lines .latch ≡ c .core .sync .lines .latch) (eqb a CLRFLG) (λ _. clear-keeps _ _ (c .core .sync) .lines) (λ _. refl))
@@ -131,14 +153,8 @@ module _ (c : Chip) (a b : ℕ) where
       rw h (pick-by P (eqb a MDCON) (λ _. mode-keeps _ _ (c .core .bus) .iidat)
       (λ _. pick-by P (eqb a IIADR) (λ _. refl)
       (λ _. pick-by P (eqb a IISTS) (λ _. mode-keeps _ _ _ .iidat) (λ _. refl))))
-  at-fields BusPhase h =
-      let j = neither (eqb a MDCON) (eqb a IIDAT || eqb a IISTS) h in
-      let k = neither (eqb a IIDAT) (eqb a IISTS) (j .1) in
-      rw (j .0, k .0, k .1) (pick-by (λ (x : Bus). x .phase ≡ c .core .bus .phase) (eqb a IIADR) (λ _. refl) (λ _. refl))
-  at-fields ShiftRegister h =
-      let k = neither (eqb a MDCON) (eqb a IISTS) h in
-      let P : Bus → Type 0 = λ (x : Bus). x .shifter ≡ c .core .bus .shifter in
-      rw (k .0, k .1) (pick-by P (eqb a IIADR) (λ _. refl) (λ _. pick-by P (eqb a IIDAT) (λ _. data-keeps (c .core .scl) (c .core .sda) b (c .core .bus) .shifter) (λ _. refl)))
+  at-fields BusPhase h = phase-kept h
+  at-fields ShiftRegister h = shifter-kept h
   at-fields PinLevels h = refl
   at-fields SdaLevel h = refl
   at-fields SclLevel h = refl

@@ -1,5 +1,5 @@
 -- The rate report (document 01, "Counting sync"): which case is told, and what each case says.
-use Prim.Native.Nat.{_*_}
+use Prim.Native.Nat.{ℕ, _*_}
 use mathlib.Core.Path.{_≡_}
 use mathlib.Core.Bool.{Bool, true, false, _||_}
 use lib.Dec.{eqb}
@@ -34,6 +34,14 @@ fieldReport s = pick (wellSync s) (byPeriods (s .periods)) IllFormed
 
 unfoldable pub lineReport : Sync → Bool → Rate
 lineReport s hsel = pick (wellSync s) (pick hsel (byField (s .lines) (s .periods)) (byInterval (s .lines))) IllFormed
+
+-- the number of a report (document 01, "Numbers"): an ill formed state is 8, and nothing else is refused
+unfoldable pub rateNumber : Rate → ℕ
+rateNumber IllFormed = 8
+rateNumber NothingLatched = 0
+rateNumber Overflow = 0
+rateNumber (FieldRate x) = 0
+rateNumber (LineRate x) = 0
 
 -- ---- what the cases say: each what it is told for, and that nothing told before it holds
 

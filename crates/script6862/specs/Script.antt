@@ -8,6 +8,7 @@ use lib.ListN.{set}
 use Rattle.bits.specs.Byte.{pick}
 use Rattle.rates.specs.declared.Rate.{Rate}
 use Rattle.rates.specs.declared.Rate.the-variants.{IllFormed, NothingLatched, Overflow, FieldRate, LineRate}
+use Rattle.rates.specs.Report.{rateNumber}
 use Rattle.numbers6862.specs.Numbers as numbers
 use Rattle.orders6862.specs.declared.Reader.{Reader}
 use Rattle.orders6862.specs.declared.Found.{Found}
@@ -44,14 +45,6 @@ nextLine p n = record { numbers = n; reader = line.lineStart; line = oneMore (p 
 -- a malformed line ends the script, at its own number
 abbrev pub stopped : Progress → Step
 stopped p = record { progress = record { numbers = p .numbers; reader = p .reader; line = p .line; ended = true }; event = Malformed }
-
--- the number of a report
-unfoldable pub rateNumber : Rate → ℕ
-rateNumber IllFormed = 8
-rateNumber NothingLatched = 0
-rateNumber Overflow = 0
-rateNumber (FieldRate x) = 0
-rateNumber (LineRate x) = 0
 
 -- a call, the report, and a number put in its place: an order's place is below twelve and its number has 16 bits, so that the remainders
 -- change neither

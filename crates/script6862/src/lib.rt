@@ -1,6 +1,7 @@
 // A script for the counters of either chip, run on twelve numbers.
 ghost use mathlib.Core.Path.{_≡_};
-ghost use Rattle.script6862.specs.Script.{oneMore, opened as openedOf, withReader, nextLine, stopped as stoppedOf, rateNumber, putAt, calledWith, reported as reportedOf, obeyed as obeyedOf, within as withinOf, found as foundOf, next as nextOf, positiveBits, rateBits};
+ghost use Rattle.rates.specs.Report.{rateNumber};
+ghost use Rattle.script6862.specs.Script.{oneMore, opened as openedOf, withReader, nextLine, stopped as stoppedOf, putAt, calledWith, reported as reportedOf, obeyed as obeyedOf, within as withinOf, found as foundOf, next as nextOf, positiveBits, rateBits};
 use orders6862::Found;
 use orders6862::Order;
 use orders6862::Reader;

@@ -8,18 +8,19 @@ pub struct Lines(pub u16);
 // Periods of 8 µs counted.
 pub struct Periods(pub u16);
 
-// HCNT, its latch, and HCNTOV.
+// HCNT, its latch, and HCNTOV, which stands between the two so that the compiler does not join them in one number of 32 bits, to be
+// taken apart again at each event.
 pub struct LineCounter {
     pub count: Lines,
-    pub latch: Lines,
     pub overflow: bool,
+    pub latch: Lines,
 }
 
-// VCNT, its latch, and VCNTOV.
+// VCNT, its latch, and VCNTOV, in the same order.
 pub struct PeriodCounter {
     pub count: Periods,
-    pub latch: Periods,
     pub overflow: bool,
+    pub latch: Periods,
 }
 
 pub struct Sync {

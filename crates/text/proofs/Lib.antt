@@ -1,4 +1,3 @@
-pub mod Place
 pub mod Move
 pub mod Words
 pub mod Lines

@@ -16,7 +16,7 @@ use Rattle.run.specs.Run.{advanced, advancedAnswers}
 use Rattle.hex.specs.Hex.{hexLine}
 use Rattle.hex.proofs.Line.{length-line}
 use Rattle.text.specs.Text.{hexLines}
-use Rattle.text.proofs.Place.{put, put-take, put-drop, put-length, drop-later}
+use Rattle.places.proofs.Place.{put, put-take, put-drop, put-length, drop-later}
 
 -- a line put at an index keeps the length
 pub length-put : (old : List ℕ) (at a : ℕ) → at + 9 ≤ length old → length (take at old ++ (hexLine a ++ drop (at + 9) old)) ≡ length old

@@ -9,9 +9,11 @@ use lib.ListN.{length, drop, replicate}
 use lib.Dec.{eqb}
 use lib.Seq.{drop-nil}
 use Rattle.bits.specs.Byte.{pick}
-use Rattle.vcd_room.specs.Room.{put, clockWord, pinWord, unpacked, pinWords}
+use Rattle.vcd_room.specs.declared.Put.{Put}
+use Rattle.vcd_room.specs.Room.{put, wrote, clockWord, pinWord, unpacked, pinWords}
 use Rattle.vcd_steps.specs.declared.State.{State}
 use Rattle.vcd_steps.specs.Events.{Event, clockEvents, pinEvents, words}
+use Rattle.vcd_body.specs.declared.Turn.{Turn}
 use Rattle.vcd_body.specs.declared.Turn.the-variants.{On}
 use Rattle.vcd_body.specs.Pieces.{turned, turnBy}
 
@@ -44,3 +46,9 @@ pub silent-turn : (s : State) (done count : ℕ) (room : List ℕ)
     → turned room (On s count) ≡ turned (put (drop done (words [])) room count done .room) (turnBy s (put (drop done (words [])) room count done .told))
 unfolding words put turnBy
 silent-turn s done count room = rw (drop-nil {A = ℕ} done) refl
+
+-- the clocks of a time, written from those that are done on
+pub clocks-turn : (s : State) (p k n done count : ℕ) (room after : List ℕ) (told : Put) (turn : Turn)
+    → wrote after told ≡ put (replicate (n - done) clockWord) room count done → turn ≡ turnBy s told
+    → turned after turn ≡ turned (put (drop done (words (clockEvents p k n))) room count done .room) (turnBy s (put (drop done (words (clockEvents p k n))) room count done .told))
+clocks-turn s p k n done count room after told turn e t = rw (clocks-left, ← e) (simp t)

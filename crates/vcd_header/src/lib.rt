@@ -4,29 +4,21 @@ ghost use Prim.Native.Nat.{_<_, _≤_};
 ghost use lib.Dec.{eqb};
 ghost use mathlib.Core.Bool.{false};
 ghost use Rattle.bits.specs.Byte.{pick};
-ghost use Rattle.vcd_header.specs.Words.{keywordOf, countOf, lettersOf, timesUnit, joinedOf, isScope, sortOf, pinOf, indexClass, indexBy, indexNext, indexState};
+ghost use Rattle.vcd_words.specs.Words.{pinOf};
 ghost use Rattle.vcd_header.specs.Header.{inSection, withUnit, withVariable, stopsAt, faulty as faultyOf, closedBy, keywordStep, textStep, countStep, lettersStep, unitStep, scopeStep, isName, scopeNameStep, pending as pendingOf, typeAs, sizeAs, codeStep, nameStep, wholeStep, indexStep, endingStep, stepAs, endAs, freshHead};
 use vcd_text::Number;
 use vcd_text::is_end;
-use vcd_text::same;
-
-// A keyword of the header.
-pub enum Keyword {
-    Text,
-    Timescale,
-    Scope,
-    Upscope,
-    Var,
-    Enddefinitions,
-    Unknown,
-}
-
-// A type of variables.
-pub enum Sort {
-    Digital,
-    Real,
-    Neither,
-}
+use vcd_words::Keyword;
+use vcd_words::Sort;
+use vcd_words::count_of;
+use vcd_words::index_state;
+use vcd_words::is_scope;
+use vcd_words::joined_of;
+use vcd_words::keyword_of;
+use vcd_words::letters_of;
+use vcd_words::pin_of;
+use vcd_words::scaled;
+use vcd_words::sort_of;
 
 // What the reader of the header waits for.
 pub enum Section {
@@ -87,262 +79,7 @@ pub struct Head {
     pub section: Section,
 }
 
-// ---- words
-
-fn keyword_of(t: &[u8]) -> Keyword
-    ensures { λ r. ⌜ r ≡ keywordOf (now (t .entry)) ⌝ }
-{
-    if same(t, b"$comment") {
-        return Keyword::Text;
-    }
-    if same(t, b"$date") {
-        return Keyword::Text;
-    }
-    if same(t, b"$version") {
-        return Keyword::Text;
-    }
-    if same(t, b"$timescale") {
-        return Keyword::Timescale;
-    }
-    if same(t, b"$scope") {
-        return Keyword::Scope;
-    }
-    if same(t, b"$upscope") {
-        return Keyword::Upscope;
-    }
-    if same(t, b"$var") {
-        return Keyword::Var;
-    }
-    if same(t, b"$enddefinitions") {
-        return Keyword::Enddefinitions;
-    }
-    Keyword::Unknown
-}
-
-fn count_of(t: &[u8]) -> u64
-    ensures { λ r. ⌜ r ≡ countOf (now (t .entry)) ⌝ }
-{
-    if same(t, b"1") {
-        return 1;
-    }
-    if same(t, b"10") {
-        return 10;
-    }
-    if same(t, b"100") {
-        return 100;
-    }
-    0
-}
-
-fn letters_of(t: &[u8]) -> u64
-    ensures { λ r. ⌜ (r ≡ lettersOf (now (t .entry))) × (r ≤ 1000000) ⌝ }
-{
-    if same(t, b"ps") {
-        return 1;
-    }
-    if same(t, b"ns") {
-        return 1000;
-    }
-    if same(t, b"us") {
-        return 1000000;
-    }
-    0
-}
-
-fn times_unit(count: u64, letters: u64) -> u64
-    requires { ⌜ letters ≤ 1000000 ⌝ }
-    ensures { λ r. ⌜ r ≡ timesUnit count letters ⌝ }
-{
-    if count == 1 {
-        return letters;
-    }
-    if count == 10 {
-        return letters * 10;
-    }
-    if count == 100 {
-        return letters * 100;
-    }
-    0
-}
-
-fn joined_of(t: &[u8]) -> u64
-    ensures { λ r. ⌜ r ≡ joinedOf (now (t .entry)) ⌝ }
-{
-    if t.len() < 3 {
-        return 0;
-    }
-    let begin = 0;
-    let cut = t.len() - 2;
-    times_unit(count_of(&t[begin..cut]), letters_of(&t[cut..]))
-}
-
-fn is_scope(t: &[u8]) -> bool
-    ensures { λ r. ⌜ r ≡ isScope (now (t .entry)) ⌝ }
-{
-    if same(t, b"begin") {
-        return true;
-    }
-    if same(t, b"fork") {
-        return true;
-    }
-    if same(t, b"function") {
-        return true;
-    }
-    if same(t, b"module") {
-        return true;
-    }
-    if same(t, b"task") {
-        return true;
-    }
-    false
-}
-
-fn sort_of(t: &[u8]) -> Sort
-    ensures { λ r. ⌜ r ≡ sortOf (now (t .entry)) ⌝ }
-{
-    if same(t, b"wire") {
-        return Sort::Digital;
-    }
-    if same(t, b"reg") {
-        return Sort::Digital;
-    }
-    if same(t, b"event") {
-        return Sort::Digital;
-    }
-    if same(t, b"integer") {
-        return Sort::Digital;
-    }
-    if same(t, b"parameter") {
-        return Sort::Digital;
-    }
-    if same(t, b"supply0") {
-        return Sort::Digital;
-    }
-    if same(t, b"supply1") {
-        return Sort::Digital;
-    }
-    if same(t, b"time") {
-        return Sort::Digital;
-    }
-    if same(t, b"tri") {
-        return Sort::Digital;
-    }
-    if same(t, b"triand") {
-        return Sort::Digital;
-    }
-    if same(t, b"trior") {
-        return Sort::Digital;
-    }
-    if same(t, b"trireg") {
-        return Sort::Digital;
-    }
-    if same(t, b"tri0") {
-        return Sort::Digital;
-    }
-    if same(t, b"tri1") {
-        return Sort::Digital;
-    }
-    if same(t, b"wand") {
-        return Sort::Digital;
-    }
-    if same(t, b"wor") {
-        return Sort::Digital;
-    }
-    if same(t, b"real") {
-        return Sort::Real;
-    }
-    if same(t, b"realtime") {
-        return Sort::Real;
-    }
-    Sort::Neither
-}
-
-fn pin_of(t: &[u8]) -> u8
-    ensures { λ r. ⌜ r ≡ pinOf (now (t .entry)) ⌝ }
-{
-    if same(t, b"SDA") {
-        return 24;
-    }
-    if same(t, b"SCL") {
-        return 25;
-    }
-    if same(t, b"HSYNCI") {
-        return 26;
-    }
-    if same(t, b"VSYNCI") {
-        return 27;
-    }
-    0
-}
-
-fn index_class(b: u8) -> u64
-    ensures { λ r. ⌜ (r ≡ indexClass b) × (r < 8) ⌝ }
-{
-    if b < 48 {
-        if b == 45 {
-            return 1;
-        }
-        return 5;
-    }
-    if b < 58 {
-        return 0;
-    }
-    if b == 58 {
-        return 2;
-    }
-    if b == 91 {
-        return 3;
-    }
-    if b == 93 {
-        return 4;
-    }
-    5
-}
-
-fn wide(q: u32) -> u64
-    ensures { λ r. ⌜ (r ≡ q) × (r < 4294967296) ⌝ }
-{
-    q as u64
-}
-
-fn index_next(q: u32, c: u64) -> u32
-    requires { ⌜ c < 8 ⌝ }
-    ensures { λ r. ⌜ r ≡ indexNext q c ⌝ }
-{
-    index_by(wide(q) * 8 + c)
-}
-
-fn index_by(n: u64) -> u32
-    ensures { λ r. ⌜ r ≡ indexBy n ⌝ }
-{
-    match n {
-        3 => 1,
-        8 => 3,
-        9 => 2,
-        16 => 3,
-        24 => 3,
-        26 => 4,
-        28 => 7,
-        32 => 6,
-        33 => 5,
-        40 => 6,
-        48 => 6,
-        52 => 7,
-        _ => 9,
-    }
-}
-
-fn index_state(from: u32, t: &[u8]) -> u32
-    ensures { λ r. ⌜ r ≡ indexState from (now (t .entry)) ⌝ }
-{
-    let mut q = from;
-    let mut i = 0;
-    while i < t.len() {
-        q = index_next(q, index_class(t[i]));
-        i += 1;
-    }
-    q
-}
+// ---- names
 
 fn is_name(t: &[u8]) -> bool
     ensures { λ r. ⌜ r ≡ isName (now (t .entry)) ⌝ }
@@ -508,7 +245,7 @@ fn letters_step(t: &[u8], h: Head) -> Head
             h,
             Section::UnitEnd,
             unit.first,
-            times_unit(unit.scale, letters),
+            scaled(unit.scale, t),
             unit.unit,
         );
     }

@@ -7,7 +7,7 @@ use native.Mathlib.Omega.{arith}
 use lib.ListN.{length, take, drop}
 use borrow.Rule.Slice.PartMut.{putMid}
 use borrow.Author.Needs.{needs}
-use Rattle.blocks.proofs.Place.{placed}
+use Rattle.places.proofs.Place.{placed}
 use Rattle.blocks.proofs.put_four.Statement.{statement}
 use Rattle.blocks.proofs.put_four.Tie as tie
 

@@ -1,7 +1,7 @@
 -- `script6862::rate_number` meets its contract.
 -- Assumes nothing.
 use borrow.Author.Needs.{needs}
-use Rattle.script6862.specs.Script.{rateNumber}
+use Rattle.rates.specs.Report.{rateNumber}
 use Rattle.script6862.proofs.rate_number.Statement.{statement}
 use Rattle.script6862.proofs.rate_number.Tie as tie
 

@@ -8,7 +8,7 @@ use lib.ListN.{length, take, drop}
 use borrow.Rule.Slice.PartMut.{putMid}
 use Rattle.hex.specs.Hex.{hexLine}
 use Rattle.hex.proofs.Line.{length-line}
-use Rattle.text.proofs.Place.{placed}
+use Rattle.places.proofs.Place.{placed}
 use borrow.Author.Needs.{needs}
 use Rattle.text.proofs.put_line.Statement.{statement}
 use Rattle.text.proofs.put_line.Tie as tie

@@ -2,7 +2,7 @@
 -- Assumes nothing.
 use Rattle.vcd_steps.specs.Steps.{meaning}
 use Rattle.vcd_body.specs.Pieces.{placed}
-use Rattle.vcd_body.proofs.Placing.{clocks-left, pin-words, silent-turn}
+use Rattle.vcd_body.proofs.Placing.{clocks-turn, pin-words, silent-turn}
 use mathlib.Core.Path.{refl}
 use borrow.Author.Needs.{needs}
 use Rattle.vcd_body.proofs.perform.Statement.{statement}
@@ -25,6 +25,6 @@ perform-spec =
     (λ c. rw (c .before .step .given .1) refl)
     (λ c. rw (c .before .step2 .given .1) (silent-turn _ (c .before .before .before .before .args .done) _ _))
     (λ c. search needs)
-    (λ c. rw (c .before .before .before .before .before .before .before .step3 .given .1, clocks-left, ← (c .before .before .before .before .later .ensures), ← (c .before .before .before .clocks .ensures)) (simp (c .written .ensures)))
+    (λ c. rw (c .before .before .before .before .before .before .before .step3 .given .1, ← (c .before .before .before .before .later .ensures)) (let args = c .before .before .before .before .before .before .before .before .before .before .args in clocks-turn _ (args .p) (c .before .before .before .before .before .before .before .step3 .given .0 .1 .0) (c .before .before .before .before .later .result) (args .done) (args .count) (args .out .now) _ _ _ (c .before .before .before .clocks .ensures) (c .written .ensures)))
     (λ c. search needs)
     (λ c. rw (c .before .before .before .before .before .before .step4 .given .1, pin-words, ← (c .before .before .before .pins .ensures)) (simp (c .written2 .ensures))))

@@ -14,6 +14,6 @@ letters-step-spec =
     (λ c κs. search needs)
     (λ c κs. search needs)
     (λ c κs. search needs)
-    (λ c. simp (c .with-unit .ensures, c .before .times-unit .ensures, lt-ltb _ _ (c .before .before .if1 .taken), ← (c .before .before .before .letters-of .ensures .0)))
+    (λ c. simp (c .with-unit .ensures, c .before .scaled .ensures, lt-ltb _ _ (c .before .before .if1 .taken), ← (c .before .before .before .letters-of .ensures .0)))
     (λ c κs. search needs)
     (λ c. simp (c .stop-at .ensures, le-ltb _ _ (c .before .if1 .left), ← (c .before .before .letters-of .ensures .0))))

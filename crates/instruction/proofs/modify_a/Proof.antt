@@ -1,0 +1,12 @@
+use borrow.Author.Needs.{needs}
+use Rattle.instruction.proofs.modify_a.Statement.{statement}
+use Rattle.instruction.proofs.modify_a.Tie as tie
+
+pub modify-a-spec : {M : Type 1} → statement M
+modify-a-spec =
+    tie.close
+    (tie.spec
+    (λ c κs. search needs)
+    (λ c κs. search needs)
+    (λ c κs. search needs)
+    (λ c. simp (c .effect-of .ensures, c .before .set-a .ensures, c .before .before .before .modify-operation .ensures)))

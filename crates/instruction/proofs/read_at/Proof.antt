@@ -1,0 +1,18 @@
+use Rattle.instruction.proofs.Performs.{perform-reads, perform-leaves}
+use borrow.Author.Needs.{needs}
+use Rattle.instruction.proofs.read_at.Statement.{statement}
+use Rattle.instruction.proofs.read_at.Tie as tie
+
+pub read-at-spec : {M : Type 1} → statement M
+read-at-spec =
+    tie.close
+    (tie.spec
+    (λ c κs. search needs)
+    (λ c κs. search needs)
+    (λ c. search needs)
+    (λ c κs. search needs)
+    (λ c. search needs)
+    (λ c κs. search needs)
+    (λ c. search needs)
+    (λ c. simp (perform-reads, perform-leaves, c .effect-of .ensures, c .before .read-operation .ensures, c .before .before .before .p .given .1, ← (c .before .before .before .before .before .load .ensures), c .before .before .before .before .before .before .num .ensures .0))
+    (λ c. simp (perform-reads, perform-leaves, c .before .p2 .given .1, ← (c .before .before .before .load .ensures))))

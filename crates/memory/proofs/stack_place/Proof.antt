@@ -1,0 +1,15 @@
+use mathlib.Core.Path.{refl}
+use borrow.Author.Tests.{le-ltb, lt-ltb}
+use Rattle.memory.specs.Memory.{stackPlace}
+use borrow.Author.Needs.{needs}
+use Rattle.memory.proofs.stack_place.Statement.{statement}
+use Rattle.memory.proofs.stack_place.Tie as tie
+
+pub stack-place-spec : {M : Type 1} → statement M
+unfolding stackPlace
+stack-place-spec =
+    tie.close
+    (tie.spec
+    (λ c. search needs)
+    (λ c. simp (lt-ltb _ _ (c .if1 .taken)) (refl, search needs))
+    (λ c. simp (le-ltb _ _ (c .if1 .left)) (refl, search needs)))

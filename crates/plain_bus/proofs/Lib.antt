@@ -1,0 +1,4 @@
+pub mod Levels
+pub mod Transfers
+pub mod Places
+pub mod Numbers
