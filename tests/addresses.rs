@@ -11,7 +11,7 @@ use addresses_link::addresses;
 
 #[link(name = "capi", kind = "static")]
 extern "C" {
-    fn nt6861_run(words: *const u32, count: usize, answers: *mut u32, places: usize) -> u8;
+    fn nt6861_replay(words: *const u32, count: usize, answers: *mut u32, places: usize) -> u8;
 }
 
 const SDA: u8 = 24;
@@ -76,7 +76,7 @@ impl Proved {
             self.words.extend([event(change), 0x0100_1400, 0x0100_1000, 0x0200_1400 | data, 0x0200_113F]);
         }
         self.answers.resize(self.words.len().max(self.answers.len()), 0);
-        let number = unsafe { nt6861_run(self.words.as_ptr(), self.words.len(), self.answers.as_mut_ptr(), self.answers.len()) };
+        let number = unsafe { nt6861_replay(self.words.as_ptr(), self.words.len(), self.answers.as_mut_ptr(), self.answers.len()) };
         assert_eq!(number, 0);
         (0..changes.len()).map(|i| (self.answers[5 + 5 * i] as u8, self.answers[6 + 5 * i] & 8 != 0)).collect()
     }
