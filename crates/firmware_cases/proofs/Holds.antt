@@ -1,8 +1,8 @@
 -- The theorem at work: a firmware that polls the flags while a host talks to another device.
-use Prim.Native.Nat.{ℕ, _+_}
+use Prim.Native.Nat.{ℕ, _+_, _%_}
 use mathlib.Core.Path.{_≡_, refl, ap, _∙_}
 use mathlib.Core.Bool.{true}
-use mathlib.Core.List.{[], _∷_, _++_}
+use mathlib.Core.List.{List, [], _∷_, _++_}
 use lib.ListN.{length, replicate, length-append, length-replicate}
 use Rattle.bus.specs.declared.Phase.{Phase}
 use Rattle.bus.specs.declared.Phase.the-variants.{Ignoring}
@@ -13,7 +13,7 @@ use Rattle.machine.specs.Run.{runs, firmware}
 use Rattle.firmware_isolation.specs.Trace.{trace, accessesOf}
 use Rattle.firmware_isolation.specs.Transfers.{RunsAgree, CallsAgree}
 use Rattle.firmware_isolation.proofs.Runs.{firmware-runs, firmware-calls}
-use Rattle.firmware_cases.specs.Firmware.{cpu, ram, startedChip, startedMachine, idleMachine, event, transfer, whole, times, polling, pollingRom}
+use Rattle.firmware_cases.specs.Firmware.{cpu, ram, startedChip, startedMachine, idleMachine, lowMachine, clockBit, event, transfer, whole, times, polling, pollingRom}
 use Rattle.firmware_cases.specs.Tests.{tests}
 use Rattle.firmware_cases.proofs.Opened.{opened}
 
@@ -49,6 +49,15 @@ pub several-agree : RunsAgree (runs 4 0 polling (whole 0 0xa2 ++ whole 2 0x10) i
     (trace 4 0 polling (whole 0 0xa2 ++ whole 2 0x10) idleMachine) (trace 4 0 polling (whole 0 0x54 ++ whole 2 0xee) idleMachine)
 unfolding opened
 several-agree = firmware-runs 4 polling idleMachine refl refl bus-idle (whole 0 0xa2 ++ whole 2 0x10) (whole 0 0x54 ++ whole 2 0xee) (record { events = refl; left = refl; right = refl; sda = refl; unread = refl })
+
+-- ---- RESET low at first: the first instruction does nothing, a clock then is not gathered, and the transfer begins once RESET is high
+
+abbrev afterLow : ℕ → List ℕ
+afterLow n = clockBit 0 (n % 2) ++ (event 1 0x03001C01 ∷ transfer 1 n)
+
+pub low-agrees : RunsAgree (runs 5 0 polling (afterLow 0xa2) lowMachine) (runs 5 0 polling (afterLow 0x55) lowMachine) (trace 5 0 polling (afterLow 0xa2) lowMachine) (trace 5 0 polling (afterLow 0x55) lowMachine)
+unfolding opened
+low-agrees = firmware-runs 5 polling lowMachine refl refl start-seen (afterLow 0xa2) (afterLow 0x55) (record { events = refl; left = refl; right = refl; sda = refl; unread = refl })
 
 -- ---- the CPU clears the watchdog: 40 clocks before it does and 40 after are no reset
 

@@ -5,7 +5,7 @@ use mathlib.Core.List.{List, [], _∷_, _++_}
 use lib.ListN.{replicate}
 use Rattle.events.specs.Word.{decode}
 use Rattle.chip.specs.declared.Chip.{Chip}
-use Rattle.chip.specs.State.{fresh}
+use Rattle.chip.specs.State.{fresh, chipOf, withReset}
 use Rattle.outcome.specs.Outcome.{next}
 use Rattle.operations.specs.declared.Cpu.{Cpu}
 use Rattle.operations.specs.Operations.{flags}
@@ -45,6 +45,11 @@ startedMachine = machine cpu ram startedChip
 unfoldable pub idleMachine : Machine
 unfolding idleChip
 idleMachine = machine cpu ram idleChip
+
+-- RESET low in the middle of a transfer, which no run from a fresh chip reaches
+unfoldable pub lowMachine : Machine
+unfolding startedChip
+lowMachine = machine cpu ram (chipOf (startedChip .registers) (withReset (startedChip .core) false))
 
 -- flag S, raised by a fall of SCL, is enabled, so that a request stands
 unfoldable pub requestingMachine : Machine

@@ -1,4 +1,0 @@
-pub mod Registers
-pub mod Proceeds
-pub mod Going
-pub mod Parts
