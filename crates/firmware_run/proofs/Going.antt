@@ -1,0 +1,240 @@
+-- The loop of a firmware run: what is left to do comes to the whole run.
+use Prim.Native.Nat.{ℕ, zero, suc, _+_, _-_, _*_, _<_, _≤_}
+use mathlib.Core.Path.{_≡_, refl, ap, ap₂, sym, subst, _∙_}
+use mathlib.Core.Bool.{Bool, true, false, true≢false}
+use mathlib.Core.List.{List, [], _∷_, _++_, append-assoc, append-nil}
+use native.Mathlib.Omega.{arith}
+use native.Mathlib.Numerals.{add-one}
+use lib.Dec.{eqb, ltb}
+use lib.ListN.{length, take, drop, getD, set, length-set, length-take, take-append-drop}
+use lib.Seq.{drop-cons, take-suc-set, drop-set-lt, drop-drop, drop-nil}
+use borrow.Author.Tests.{lt-ltb, le-ltb, ltb-true, ltb-false}
+use Rattle.bits.specs.Byte.{pick}
+use Rattle.events.specs.Word.{decode}
+use Rattle.chip.specs.declared.Core.{Core}
+use Rattle.chip.specs.declared.Chip.{Chip}
+use Rattle.chip.specs.State.{chipOf}
+use Rattle.outcome.specs.Outcome.{next}
+use Rattle.step.specs.Step.{answered}
+use Rattle.opcodes.specs.Table.{opcodes}
+use Rattle.operations.specs.declared.Cpu.{Cpu}
+use Rattle.machine.specs.Machine.{Machine, machine, turn}
+use Rattle.machine.specs.Run.{numberOf, wordOf, occurred, fed, answersBefore, left, Ended, ended, prepended, onTurned, runs, Called, called}
+use Rattle.machine.specs.Seen.{Knows}
+use Rattle.machine.proofs.Pauses.{Later, none, next-at, clear, clear-le, work}
+use Rattle.firmware_run.specs.declared.FirmwareResult.{FirmwareResult}
+use Rattle.firmware_run.specs.declared.Occurred.{Occurred}
+use Rattle.firmware_run.specs.declared.Settled.{Settled}
+use Rattle.firmware_run.specs.Firmware.{resultOf, occurredWith, until, noneSeen, Kept, kept, proceeded}
+use Rattle.firmware_run.proofs.Registers.{knows-none, unseenOf, unseen-le}
+use Rattle.firmware_run.proofs.Proceeds.{stateOf, onward, Proceeds, proceeds}
+
+-- ---- the next event
+
+until-le-by : (b : Bool) (e n : ℕ) → ltb e n ≡ b → pick b e n ≤ n
+until-le-by true e n h = omega (arith, ltb-true e n h)
+until-le-by false e n h = omega arith
+
+pub until-le : (n : ℕ) (es : List ℕ) → until n es ≤ n
+unfolding until
+until-le n [] = omega arith
+until-le n (e ∷ es) = until-le-by (ltb (numberOf e) n) (numberOf e) n refl
+
+until-later-by : (b : Bool) (e n : ℕ) → ltb e n ≡ b → pick b e n ≤ e
+until-later-by true e n h = omega arith
+until-later-by false e n h = ltb-false e n h
+
+pub until-later : (n : ℕ) (es : List ℕ) → Later (until n es) es
+unfolding until
+until-later n [] = none
+until-later n (e ∷ es) = next-at e es (until-later-by (ltb (numberOf e) n) (numberOf e) n refl)
+
+until-due-by : (b : Bool) (e n i : ℕ) → i < n → pick b e n ≤ i → e ≤ i
+until-due-by true e n i h g = g
+until-due-by false e n i h g = absurd (omega (arith, h, g))
+
+until-due : (n i e : ℕ) (es : List ℕ) → i < n → until n (e ∷ es) ≤ i → numberOf e ≤ i
+unfolding until
+until-due n i e es h g = until-due-by (ltb (numberOf e) n) (numberOf e) n i h g
+
+until-none : (n i : ℕ) → until n [] ≤ i → n ≤ i
+unfolding until
+until-none n i g = g
+
+drop-past : (l : List ℕ) (j : ℕ) → length l ≤ j → drop j l ≡ []
+drop-past [] j h = drop-nil j
+drop-past (x ∷ xs) zero h = absurd (omega arith)
+drop-past (x ∷ xs) (suc j) h = drop-past xs j (omega arith)
+
+until-some-by : (b : Bool) (n i : ℕ) (es : List ℕ) (j : ℕ) → ltb j (length es) ≡ b → i < n → until n (drop j es) ≤ i → j < length es
+until-some-by true n i es j e h g = ltb-true j (length es) e
+until-some-by false n i es j e h g =
+    let z : drop j es ≡ [] = drop-past es j (ltb-false j (length es) e) in
+    absurd (omega (arith, h, until-none n i (rw z at g)))
+
+-- where one is due, there is one
+pub until-some : (n i : ℕ) (es : List ℕ) (j : ℕ) → i < n → until n (drop j es) ≤ i → j < length es
+until-some n i es j h g = until-some-by (ltb j (length es)) n i es j refl h g
+
+pub until-cons : (n : ℕ) (es : List ℕ) (j : ℕ) → j < length es → until n (drop j es) ≡ pick (ltb (numberOf (getD es j 0)) n) (numberOf (getD es j 0)) n
+unfolding until
+until-cons n es j h = ap (until n) (drop-cons es j 0 h)
+
+pub until-past : (n : ℕ) (es : List ℕ) (j : ℕ) → length es ≤ j → until n (drop j es) ≡ n
+unfolding until
+until-past n es j h = ap (until n) (drop-past es j h)
+
+-- ---- one event
+
+prepended-twice : (l k : List ℕ) (e : Ended) → prepended l (prepended k e) ≡ prepended (l ++ k) e
+prepended-twice l k e = ap (λ (a : List ℕ). ended (e .machine) (e .number) (e .next) a) (sym (append-assoc l k (e .answers)))
+
+runs-event : (n i : ℕ) (rom : List ℕ) (e : ℕ) (es : List ℕ) (m : Machine) → i < n → numberOf e ≤ i
+    → runs (n - i) i rom (e ∷ es) m ≡ prepended (answered (m .chip) (decode (wordOf e)) ∷ []) (runs (n - i) i rom es (occurred rom m (wordOf e)))
+unfolding runs fed answersBefore left
+runs-event n i rom e es m h g =
+    let j : n - i ≡ suc (n - (i + 1)) = omega arith in
+    let z : ltb i (numberOf e) ≡ false = le-ltb i (numberOf e) g in
+    rw (j, z)
+
+-- ---- the loop
+
+-- before instruction i, with `given` events given
+pub record Going (n : ℕ) (rom es places : List ℕ) (whole : Ended) (answers ram seen registers : List ℕ) (core : Core) (c : Cpu) (i given : ℕ) : Type 0 where
+  pub within : i ≤ n
+  pub small : n < 4294967296
+  pub listed : given ≤ length es
+  pub same : length answers ≡ length places
+  pub total : whole ≡ prepended (take given answers) (runs (n - i) i rom (drop given es) (machine c ram (chipOf registers core)))
+  pub rest : drop given answers ≡ drop given places
+  pub knows : Knows seen (chipOf registers core)
+  pub size : length seen ≡ 38
+
+-- what is left to do
+abbrev pub measure : ℕ → List ℕ → ℕ → ℕ → Cpu → List ℕ → ℕ
+measure n es i given c seen = (length es - given) * 80 + (work n i c + unseenOf seen)
+
+module _ (n : ℕ) (rom es places : List ℕ) (whole : Ended) (answers ram seen registers : List ℕ) (core : Core) (c : Cpu) (i given : ℕ)
+    (room : length es ≤ length places) (h : Going n rom es places whole answers ram seen registers core c i given) (more : i < n) where
+  -- an event was given
+  module _ (to : ℕ) (at : to ≡ until n (drop given es)) (reached : to ≤ i) where
+    due : until n (drop given es) ≤ i
+    due = rw (← at) reached
+
+    pub some : given < length es
+    some = until-some n i es given more due
+
+    pub fed-less : (d : Cpu) (s : List ℕ) → s ≡ noneSeen → measure n es i (given + 1) d s < measure n es i given c seen
+    fed-less d s u =
+        let l : length s ≤ 38 = rw u (omega arith) in
+        omega (arith, some, clear-le d, unseen-le s, l)
+
+    goes-set : (w : ℕ) → w ≡ wordOf (getD es given 0) → (o : Occurred) (r s : List ℕ) → o ≡ occurredWith rom c (chipOf registers core) w
+        → r ≡ next (chipOf registers core) (decode w) .registers → s ≡ noneSeen
+        → Going n rom es places whole (set answers given (o .answer)) ram s r (o .core) (o .cpu) i (given + 1)
+    unfolding occurred occurredWith
+    goes-set w e o r s p q u =
+        let m = machine c ram (chipOf registers core) in
+        let a : given < length answers = omega (arith, some, h .same) in
+        let z : drop given es ≡ getD es given 0 ∷ drop (suc given) es = drop-cons es given 0 some in
+        let d : numberOf (getD es given 0) ≤ i = until-due n i (getD es given 0) (drop (suc given) es) more (rw z at due) in
+        record {
+          within = h .within;
+          small = h .small;
+          listed = omega (arith, some);
+          same = length-set answers given (o .answer) ∙ h .same;
+          total =
+              rw (p, q, e, add-one, take-suc-set answers given (answered (chipOf registers core) (decode (wordOf (getD es given 0)))) a)
+              (h .total ∙ ap (prepended (take given answers)) (ap (λ (l : List ℕ). runs (n - i) i rom l m) z ∙ runs-event n i rom (getD es given 0) (drop (suc given) es) m more d)
+              ∙ prepended-twice (take given answers) (answered (chipOf registers core) (decode (wordOf (getD es given 0))) ∷ []) _);
+          rest = drop-set-lt (given + 1) answers given (o .answer) (omega arith) ∙ sym (drop-drop 1 given answers) ∙ ap (drop 1) (h .rest) ∙ drop-drop 1 given places;
+          knows = rw u (knows-none (chipOf r (o .core)));
+          size = rw u refl;
+        }
+
+    pub fed-goes : (v : ℕ) → v ≡ getD es given 0 → (w : ℕ) → w ≡ wordOf v → (o : Occurred) (r s a : List ℕ) → o ≡ occurredWith rom c (chipOf registers core) w
+        → r ≡ next (chipOf registers core) (decode w) .registers → s ≡ noneSeen → a ≡ set answers given (o .answer)
+        → Going n rom es places whole a ram s r (o .core) (o .cpu) i (given + 1)
+    fed-goes v x w e o r s a p q u y = rw y (goes-set w (e ∙ ap wordOf x) o r s p q u)
+
+  -- instructions were done
+  module _ (to : ℕ) (at : to ≡ until n (drop given es)) (later : i < to) (table : List ℕ) (tabled : table ≡ opcodes) (s : Settled) (r : List ℕ) (v : List ℕ) (ram′ : List ℕ)
+      (e : s ≡ proceeded table seen registers rom core c i to ram .settled) (e₁ : r ≡ proceeded table seen registers rom core c i to ram .registers)
+      (e₂ : v ≡ proceeded table seen registers rom core c i to ram .seen) (e₃ : ram′ ≡ proceeded table seen registers rom core c i to ram .ram) where
+    on : Proceeds n rom (drop given es) i c seen (runs (n - i) i rom (drop given es) (machine c ram (chipOf registers core))) (kept s r v ram′)
+    on =
+        let l : to ≤ n = rw at (until-le n (drop given es)) in
+        rw (e, e₁, e₂, e₃, tabled)
+        (proceeds n i to seen registers rom (drop given es) core c ram (h .small) later l (h .knows) (h .size) (rw at (until-later n (drop given es))))
+
+    pub on-less : eqb (s .refusal) 0 ≡ true → measure n es (s .number) given (s .cpu) v < measure n es i given c seen
+    on-less z = omega (arith, on .less z)
+
+    pub on-goes : eqb (s .refusal) 0 ≡ true → Going n rom es places whole answers ram′ v r (s .core) (s .cpu) (s .number) given
+    on-goes z =
+        record {
+          within = on .within;
+          small = h .small;
+          listed = h .listed;
+          same = h .same;
+          total = h .total ∙ ap (prepended (take given answers)) (on .goes-on ∙ (rw z));
+          rest = h .rest;
+          knows = on .knows;
+          size = on .size;
+        }
+
+    pub on-ends : eqb (s .refusal) 0 ≡ false → whole ≡ prepended (take given answers) (ended (machine (s .cpu) ram′ (chipOf r (s .core))) (s .refusal) (s .number) [])
+    on-ends z = h .total ∙ ap (prepended (take given answers)) (on .goes-on ∙ (rw z))
+
+-- ---- the end
+
+pub first : (n : ℕ) (rom es places : List ℕ) (c : Cpu) (ram registers : List ℕ) (core : Core) (seen : List ℕ) → n < 4294967296 → seen ≡ noneSeen
+    → Going n rom es places (runs n 0 rom es (machine c ram (chipOf registers core))) places ram seen registers core c 0 0
+first n rom es places c ram registers core seen l u =
+    record {
+      within = omega arith;
+      small = l;
+      listed = omega arith;
+      same = refl;
+      total = ap (λ (x : ℕ). runs x 0 rom es (machine c ram (chipOf registers core))) (let z : n ≡ n - 0 = omega arith in z);
+      rest = refl;
+      knows = rw u (knows-none (chipOf registers core));
+      size = rw u refl;
+    }
+
+abbrev pub outcome : ℕ → Cpu → Chip → ℕ → ℕ → FirmwareResult
+outcome x c k i given = record { number = x; cpu = c; chip = k; counted = i; given = given }
+
+module _ (es places : List ℕ) (whole : Ended) (answers : List ℕ) (given : ℕ) (room : length es ≤ length places) (listed : given ≤ length es)
+    (same : length answers ≡ length places) (rest : drop given answers ≡ drop given places) where
+  answered-length : length (take given answers ++ []) ≡ given
+  answered-length = ap length (append-nil (take given answers)) ∙ length-take given answers ∙ (omega (arith, same))
+
+  pub ends : (c : Cpu) (ram : List ℕ) (k : Chip) (x i : ℕ) → whole ≡ prepended (take given answers) (ended (machine c ram k) x i [])
+      → (outcome x c k i given ≡ resultOf (called whole places)) × (answers ≡ called whole places .answers) × (ram ≡ called whole places .ram)
+  ends c ram k x i e =
+      rw e (
+        ap (outcome x c k i) (sym answered-length),
+        sym (take-append-drop given answers) ∙ ap₂ (λ (l r : List ℕ). l ++ r) (sym (append-nil (take given answers))) (rest ∙ (rw answered-length)),
+        refl,
+      )
+
+pub runs-done : (n i : ℕ) (rom es : List ℕ) (m : Machine) → n ≤ i → i ≤ n → runs (n - i) i rom es m ≡ ended m 0 i []
+unfolding runs
+runs-done n i rom es m h g =
+    let z : n - i ≡ 0 = omega arith in
+    rw z
+
+pub finish : (n : ℕ) (rom es places : List ℕ) (whole : Ended) (answers ram seen registers : List ℕ) (core : Core) (c : Cpu) (i given : ℕ)
+    → length es ≤ length places → Going n rom es places whole answers ram seen registers core c i given → n ≤ i
+    → (outcome 0 c (chipOf registers core) i given ≡ resultOf (called whole places)) × (answers ≡ called whole places .answers) × (ram ≡ called whole places .ram)
+finish n rom es places whole answers ram seen registers core c i given room h l =
+    ends es places whole answers given room (h .listed) (h .same) (h .rest) c ram (chipOf registers core) 0 i
+    (h .total ∙ ap (prepended (take given answers)) (runs-done n i rom (drop given es) (machine c ram (chipOf registers core)) l (h .within)))
+
+pub stop : (n : ℕ) (rom es places : List ℕ) (whole : Ended) (answers ram seen registers : List ℕ) (core : Core) (c : Cpu) (i given : ℕ)
+    → length es ≤ length places → Going n rom es places whole answers ram seen registers core c i given
+    → (d : Cpu) (ram′ : List ℕ) (k : Chip) (x j : ℕ) → whole ≡ prepended (take given answers) (ended (machine d ram′ k) x j [])
+    → (outcome x d k j given ≡ resultOf (called whole places)) × (answers ≡ called whole places .answers) × (ram′ ≡ called whole places .ram)
+stop n rom es places whole answers ram seen registers core c i given room h d ram′ k x j e =
+    ends es places whole answers given room (h .listed) (h .same) (h .rest) d ram′ k x j e

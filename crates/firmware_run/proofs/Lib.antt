@@ -1,0 +1,4 @@
+pub mod Registers
+pub mod Proceeds
+pub mod Going
+pub mod Parts
