@@ -22,10 +22,10 @@ use Rattle.firmware_capi.specs.Call.{cpuOf, cpuBytes, Left, left, hasBeg
 
 all-four : (p q r s : Bool) → pick p (pick q (pick r (pick s true false) false) false) false ≡ true → (p ≡ true) × (q ≡ true) × (r ≡ true) × (s ≡ true)
 all-four true true true true h = (refl, refl, refl, refl)
-all-four true true true false h = cc
-all-four true true false s h = cc
-all-four true false r s h = cc
-all-four false q r s h = cc
+all-four true true true false h = (refl, refl, refl, h)
+all-four true true false s h = (refl, refl, h, cc)
+all-four true false r s h = (refl, h, cc, cc)
+all-four false q r s h = (h, cc, cc, cc)
 
 pub sized : (a b c d : ℕ) → areSized a b c d ≡ true → (a ≡ 8) × (b ≡ 256) × (c ≡ 128) × (d ≡ 2)
 unfolding areSized

@@ -178,7 +178,7 @@ fn are_sized(cpu: usize, ram: usize, area: usize, counts: usize) -> bool
 
 // Runs `instructions` instructions of the firmware in `rom` from the CPU, with the events between them, and gives 0 or the number of the
 // refusal of an instruction. Refused before anything runs (15, 8, 22, 7), nothing is touched.
-// Wrong answers: a chip refused with 8 run, and a good one not; 0 for areas of a wrong length.
+// Wrong answers: a chip refused with 8 run, and a good one not; one place for the counts asked for.
 #[no_mangle]
 pub extern "C" fn nt6861_firmware(
     cpu: &mut [u8],
@@ -198,7 +198,17 @@ pub extern "C" fn nt6861_firmware(
         let number = read.number;
         if number == 0 {
             let c = read.state;
-            run_in(cpu, ram, rom, c, area, events, answers, instructions, counts)
+            run_in(
+                cpu,
+                ram,
+                rom,
+                c,
+                area,
+                events,
+                answers,
+                instructions,
+                counts,
+            )
         } else {
             number
         }
