@@ -121,6 +121,20 @@ uint8_t nt6861_addresses(uint8_t ii_adr, const uint16_t *changes, size_t changes
  * Returns 0. Or tells nothing and returns 15 for an area of another length, then 8 for bytes that no well formed state is written as. */
 uint8_t nt6861_why(const uint8_t *area, size_t area_length, const uint32_t *words, size_t count, uint64_t told[12]);
 
+/* ---- firmware (Wish 5): libfirmware_capi.a
+ *
+ * Runs `instructions` instructions of a 6502 over the chip in an area of 128 bytes (docs/STATE.md). cpu has eight bytes: A, X, Y, S, P,
+ * PC low, PC high, and the cycles since the last 8 us clock (0 to 31); bits 5 and 4 of P are ignored and given back 0. ram has 256 bytes,
+ * rom 24,576. An event has in bits 63..32 the number of the instruction that it precedes, counted from 0, and below them its word; its
+ * answer goes to the place of the same index. counts has two places: instructions counted, and events given (modulo 2^32).
+ *
+ * Returns 0, or the number of the refusal of an instruction (5, 6, 20, 21), which leaves all as it was before that instruction. Or
+ * nothing is touched: 15 for a wrong length of cpu, ram, area or counts, before all else; then 8 for bytes that no well formed state is
+ * written as or more than 31 cycles, 22 for a ROM of another length, 7 for fewer answer places than events. */
+uint8_t nt6861_firmware(uint8_t *cpu, size_t cpu_length, uint8_t *ram, size_t ram_length, const uint8_t *rom, size_t rom_length,
+                        uint8_t *area, size_t area_length, const uint64_t *events, size_t events_length, uint32_t *answers,
+                        size_t answers_length, uint32_t instructions, uint32_t *counts, size_t counts_length);
+
 #ifdef __cplusplus
 }
 #endif

@@ -179,7 +179,8 @@ fn compare(what: &str, case: &Case, seen: &mut Seen) -> (u8, Cpu, [u8; RAM_SIZE]
         differ(what, case, &lent, &expected, (number, told.number));
     }
     let back = area::read(&lent.area[..].try_into().expect("128 bytes"));
-    if back != Some(chip) {
+    // The byte going out is kept by the model while none does: two chips are the same where their bytes are.
+    if back.as_ref().map(area::written) != Some(area::written(&chip)) {
         println!("firmware: {what}: the chip's bytes are read as {back:?}, not {chip:?}");
         exit(1);
     }
