@@ -3,7 +3,7 @@ use Prim.Native.Nat.{ℕ}
 use mathlib.Core.List.{List, [], _∷_}
 use Rattle.isolation.specs.Foreign.{Agree}
 use Rattle.state_area.specs.Area.{loaded}
-use Rattle.state_calls.specs.Calls.{stepArea, stepAnswer, runArea, runPlaces}
+use Rattle.state_calls.specs.Calls.{stepArea, stepAnswer}
 
 -- the area after a list of words, and the answers to them, by the step on bytes
 abbrev pub bytesAfter : List ℕ → List ℕ → List ℕ
@@ -14,10 +14,7 @@ abbrev pub bytesAnswers : List ℕ → List ℕ → List ℕ
 bytesAnswers s [] = []
 bytesAnswers s (w ∷ ws) = stepAnswer s w ∷ bytesAnswers (stepArea s w) ws
 
--- two runs of the step on bytes from one area agree, and two list calls on copies of it with the answer places xs and ys: the answers,
--- and the states that the areas hold after them, are those that are compared
+-- two runs of the step on bytes from one area agree: the answers, and the states that the areas hold after them, are those that are
+-- compared
 abbrev pub BytesRunsAgree : List ℕ → List ℕ → List ℕ → Type 0
 BytesRunsAgree s ws vs = Agree ws vs (bytesAnswers s ws) (bytesAnswers s vs) (loaded (bytesAfter s ws) .state) (loaded (bytesAfter s vs) .state)
-
-abbrev pub BytesCallsAgree : List ℕ → List ℕ → List ℕ → List ℕ → List ℕ → Type 0
-BytesCallsAgree s ws vs xs ys = Agree ws vs (runPlaces s ws xs) (runPlaces s vs ys) (loaded (runArea s ws xs) .state) (loaded (runArea s vs ys) .state)

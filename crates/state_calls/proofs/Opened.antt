@@ -1,26 +1,21 @@
 -- What a call has of an area that it has read.
 -- Assumes nothing.
-use Prim.Native.Nat.{ℕ, _*_}
-use mathlib.Core.Path.{_≡_, refl, sym, ap, _∙_}
-use mathlib.Core.Bool.{true, false}
-use mathlib.Core.List.{List}
-use lib.Dec.{eqb}
+use Prim.Native.Nat.{ℕ}
+use mathlib.Core.Path.{_≡_, refl}
+use mathlib.Core.Bool.{Bool, true, false}
+use mathlib.Core.List.{List, [], _∷_}
+use lib.ListN.{getD}
 use borrow.Author.Tests.{eq-eqb, ne-eqb}
 use Rattle.bits.specs.Byte.{pick}
-use Rattle.events.specs.Word.{decode}
 use Rattle.chip.specs.declared.Chip.{Chip}
 use Rattle.well_formed.specs.WellFormed.{wellFormed}
-use Rattle.step.specs.Step.{step, advance}
+use Rattle.step.specs.Step.{step}
+use Rattle.run.specs.Run.{run, runAnswers}
 use Rattle.state_bytes.specs.Layout.{bytesOf}
 use Rattle.state_area.specs.declared.Loaded.{Loaded}
 use Rattle.state_area.specs.Area.{loaded, putIn}
-use Rattle.state_area.proofs.Accepted.{loaded-well, put-loaded}
-use Rattle.state_calls.specs.Calls.{holdsState, refusalWord, stepArea, stepAnswer}
-
--- the step of a well formed state is the step without the test
-pub stepped : (c : Chip) (w : ℕ) → wellFormed c ≡ true → advance c (decode w) ≡ step c w
-unfolding step
-stepped c w t = rw t
+use Rattle.state_area.proofs.Accepted.{put-loaded}
+use Rattle.state_calls.specs.Calls.{holdsState}
 
 module _ (s : List ℕ) (r : Loaded) (e : r ≡ loaded s) where
   -- it holds a state: what the call makes of it
@@ -34,14 +29,13 @@ module _ (s : List ℕ) (r : Loaded) (e : r ≡ loaded s) where
   pub refused : {A : Type 0} (x : A) (g : ℕ → A) → (r .number ≡ 0 → ⊥) → g (r .number) ≡ pick (holdsState s) x (g (loaded s .number))
   refused x g h = rw (e, ne-eqb (loaded s .number) 0 (rw e at h))
 
-  -- the step
-  plain : (w : ℕ) → r .number ≡ 0 → advance (r .state) (decode w) ≡ step (r .state) w
-  plain w h = stepped (r .state) w (rw e (loaded-well s (rw e at h)))
+-- the list call on one word is the step: an ill formed state keeps the place, which holds its answer
+one-by : (c : Chip) (w : ℕ) (t : Bool) → wellFormed c ≡ t
+    → record { chip = run c (w ∷ []) (0x08000000 ∷ []) .chip; answer = getD (runAnswers c (w ∷ []) (0x08000000 ∷ [])) 0 0 } ≡ step c w
+unfolding run runAnswers step
+one-by c w true e = rw e
+one-by c w false e = rw e
 
-  pub step-answered : (w : ℕ) → r .number ≡ 0 → advance (r .state) (decode w) .answer ≡ stepAnswer s w
-  unfolding stepAnswer
-  step-answered w h = rw (plain w h) (done (λ (x : Chip). step x w .answer) (refusalWord s) h)
-
-  pub step-put : (w : ℕ) → r .number ≡ 0 → putIn (advance (r .state) (decode w) .chip) s ≡ stepArea s w
-  unfolding stepArea
-  step-put w h = rw (plain w h) (put-done (λ (x : Chip). step x w .chip) h)
+pub one-word : (c : Chip) (w : ℕ)
+    → record { chip = run c (w ∷ []) (0x08000000 ∷ []) .chip; answer = getD (runAnswers c (w ∷ []) (0x08000000 ∷ [])) 0 0 } ≡ step c w
+one-word c w = one-by c w (wellFormed c) refl

@@ -2,8 +2,11 @@
 ghost use mathlib.Core.Path.{_≡_};
 ghost use Prim.Native.Nat.{_*_};
 ghost use Rattle.chip.specs.State.{fresh as freshOf};
+ghost use Rattle.step.specs.Step.{step as stepOf};
 ghost use Rattle.state_area.specs.Area.{storeNumber, storeLeft};
 ghost use Rattle.state_calls.specs.Calls.{stepArea, stepAnswer, runNumber, runArea, runPlaces, holdIn, outcomeIn};
+use chip::Chip;
+use step::Stepped;
 
 // A number in bits 31 to 24 of an answer.
 fn in_top_byte(number: u8) -> u32
@@ -20,6 +23,21 @@ pub fn fresh(area: &mut [u8]) -> u8
     state_area::store(chip::fresh(), area)
 }
 
+// The step, by the list call on one word: the code that carries out an event then stands at one place of a library that has both, and
+// the compiler puts it into the loop. The answer of an ill formed state stands in the place, which the list call then leaves.
+fn stepped(c: Chip, word: u32) -> Stepped
+    ensures { λ r. ⌜ r ≡ stepOf c word ⌝ }
+{
+    let words = [word];
+    let mut places = [0x0800_0000];
+    let done = run::run(c, &words, &mut places);
+    let after = done.chip;
+    Stepped {
+        chip: after,
+        answer: places[0],
+    }
+}
+
 // Steps the state in the area by a word, and answers.
 // Wrong answers: the answer to a word of zeros; the state not written back.
 pub fn step(area: &mut [u8], word: u32) -> u32
@@ -29,7 +47,7 @@ pub fn step(area: &mut [u8], word: u32) -> u32
     let number = read.number;
     if number == 0 {
         let c = read.state;
-        let done = step::advance(c, events::decode(word));
+        let done = stepped(c, word);
         let after = done.chip;
         state_area::put(after, area);
         done.answer

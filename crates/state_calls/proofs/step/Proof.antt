@@ -2,8 +2,10 @@
 -- Assumes nothing.
 use mathlib.Core.Path.{_∙_}
 use Prim.Native.Nat.{ℕ, _*_}
-use Rattle.state_calls.specs.Calls.{stepArea, stepAnswer}
-use Rattle.state_calls.proofs.Opened.{step-answered, step-put, refused}
+use Rattle.chip.specs.declared.Chip.{Chip}
+use Rattle.step.specs.Step.{step}
+use Rattle.state_calls.specs.Calls.{refusalWord, stepArea, stepAnswer}
+use Rattle.state_calls.proofs.Opened.{done, put-done, refused}
 use borrow.Author.Needs.{needs}
 use Rattle.state_calls.proofs.step.Statement.{statement}
 use Rattle.state_calls.proofs.step.Tie as tie
@@ -17,15 +19,14 @@ step-spec =
     (λ c κs. search needs)
     (λ c κs. search needs)
     (λ c κs. search needs)
-    (λ c κs. search needs)
     (λ c. search needs)
-    (λ c. let s = c .before .before .before .before .before .before .before .before .before .before .before .before .args in
-    let r = c .before .before .before .before .before .before .before .before .before .load in
-    let h = c .before .before .before .before .before .before .before .before .if1 .taken in
-    let d = c .before .before .before .before .before .advance .ensures in
-    let w = c .before .before .before .before .before .before .decode .ensures .0 in (
-      rw (d, w) (step-answered (s .area .now) (r .result) (r .ensures) (s .word) h),
-      c .before .before .put .ensures ∙ rw (d, w) (step-put (s .area .now) (r .result) (r .ensures) (s .word) h),
+    (λ c. let s = c .before .before .before .before .before .before .before .before .before .before .before .args in
+    let r = c .before .before .before .before .before .before .before .before .load in
+    let h = c .before .before .before .before .before .before .before .if1 .taken in
+    let d = c .before .before .before .before .before .stepped .ensures in
+    let a = s .area .now in (
+      rw d (done a (r .result) (r .ensures) (λ (x : Chip). step x (s .word) .answer) (refusalWord a) h),
+      c .before .before .put .ensures ∙ rw d (put-done a (r .result) (r .ensures) (λ (x : Chip). step x (s .word) .chip) h),
     ))
     (λ c. search needs)
     (λ c. let s = c .before .before .before .before .before .args in
