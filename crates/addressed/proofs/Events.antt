@@ -6,14 +6,13 @@ use mathlib.Core.Bool.{Bool, true, false, not, _&&_, _||_, Bool·beq, true≢fal
 use Prim.Native.Nat.{ℕ}
 use native.Mathlib.Omega.{arith}
 use borrow.Author.Tests.{eqb-true}
-use lib.Bits.{bitOr}
 use lib.Dec.{eqb, ltb}
 use Rattle.bits.specs.Byte.{pick, bit, withBit}
 use Rattle.bits.proofs.Level.{pick-by}
 use Rattle.bits.proofs.Finite.{beq-eq}
-use Rattle.bits.proofs.Bitwise.{bit-or, bit-and, bit-merge, bit-withBit}
+use Rattle.bits.proofs.Bitwise.{bit-withBit}
 use Rattle.registers.specs.Names.{MDCON, IIDAT, IISTS, BTCON}
-use Rattle.registers.specs.Table.{table, rowOf, writeMask, isWritable, updated}
+use Rattle.registers.specs.Table.{table, rowOf, isWritable, updated}
 use Rattle.events.specs.declared.Decoded.{Decoded}
 use Rattle.events.specs.declared.Decoded.the-variants.{Read, Write, Pin, Clock, Polarity, Refused}
 use Rattle.bus.specs.declared.Mode.{Mode}
@@ -33,6 +32,7 @@ use Rattle.chip.specs.declared.Chip.{Chip}
 use Rattle.chip.specs.State.{busOf, modeOf, released, registerAt, resetAt, resetCore, withReset, withScl, withSda, withWatchdog}
 use Rattle.edges.specs.Edges.{activeMode, busAtMode, busAtRise, onScl, onSclDdc1, onSclDdc2b, sclRise, sclFall, leaveDdc1, sclMoved, onSda, onSdaDdc2b, started, stopped, sdaMoved, busAtVsync}
 use Rattle.ddc_writes.specs.DdcWrites.{mdconWritten, iiadrWritten, statusWritten, iistsWritten, busLetGo, busRisen, busAtIidat, iidatWritten}
+use Rattle.ddc_writes.proofs.Modes.{md-written, enddc-written}
 use Rattle.writes.specs.declared.Target.{Target}
 use Rattle.writes.specs.Writes.{clrflgWritten, clrwdtWritten, writtenTo, written, writeRegister}
 use Rattle.writes.proofs.Addresses.{Addressed, at-mdcon, at-hvcon, at-clrflg, at-clrwdt, at-iiadr, at-iidat, at-iists, at-bt, at-plain, addressed}
@@ -151,27 +151,6 @@ plain : {c : Chip} {e : Decoded} {after : Core} → ends c e ≡ false → takes
 plain {c = c} n t b m = still n t (rw b (kept-same (c .core .bus .phase))) (λ h. rw (b, m) h)
 
 -- ---- the mode
-
--- the bits of the mode as they are written
-md-written : (old b : ℕ) → bit 0 (updated MDCON old b) ≡ bit 0 b
-unfolding writeMask rowOf table bit
-md-written old b = bit-merge 0 0x0f old b (omega arith) (omega arith)
-
-enddc-merged : (old b : ℕ) → bit 3 (updated IISTS old b) ≡ bit 3 b
-unfolding writeMask rowOf table bit
-enddc-merged old b = bit-merge 3 0x0d old b (omega arith) (omega arith)
-
-enddc-mask : bit 3 0xcf ≡ true
-unfolding bit
-enddc-mask = refl
-
-and-or : (x : Bool) → (x && (x || true)) ≡ x
-and-or true = refl
-and-or false = refl
-
-enddc-written : (old b : ℕ) → bit 3 (statusWritten old b) ≡ bit 3 b
-unfolding statusWritten
-enddc-written old b = rw (bit-and 3 (updated IISTS old b) (bitOr b 0xcf), enddc-merged old b, bit-or 3 b 0xcf, enddc-mask) (and-or (bit 3 b))
 
 -- the mode changes where MD1/2 is turned with DDC on, and where ENDDC is turned
 md-turns : (enddc old new : Bool) → ((((pick (not old) new (not new)) && not enddc) || false) || false) ≡ changesMode (modeBy enddc old) (modeBy enddc new)

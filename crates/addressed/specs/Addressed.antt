@@ -13,7 +13,7 @@ use Rattle.bus.specs.declared.Comparison.{Comparison}
 use Rattle.bus.specs.declared.Comparison.the-variants.{None}
 use Rattle.bus.specs.declared.Phase.{Phase}
 use Rattle.bus.specs.declared.Phase.the-variants.{Idle, Address, Addressed, Ignoring, Receive, Transmit, Held}
-use Rattle.bus.specs.Bus.{line, pullsSda, comparedIn}
+use Rattle.bus.specs.Bus.{line, pullsSda, comparedIn, onAddress}
 use Rattle.ddc2b.specs.Ddc2b.{compared, gathered}
 use Rattle.chip.specs.declared.Chip.{Chip}
 use Rattle.outcome.specs.Outcome.{next}
@@ -37,13 +37,7 @@ takesLevel c e = risesScl c e && inDdc2b c
 
 -- seven bits of an address are gathered (no well formed one has more)
 abbrev pub awaitsEighth : Phase → Bool
-awaitsEighth Idle = false
-awaitsEighth (Address count bits) = not (ltb count 7)
-awaitsEighth (Addressed matched bits ninth) = false
-awaitsEighth Ignoring = false
-awaitsEighth (Receive matched count bits) = false
-awaitsEighth (Transmit matched count byte) = false
-awaitsEighth (Held matched clocks) = false
+awaitsEighth = onAddress false (λ count bits. not (ltb count 7))
 
 -- the bits of an address gathered so far
 abbrev pub addressSoFar : Phase → ℕ

@@ -16,8 +16,6 @@ use Rattle.bits.specs.Byte.{pick, num, bit}
 use Rattle.bits.proofs.Bitwise.{bit-or}
 use Rattle.bits.proofs.Mask.{num-lt}
 use Rattle.registers.specs.Names.{INTA}
-use Rattle.bus.specs.declared.Edge.{Edge}
-use Rattle.bus.specs.declared.Edge.the-variants.{Flat, Rise, Fall}
 use Rattle.bus.specs.declared.OwnAddress.{OwnAddress}
 use Rattle.bus.specs.declared.Comparison.{Comparison}
 use Rattle.bus.specs.declared.Comparison.the-variants.{None, Own}
@@ -30,6 +28,7 @@ use Rattle.chip.specs.declared.Core.{Core}
 use Rattle.chip.specs.State.{busOf, raised, withBus}
 use Rattle.edges.specs.Edges.{busAtRise, sclRise, sclFall, onScl, onSclDdc2b, sclMoved, started, stopped, onSda, onSdaDdc2b, sdaMoved}
 use Rattle.isolation.proofs.Related.{frame, KeptBy, enddc-low, kept-status, kept-raised}
+use Rattle.isolation.proofs.Pins.{start-enddc, stop-enddc, unmoved-at-low}
 use Rattle.plain_bus.specs.Plain.{appended, byteOf, Found, found}
 use Rattle.agreement.specs.Stepping.{lacksOne, told, toldBy}
 use Rattle.agreement.proofs.Heard.{Kind, start, stop, rise, other, sdaKind, sclKind, Heard, quiet, since, ours, Few, isOurs, heardEight, heardRise, heardNext, foundRise, foundNext, stopsRise, stopsNext}
@@ -115,20 +114,6 @@ stays (waits matched byte) flag y = refl
 stays (pulls matched byte) flag y = refl
 
 -- ---- SDA
-
-start-enddc : bit 3 0x20 ≡ false
-unfolding bit
-start-enddc = refl
-
-stop-enddc : bit 3 0x10 ≡ false
-unfolding bit
-stop-enddc = refl
-
-unmoved-at-low : (e : Edge) (c : Core) → onSdaDdc2b false e c ≡ c
-unfolding onSdaDdc2b
-unmoved-at-low Flat c = refl
-unmoved-at-low Rise c = refl
-unmoved-at-low Fall c = refl
 
 module _ {own : ℕ} (g : Core) (y : ℕ) (k : KeptBy g own) where
   pub sda-follows : (s x l : Bool) {q : Phase} {h : Heard} → Phased s q h

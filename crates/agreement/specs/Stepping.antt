@@ -12,6 +12,7 @@ use Rattle.bus.specs.declared.Comparison.{Comparison}
 use Rattle.bus.specs.declared.Comparison.the-variants.{None, Own}
 use Rattle.bus.specs.declared.Phase.{Phase}
 use Rattle.bus.specs.declared.Phase.the-variants.{Idle, Address, Addressed, Ignoring, Receive, Transmit, Held}
+use Rattle.bus.specs.Bus.{onAddress}
 use Rattle.ddc2b.specs.Ddc2b.{addressBits}
 use Rattle.chip.specs.declared.Chip.{Chip}
 use Rattle.chip.specs.State.{modeOf}
@@ -21,13 +22,7 @@ use Rattle.plain_bus.specs.Plain.{lineOf, levelOf, Found}
 
 -- seven bits of an address are gathered
 abbrev pub lacksOne : Phase → Bool
-lacksOne Idle = false
-lacksOne (Address count bits) = eqb count 7
-lacksOne (Addressed matched bits ninth) = false
-lacksOne Ignoring = false
-lacksOne (Receive matched count bits) = false
-lacksOne (Transmit matched count byte) = false
-lacksOne (Held matched clocks) = false
+lacksOne = onAddress false (λ count bits. eqb count 7)
 
 -- an address and what its comparison gave
 abbrev pub told : ℕ → Comparison → Found

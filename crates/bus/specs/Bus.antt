@@ -46,6 +46,25 @@ abbrev pub line : Bool → Bool → Bool
 line true level = false
 line false level = level
 
+-- what is asked of an address that is being gathered, and of a hold of SCL: an answer for that phase, and one for every other
+abbrev pub onAddress : {A : Type 0} → A → (ℕ → ℕ → A) → Phase → A
+onAddress other asked Idle = other
+onAddress other asked (Address count bits) = asked count bits
+onAddress other asked (Addressed matched bits ninth) = other
+onAddress other asked Ignoring = other
+onAddress other asked (Receive matched count bits) = other
+onAddress other asked (Transmit matched count byte) = other
+onAddress other asked (Held matched clocks) = other
+
+abbrev pub onHeld : {A : Type 0} → A → (OwnAddress → ℕ → A) → Phase → A
+onHeld other asked Idle = other
+onHeld other asked (Address count bits) = other
+onHeld other asked (Addressed matched bits ninth) = other
+onHeld other asked Ignoring = other
+onHeld other asked (Receive matched count bits) = other
+onHeld other asked (Transmit matched count byte) = other
+onHeld other asked (Held matched clocks) = asked matched clocks
+
 -- transmitting, the chip pulls SDA while the bit that is out is 0: bit 7 of the byte is out at a count of 1, bit 0 at 8
 unfoldable pub pullsAtBit : ℕ → ℕ → Bool
 pullsAtBit count byte = pick (ltb count 9) (not (bit ((8 - count) % 8) byte)) false

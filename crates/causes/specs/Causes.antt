@@ -8,10 +8,11 @@ use Rattle.registers.specs.Names.{IEX, CLRFLG, BTCON, MD12, INTS, INTD, INTA, I
 use Rattle.events.specs.Pins as pin
 use Rattle.events.specs.Clocks as clock
 use Rattle.events.specs.declared.Decoded.{Decoded}
+use Rattle.events.specs.Kinds.{onPin, onClock}
 use Rattle.events.specs.declared.Decoded.the-variants.{Read, Write, Pin, Clock, Polarity, Refused}
 use Rattle.bus.specs.declared.Phase.{Phase}
 use Rattle.bus.specs.declared.Phase.the-variants.{Idle, Address, Addressed, Ignoring, Receive, Transmit, Held}
-use Rattle.bus.specs.Bus.{line, pullsSda, pullsScl}
+use Rattle.bus.specs.Bus.{line, pullsSda, pullsScl, onAddress}
 use Rattle.ddc2b.specs.Ddc2b.{matches, gathered}
 use Rattle.chip.specs.declared.Chip.{Chip}
 use Rattle.chip.specs.State.{registerAt}
@@ -41,30 +42,15 @@ enabled s c = bit (place s) (registerAt (c .registers) IEX)
 
 -- the pin is given level 1
 abbrev pub putHigh : ℕ → Decoded → Bool
-putHigh p (Read a) = false
-putHigh p (Write a b) = false
-putHigh p (Pin q level) = eqb q p && level
-putHigh p (Clock k) = false
-putHigh p (Polarity vertical level) = false
-putHigh p (Refused n) = false
+putHigh p = onPin false (λ q level. eqb q p && level)
 
 -- the pin is given level 0
 abbrev pub putLow : ℕ → Decoded → Bool
-putLow p (Read a) = false
-putLow p (Write a b) = false
-putLow p (Pin q level) = eqb q p && not level
-putLow p (Clock k) = false
-putLow p (Polarity vertical level) = false
-putLow p (Refused n) = false
+putLow p = onPin false (λ q level. eqb q p && not level)
 
 -- a clock of this number
 abbrev pub isClock : ℕ → Decoded → Bool
-isClock k (Read a) = false
-isClock k (Write a b) = false
-isClock k (Pin p level) = false
-isClock k (Clock j) = eqb j k
-isClock k (Polarity vertical level) = false
-isClock k (Refused n) = false
+isClock k = onClock false (λ j. eqb j k)
 
 -- ---- the mode of DDC
 
@@ -102,13 +88,7 @@ fallsScl c e = putLow pin.SCL e && (c .core .reset && (c .core .scl && sclFree c
 
 -- seven bits of an address are gathered (no well formed one has more), and with the SDA line as the eighth it matches A0H or II ADR
 abbrev pub completesMatch : ℕ → Bool → Phase → Bool
-completesMatch own sda Idle = false
-completesMatch own sda (Address count bits) = not (ltb count 7) && matches own (gathered bits sda)
-completesMatch own sda (Addressed matched bits ninth) = false
-completesMatch own sda Ignoring = false
-completesMatch own sda (Receive matched count bits) = false
-completesMatch own sda (Transmit matched count byte) = false
-completesMatch own sda (Held matched clocks) = false
+completesMatch own sda = onAddress false (λ count bits. not (ltb count 7) && matches own (gathered bits sda))
 
 -- the ninth clock of a byte runs, acknowledged or not, or the acknowledge of a transmit was taken: the next fall ends it
 abbrev pub inNinthClock : Phase → Bool

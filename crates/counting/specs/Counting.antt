@@ -8,6 +8,7 @@ use Rattle.registers.specs.Names.{MDCON, CLRFLG, HSEL, CLRHOV, CLRVOV}
 use Rattle.events.specs.Pins as pin
 use Rattle.events.specs.Clocks as clock
 use Rattle.events.specs.declared.Decoded.{Decoded}
+use Rattle.events.specs.Kinds.{onPin, onWrite}
 use Rattle.events.specs.declared.Decoded.the-variants.{Read, Write, Pin, Clock, Polarity, Refused}
 use Rattle.events.specs.Word.{decode}
 use Rattle.sync.specs.Sync.{intervalLast}
@@ -20,12 +21,7 @@ use Rattle.causes.specs.Causes.{putHigh, isClock, risesVsynci}
 
 -- the level of a pin after an event
 abbrev pub levelAfter : ℕ → Decoded → Bool → Bool
-levelAfter p (Read a) old = old
-levelAfter p (Write a b) old = old
-levelAfter p (Pin q level) old = pick (eqb q p) level old
-levelAfter p (Clock k) old = old
-levelAfter p (Polarity vertical level) old = old
-levelAfter p (Refused n) old = old
+levelAfter p e old = onPin old (λ q level. pick (eqb q p) level old) e
 
 -- rises of HSYNCI while RESET is high
 abbrev pub hsyncRises : Bool → Bool → List ℕ → ℕ
@@ -52,12 +48,7 @@ resets c (Refused n) = false
 
 -- a register is written while RESET is high, with this byte's bit as given
 abbrev pub writes : ℕ → ℕ → Bool → Chip → Decoded → Bool
-writes register k value c (Read a) = false
-writes register k value c (Write a b) = eqb a register && (c .core .reset && pick value (bit k b) (not (bit k b)))
-writes register k value c (Pin p level) = false
-writes register k value c (Clock j) = false
-writes register k value c (Polarity vertical level) = false
-writes register k value c (Refused n) = false
+writes register k value c = onWrite false (λ a b. eqb a register && (c .core .reset && pick value (bit k b) (not (bit k b))))
 
 -- HCNT: a reset, a 1 in CLRHOV of CLRFLG, HSEL written from 1 to 0; and, as latching does not in overflow, a rise of VSYNCI with
 -- HSEL 1, and with HSEL 0 the 1,024th 8 µs clock, which finds the interval at its last value

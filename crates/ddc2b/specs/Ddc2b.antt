@@ -5,7 +5,6 @@ use lib.Bits.{bitOr}
 use lib.Dec.{eqb, ltb}
 use Rattle.bits.specs.Byte.{pick, num, weight, weightIf, bit, withBit}
 use Rattle.registers.specs.Names.{START, STOP, RXAK, TXAK, INTA, INTD, INTS}
-use Rattle.bus.specs.declared.OwnAddress.{OwnAddress}
 use Rattle.bus.specs.declared.OwnAddress.the-variants.{A0, IiAdr, Both}
 use Rattle.bus.specs.declared.Comparison.{Comparison}
 use Rattle.bus.specs.declared.Comparison.the-variants.{None, Own}
@@ -13,6 +12,7 @@ use Rattle.bus.specs.declared.Phase.{Phase}
 use Rattle.ddc2b.specs.declared.Risen.{Risen}
 use Rattle.ddc2b.specs.declared.Fallen.{Fallen}
 use Rattle.bus.specs.declared.Phase.the-variants.{Idle, Address, Addressed, Ignoring, Receive, Transmit, Held}
+use Rattle.bus.specs.Bus.{onAddress, onHeld}
 
 -- bits 7..1 of a byte: the address without its direction bit
 abbrev pub addressBits : ℕ → ℕ
@@ -76,13 +76,7 @@ dataAtRise sda (Held matched clocks) byte = byte
 
 -- flag A is set where the eighth address bit completes an address that matches
 unfoldable pub matchesAtRise : ℕ → Bool → Phase → Bool
-matchesAtRise own sda Idle = false
-matchesAtRise own sda (Address count bits) = pick (ltb count 7) false (matches own (gathered bits sda))
-matchesAtRise own sda (Addressed matched bits ninth) = false
-matchesAtRise own sda Ignoring = false
-matchesAtRise own sda (Receive matched count bits) = false
-matchesAtRise own sda (Transmit matched count byte) = false
-matchesAtRise own sda (Held matched clocks) = false
+matchesAtRise own sda = onAddress false (λ count bits. pick (ltb count 7) false (matches own (gathered bits sda)))
 
 -- the first rise after the eighth fall of a transmit puts SDA in RXAK of II STS
 unfoldable pub statusAtRise : Bool → Phase → ℕ → ℕ
@@ -145,13 +139,7 @@ unfoldable pub heldLonger : ℕ → ℕ
 heldLonger clocks = pick (ltb clocks 65535) (clocks + 1) clocks
 
 unfoldable pub phaseAtPeriod : Phase → Phase
-phaseAtPeriod Idle = Idle
-phaseAtPeriod (Address count bits) = Address count bits
-phaseAtPeriod (Addressed matched bits ninth) = Addressed matched bits ninth
-phaseAtPeriod Ignoring = Ignoring
-phaseAtPeriod (Receive matched count bits) = Receive matched count bits
-phaseAtPeriod (Transmit matched count byte) = Transmit matched count byte
-phaseAtPeriod (Held matched clocks) = Held matched (heldLonger clocks)
+phaseAtPeriod phase = onHeld phase (λ matched clocks. Held matched (heldLonger clocks)) phase
 
 -- ---- letting SCL go
 -- a write to II DAT while held: TRX of II STS at 1 puts bit 7 of the byte on SDA; at 0 a receive begins

@@ -11,8 +11,7 @@ use Rattle.events.specs.declared.Decoded.{Decoded}
 use Rattle.bus.specs.declared.Comparison.{Comparison}
 use Rattle.bus.specs.declared.Comparison.the-variants.{None, Own}
 use Rattle.bus.specs.declared.Phase.{Phase}
-use Rattle.bus.specs.declared.Phase.the-variants.{Idle, Address, Addressed, Ignoring, Receive, Transmit, Held}
-use Rattle.bus.specs.Bus.{line, pullsSda}
+use Rattle.bus.specs.Bus.{line, pullsSda, onAddress}
 use Rattle.ddc2b.specs.Ddc2b.{gathered, compared}
 use Rattle.chip.specs.declared.Chip.{Chip}
 use Rattle.run.specs.Run.{advanced}
@@ -53,13 +52,7 @@ pub record SetAt (s : Source) (c : Chip) (words : List ℕ) (n : ℕ) : Type 0 w
 
 -- what the address that the next rise completes is equal to (Wish 12)
 abbrev pub completed : ℕ → Bool → Phase → Comparison
-completed own sda Idle = None
-completed own sda (Address count bits) = compared own (gathered bits sda)
-completed own sda (Addressed matched bits ninth) = None
-completed own sda Ignoring = None
-completed own sda (Receive matched count bits) = None
-completed own sda (Transmit matched count byte) = None
-completed own sda (Held matched clocks) = None
+completed own sda = onAddress None (λ count bits. compared own (gathered bits sda))
 
 abbrev pub addressOutcome : Chip → Comparison
 addressOutcome c = completed (c .core .bus .iiadr) (line (pullsSda (c .core .bus .phase)) (c .core .sda)) (c .core .bus .phase)

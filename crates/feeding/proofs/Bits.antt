@@ -1,20 +1,16 @@
 -- The bits that a shift moves, and those that a write puts.
 -- Assumes nothing.
-use Prim.Native.Nat.{ℕ, zero, suc, _+_, _-_, _*_, _%_, _/_, _^_, _<_}
+use Prim.Native.Nat.{ℕ, zero, suc, _+_, _*_, _%_, _/_, _<_}
 use mathlib.Core.Path.{_≡_, refl, ap, sym, _∙_}
-use mathlib.Core.Bool.{Bool, true, false, _&&_, _||_}
+use mathlib.Core.Bool.{Bool, true}
 use native.Mathlib.Omega.{arith}
-use native.Mathlib.Nat.{pow-suc}
 use lib.Bits.{bitAnd, bitOr, and-mask, and-zero-r, or-zero-l}
 use mathlib.Core.List.{List, [], _∷_, _++_}
 use lib.ListN.{getD}
-use lib.Dec.{eqb}
 use Rattle.feeding.specs.Levels.{lowBits}
 use Rattle.bits.specs.Byte.{bit, merge}
-use Rattle.bits.proofs.Bitwise.{bit-and, bit-or, bit-merge}
-use Rattle.registers.specs.Names.{MDCON, IIDAT, IISTS}
+use Rattle.registers.specs.Names.{IIDAT}
 use Rattle.registers.specs.Table.{table, rowOf, writeMask, updated}
-use Rattle.ddc_writes.specs.DdcWrites.{statusWritten}
 
 abbrev pub shifted : ℕ → ℕ
 shifted r = r % 128 * 2 + 1
@@ -22,26 +18,6 @@ shifted r = r % 128 * 2 + 1
 pub shifted-low : (r : ℕ) → bit 0 (shifted r) ≡ true
 unfolding bit
 shifted-low r = let h : shifted r / 1 % 2 ≡ 1 = omega arith in rw h
-
-pub md-written : (old b : ℕ) → bit 0 (updated MDCON old b) ≡ bit 0 b
-unfolding writeMask rowOf table bit
-md-written old b = bit-merge 0 0x0f old b (omega arith) (omega arith)
-
-and-absorbs : (x : Bool) → (x && (x || true)) ≡ x
-and-absorbs true = refl
-and-absorbs false = refl
-
-enddc-merged : (old b : ℕ) → bit 3 (updated IISTS old b) ≡ bit 3 b
-unfolding writeMask rowOf table bit
-enddc-merged old b = bit-merge 3 0x0d old b (omega arith) (omega arith)
-
-three-of-cf : bit 3 0xcf ≡ true
-unfolding bit
-three-of-cf = refl
-
-pub enddc-written : (old b : ℕ) → bit 3 (statusWritten old b) ≡ bit 3 b
-unfolding statusWritten
-enddc-written old b = rw (bit-and, enddc-merged, bit-or, three-of-cf) (and-absorbs (bit 3 b))
 
 pub data-written : (old b : ℕ) → b < 256 → updated IIDAT old b ≡ b
 unfolding writeMask rowOf table merge

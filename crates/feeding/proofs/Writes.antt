@@ -3,7 +3,7 @@
 use Prim.Native.Nat.{ℕ, _<_}
 use mathlib.Core.Path.{_≡_, refl, _∙_}
 use mathlib.Core.List.{List, [], _∷_}
-use mathlib.Core.Bool.{Bool, true, false, not, _&&_, _||_, Bool·beq, true≢false}
+use mathlib.Core.Bool.{Bool, true, false, not, _&&_, Bool·beq, true≢false}
 use borrow.Author.Tests.{not-true}
 use Rattle.bits.specs.Byte.{pick, bit}
 use Rattle.bits.proofs.Finite.{neither}
@@ -20,7 +20,8 @@ use Rattle.writes.proofs.Addresses.{Addressed, at-mdcon, at-hvcon, at-clrflg, a
 use Rattle.writes.specs.Writes.{clrflgWritten, clrwdtWritten, writtenTo, written}
 use Rattle.feeding.specs.Observer.{iistsOf, mdconOf, observeAccepted, spoils}
 use Rattle.feeding.specs.Levels.{byteTaken}
-use Rattle.feeding.proofs.Bits.{md-written, enddc-written, data-written}
+use Rattle.ddc_writes.proofs.Modes.{md-written, enddc-written}
+use Rattle.feeding.proofs.Bits.{data-written}
 use Rattle.feeding.proofs.Tracks.{iiadrOf, shifterOf, syncOf, polarityOf, btOf, frame, seen, ModeBits, ModeOf, Stage, turned-off, awaiting, sending, Pending, nothing, waiting, tracks, in-ddc2b, Moved, kept, brings, off-mode, ddc1-mode}
 
 -- ---- writes

@@ -9,7 +9,7 @@ use Rattle.bits.specs.Byte.{pick, bit}
 use Rattle.registers.specs.Names.{IIDAT}
 use Rattle.events.specs.Pins as pin
 use Rattle.events.specs.declared.Decoded.{Decoded}
-use Rattle.events.specs.declared.Decoded.the-variants.{Read, Write, Pin, Clock, Polarity, Refused}
+use Rattle.events.specs.Kinds.{onWrite, onPin}
 use Rattle.events.specs.Word.{decode}
 use Rattle.bus.specs.Bus.{line, sdaPulled}
 use Rattle.chip.specs.declared.Core.{Core}
@@ -26,12 +26,7 @@ byteTaken a b = pick (eqb a IIDAT) (b ∷ []) []
 
 -- the byte that an event writes to II DAT
 abbrev pub byteWritten : Observer → Decoded → List ℕ
-byteWritten o (Read a) = []
-byteWritten o (Write a b) = pick (accepted o a) (byteTaken a b) []
-byteWritten o (Pin p level) = []
-byteWritten o (Clock k) = []
-byteWritten o (Polarity vertical level) = []
-byteWritten o (Refused n) = []
+byteWritten o = onWrite [] (λ a b. pick (accepted o a) (byteTaken a b) [])
 
 -- the bytes that a list writes to II DAT, in order
 abbrev pub bytesWritten : Observer → List ℕ → List ℕ
@@ -65,12 +60,7 @@ level load put = record { load = load; put = put }
 
 -- an event after which a level is listed: a load, or a rise of VSYNCI that shifts once a byte was loaded
 abbrev pub shows : Observer → Decoded → Bool
-shows o (Read a) = false
-shows o (Write a b) = false
-shows o (Pin p level) = eqb p pin.VSYNCI && (shifts o level && (eqb (o .left) 0 || o .loaded))
-shows o (Clock k) = false
-shows o (Polarity vertical level) = false
-shows o (Refused n) = false
+shows o = onPin false (λ p level. eqb p pin.VSYNCI && (shifts o level && (eqb (o .left) 0 || o .loaded)))
 
 -- the levels put on SDA after the first load and each rise after it, in order, by the step
 abbrev pub levelsPut : Observer → Chip → List ℕ → List Level

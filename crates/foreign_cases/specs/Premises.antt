@@ -8,7 +8,7 @@ use lib.Dec.{eqb}
 use Rattle.bits.specs.Byte.{pick}
 use Rattle.events.specs.Pins as pin
 use Rattle.events.specs.declared.Decoded.{Decoded}
-use Rattle.events.specs.declared.Decoded.the-variants.{Read, Write, Pin, Clock, Polarity, Refused}
+use Rattle.events.specs.Kinds.{onWrite, onPin, onClock}
 use Rattle.events.specs.Word.{decode}
 use Rattle.bus.specs.declared.Mode.{Mode}
 use Rattle.bus.specs.declared.Mode.the-variants.{Off, Ddc1, Ddc2b}
@@ -68,48 +68,23 @@ sameWords (w ∷ ws) (v ∷ vs) = sameButSda w v && sameWords ws vs
 
 -- no write that is carried out turns DDC off
 unfoldable pub keepsOn : Observer → Decoded → Bool
-keepsOn o (Read a) = true
-keepsOn o (Write a b) = not (accepted o a && turnsOff a b)
-keepsOn o (Pin p level) = true
-keepsOn o (Clock k) = true
-keepsOn o (Polarity vertical level) = true
-keepsOn o (Refused n) = true
+keepsOn o = onWrite true (λ a b. not (accepted o a && turnsOff a b))
 
 -- no write that is carried out asks for DDC1
 unfoldable pub keepsDdc2b : Observer → Decoded → Bool
-keepsDdc2b o (Read a) = true
-keepsDdc2b o (Write a b) = not (accepted o a && asksDdc1 a b)
-keepsDdc2b o (Pin p level) = true
-keepsDdc2b o (Clock k) = true
-keepsDdc2b o (Polarity vertical level) = true
-keepsDdc2b o (Refused n) = true
+keepsDdc2b o = onWrite true (λ a b. not (accepted o a && asksDdc1 a b))
 
 -- no address that is completed matches
 unfoldable pub matchesNone : Observer → Decoded → Bool
-matchesNone o (Read a) = true
-matchesNone o (Write a b) = true
-matchesNone o (Pin p level) = not (eqb p pin.SCL && (sclRises o level && completesMatch (o .own) (o .sda) (o .trace)))
-matchesNone o (Clock k) = true
-matchesNone o (Polarity vertical level) = true
-matchesNone o (Refused n) = true
+matchesNone o = onPin true (λ p level. not (eqb p pin.SCL && (sclRises o level && completesMatch (o .own) (o .sda) (o .trace))))
 
 -- RESET does not go low
 unfoldable pub keepsReset : Observer → Decoded → Bool
-keepsReset o (Read a) = true
-keepsReset o (Write a b) = true
-keepsReset o (Pin p level) = not (eqb p pin.RESET && resetFalls o level)
-keepsReset o (Clock k) = true
-keepsReset o (Polarity vertical level) = true
-keepsReset o (Refused n) = true
+keepsReset o = onPin true (λ p level. not (eqb p pin.RESET && resetFalls o level))
 
 -- no watchdog clock is the 64th
 unfoldable pub watchdogWaits : Observer → Decoded → Bool
-watchdogWaits o (Read a) = true
-watchdogWaits o (Write a b) = true
-watchdogWaits o (Pin p level) = true
-watchdogWaits o (Clock k) = not (watchdogExpires o k)
-watchdogWaits o (Polarity vertical level) = true
-watchdogWaits o (Refused n) = true
+watchdogWaits o = onClock true (λ k. not (watchdogExpires o k))
 
 abbrev pub inBoth : (Observer → Decoded → Bool) → Pair → Bool
 inBoth test p = throughout test (observerAt (p .first)) (p .left) && throughout test (observerAt (p .first)) (p .right)

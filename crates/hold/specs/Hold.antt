@@ -5,8 +5,8 @@ use mathlib.Core.Bool.{true, false}
 use Rattle.bits.specs.Byte.{pick}
 use Rattle.bus.specs.declared.OwnAddress.{OwnAddress}
 use Rattle.bus.specs.declared.Phase.{Phase}
-use Rattle.bus.specs.declared.Phase.the-variants.{Idle, Address, Addressed, Ignoring, Receive, Transmit, Held}
-use Rattle.bus.specs.Bus.{pullsScl}
+use Rattle.bus.specs.declared.Phase.the-variants.{Held}
+use Rattle.bus.specs.Bus.{pullsScl, onHeld}
 use Rattle.chip.specs.declared.Chip.{Chip}
 use Rattle.well_formed.specs.WellFormed.{wellFormed}
 use Rattle.hold.specs.declared.Hold.{Hold}
@@ -14,13 +14,7 @@ use Rattle.hold.specs.declared.Hold.the-variants.{IllFormed, NotHeld, He
 
 -- by the phase: the count stands in the phase that holds SCL, so that none can be kept while it is not held
 unfoldable pub holdOf : Phase → Hold
-holdOf Idle = NotHeld
-holdOf (Address count bits) = NotHeld
-holdOf (Addressed matched bits ninth) = NotHeld
-holdOf Ignoring = NotHeld
-holdOf (Receive matched count bits) = NotHeld
-holdOf (Transmit matched count byte) = NotHeld
-holdOf (Held matched clocks) = HeldFor clocks
+holdOf = onHeld NotHeld (λ matched clocks. HeldFor clocks)
 
 -- an ill formed state is told before all else
 unfoldable pub holdReport : Chip → Hold

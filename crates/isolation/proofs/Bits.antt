@@ -1,8 +1,8 @@
--- Address bits of II ADR, the mode bits under a write, and the levels of a trace as the chip gathers them.
+-- Address bits of II ADR, and the levels of a trace as the chip gathers them.
 use Prim.Native.Nat.{ℕ, _+_, _*_, _%_, _/_, _^_, _<_}
 use mathlib.Core.Path.{_≡_, ap, _∙_}
 use mathlib.Core.List.{List, [], _∷_}
-use mathlib.Core.Bool.{Bool, true, false}
+use mathlib.Core.Bool.{Bool, true}
 use native.Mathlib.Omega.{arith}
 use native.Mathlib.Nat.{mod-eq-of-lt, pow-suc}
 use lib.Pow.{pow-mono}
@@ -10,13 +10,11 @@ use lib.ListN.{length}
 use lib.Dec.{ltb}
 use borrow.Author.Tests.{ltb-true}
 use lib.Bits.{bitAnd, bitOr, or-shr, and-shr, and-mask, and-zero-r, or-zero-l}
-use Rattle.bits.specs.Byte.{num, bit, merge}
-use Rattle.bits.proofs.Bitwise.{bit-and, bit-merge}
+use Rattle.bits.specs.Byte.{num, merge}
 use Rattle.bits.proofs.Mask.{num-lt}
-use Rattle.registers.specs.Names.{MDCON, IIADR, IISTS}
+use Rattle.registers.specs.Names.{IIADR}
 use Rattle.registers.specs.Table.{table, rowOf, writeMask}
 use Rattle.ddc2b.specs.Ddc2b.{addressBits, gathered}
-use Rattle.ddc_writes.specs.DdcWrites.{statusWritten}
 use Rattle.registers.specs.Table.{updated}
 use Rattle.isolation.specs.Foreign.{byteOf}
 
@@ -34,20 +32,6 @@ merge-address old b =
 pub address-written : (old b : ℕ) → addressBits (updated IIADR old b) ≡ addressBits b
 unfolding writeMask rowOf table
 address-written old b = merge-address old b
-
--- MD1/2 after a write to MDCON is the bit written
-pub md-written : (old b : ℕ) → bit 0 (updated MDCON old b) ≡ bit 0 b
-unfolding writeMask rowOf table bit
-md-written old b = bit-merge 0 0x0f old b (omega arith) (omega arith)
-
-enddc-merged : (old b : ℕ) → bit 3 (updated IISTS old b) ≡ bit 3 b
-unfolding writeMask rowOf table bit
-enddc-merged old b = bit-merge 3 0x0d old b (omega arith) (omega arith)
-
--- ENDDC stays 0 where no 1 is written to it
-pub enddc-written : (old b : ℕ) → bit 3 b ≡ false → bit 3 (statusWritten old b) ≡ false
-unfolding statusWritten
-enddc-written old b h = rw (bit-and, enddc-merged, h)
 
 -- ---- levels
 

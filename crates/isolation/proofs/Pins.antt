@@ -83,16 +83,16 @@ scl-related (related g true false x x′ y y′ k o) true a a′ = rw (o .ddc2b,
 
 -- ---- SDA
 
-start-enddc : bit 3 0x20 ≡ false
+pub start-enddc : bit 3 0x20 ≡ false
 unfolding bit
 start-enddc = refl
 
-stop-enddc : bit 3 0x10 ≡ false
+pub stop-enddc : bit 3 0x10 ≡ false
 unfolding bit
 stop-enddc = refl
 
 -- while SCL is low a change of SDA is no START and no STOP
-unmoved-at-low : (e : Edge) (c : Core) → onSdaDdc2b false e c ≡ c
+pub unmoved-at-low : (e : Edge) (c : Core) → onSdaDdc2b false e c ≡ c
 unfolding onSdaDdc2b
 unmoved-at-low Flat c = refl
 unmoved-at-low Rise c = refl

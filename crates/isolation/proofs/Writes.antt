@@ -23,7 +23,8 @@ use Rattle.ddc_writes.specs.DdcWrites.{syncAtHsel, mdconWritten, iiadrWritten, 
 use Rattle.registers.specs.Table.{updated}
 use Rattle.clocks.specs.Clocks.{periodClock, timerRuns, timerStep, timerClock, watchdogClock, clockedAs, clocked, polarityFound}
 use Rattle.isolation.specs.Foreign.{Trace, Observer, observe, permitted, turnsOff, asksDdc1}
-use Rattle.isolation.proofs.Bits.{address-written, md-written, enddc-written}
+use Rattle.ddc_writes.proofs.Modes.{md-written, enddc-written}
+use Rattle.isolation.proofs.Bits.{address-written}
 use Rattle.isolation.proofs.Related.{frame, observer, Apart, idle, ignoring, address, KeptBy, Related, related, left-released, right-released, kept-status, kept-mdcon, kept-raised-if, kept-cleared}
 
 -- ---- writes
@@ -48,7 +49,7 @@ written-related g s x x′ y y′ k o at-iidat b off md =
     rw (left-released k .scl-free, right-released k .scl-free) (related g true s x x′ (updated IIDAT y b) (updated IIDAT y′ b) k o)
 written-related g s x x′ y y′ k o at-iists b off md =
     let new : ℕ = statusWritten (g .bus .iists) b in
-    let kept = kept-status new (enddc-written (g .bus .iists) b off) o in
+    let kept = kept-status new (enddc-written (g .bus .iists) b ∙ off) o in
     rw (o .ddc2b, kept .ddc2b) (related (withBus g (busOf new (g .bus .iiadr) 0 (g .bus .phase) (g .bus .shifter))) true s x x′ y y′ k kept)
 written-related g s x x′ y y′ k o at-bt b off md = related (withBt g (updated BT (g .bt) b)) true s x x′ y y′ k o
 written-related g s x x′ y y′ k o (at-plain p) b off md = rw (p .iiadr, p .clrwdt) (related g true s x x′ y y′ k o)

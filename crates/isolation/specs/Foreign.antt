@@ -12,6 +12,7 @@ use Rattle.events.specs.Pins as pin
 use Rattle.events.specs.Clocks as clock
 use Rattle.registers.specs.Table.{isWritable}
 use Rattle.events.specs.declared.Decoded.{Decoded}
+use Rattle.events.specs.Kinds.{onRead, onPin}
 use Rattle.events.specs.declared.Decoded.the-variants.{Read, Write, Pin, Clock, Polarity, Refused}
 use Rattle.events.specs.Word.{decode}
 use Rattle.bus.specs.declared.Phase.{Phase}
@@ -26,12 +27,7 @@ use Rattle.run.specs.Run.{after, answers, run, runAnswers}
 
 -- a pin event at SDA, whatever level it brings
 abbrev pub touchesSda : Decoded → Bool
-touchesSda (Read a) = false
-touchesSda (Write a b) = false
-touchesSda (Pin p level) = eqb p pin.SDA
-touchesSda (Clock k) = false
-touchesSda (Polarity vertical level) = false
-touchesSda (Refused n) = false
+touchesSda = onPin false (λ p level. eqb p pin.SDA)
 
 -- words that may stand at one place of the two lists: the same, or both touching SDA
 abbrev pub sameButSda : ℕ → ℕ → Bool
@@ -213,12 +209,7 @@ pub data Begun : Phase → Trace → Type 0 where
 
 -- II DAT is read
 abbrev pub readsData : Decoded → Bool
-readsData (Read a) = eqb a IIDAT
-readsData (Write a b) = false
-readsData (Pin p level) = false
-readsData (Clock k) = false
-readsData (Polarity vertical level) = false
-readsData (Refused n) = false
+readsData = onRead false (λ a. eqb a IIDAT)
 
 -- the part of an answer that is compared: all of it, or bits 31..8 where II DAT is read and the number, bits 31..24, is 0
 abbrev pub comparedAnswer : Decoded → ℕ → ℕ

@@ -7,20 +7,18 @@ use Prim.Native.Nat.{ℕ, _+_, _-_, _*_, _/_, _%_, _<_, _≤_}
 use native.Mathlib.Omega.{arith}
 use native.Mathlib.Nat.{add-zero, zero-add}
 use borrow.Author.Tests.{eqb-true, eqb-false, ltb-true, le-ltb, eq-eqb, ne-eqb, not-true, not-false}
-use lib.Bits.{bitOr}
 use lib.Dec.{eqb, ltb}
 use Rattle.bits.specs.Byte.{pick, num, bit}
 use Rattle.bits.proofs.Finite.{both, neither, T-true, at-each}
 use Rattle.bits.proofs.Level.{pick-by}
-use Rattle.bits.proofs.Bitwise.{bit-or, bit-and, bit-merge}
 use Rattle.registers.specs.Names.{MDCON, IIDAT, IISTS, BTCON}
-use Rattle.registers.specs.Table.{table, rowOf, writeMask, isWritable, updated}
+use Rattle.registers.specs.Table.{table, rowOf, isWritable, updated}
 use Rattle.events.specs.declared.Decoded.{Decoded}
 use Rattle.events.specs.declared.Decoded.the-variants.{Read, Write, Pin, Clock, Polarity, Refused}
 use Rattle.events.specs.Word.{decode}
 use Rattle.counters.specs.Count.{watchdogFires, watchdogNext}
 use Rattle.bus.specs.declared.Mode.{Mode}
-use Rattle.bus.specs.declared.Mode.the-variants.{Off, Ddc1, Ddc2b}
+use Rattle.bus.specs.declared.Mode.the-variants.{Off, Ddc1}
 use Rattle.bus.specs.declared.Edge.{Edge}
 use Rattle.bus.specs.declared.Comparison.{Comparison}
 use Rattle.bus.specs.declared.Phase.{Phase}
@@ -32,9 +30,10 @@ use Rattle.ddc2b.proofs.First.{status-first}
 use Rattle.chip.specs.declared.Bus.{Bus}
 use Rattle.chip.specs.declared.Core.{Core}
 use Rattle.chip.specs.declared.Chip.{Chip}
-use Rattle.chip.specs.State.{busOf, modeOf, released, registerAt, resetAt, resetCore, withReset, withScl, withSda, withWatchdog, withPolarity}
+use Rattle.chip.specs.State.{busOf, modeOf, released, registerAt, resetCore, withReset, withScl, withWatchdog, withPolarity}
 use Rattle.edges.specs.Edges.{busAtMode, busAtRise, onScl, onSclDdc1, sclMoved, onSda, sdaMoved, busAtVsync}
 use Rattle.ddc_writes.specs.DdcWrites.{mdconWritten, iiadrWritten, statusWritten, iistsWritten, busLetGo, busRisen, busAtIidat, iidatWritten}
+use Rattle.ddc_writes.proofs.Modes.{md-written, enddc-written}
 use Rattle.writes.specs.declared.Target.{Target}
 use Rattle.writes.specs.Writes.{clrflgWritten, clrwdtWritten, writtenTo, written, writeRegister}
 use Rattle.writes.proofs.Addresses.{Addressed, at-mdcon, at-hvcon, at-clrflg, at-clrwdt, at-iiadr, at-iidat, at-iists, at-bt, at-plain, addressed}
@@ -156,26 +155,6 @@ unfolding mode
 in-ddc1 h = rw (h .enddc, h .md)
 
 -- ---- writes
-
-md-written : (old b : ℕ) → bit 0 (updated MDCON old b) ≡ bit 0 b
-unfolding writeMask rowOf table bit
-md-written old b = bit-merge 0 0x0f old b (omega arith) (omega arith)
-
-enddc-merged : (old b : ℕ) → bit 3 (updated IISTS old b) ≡ bit 3 b
-unfolding writeMask rowOf table bit
-enddc-merged old b = bit-merge 3 0x0d old b (omega arith) (omega arith)
-
-enddc-mask : bit 3 0xcf ≡ true
-unfolding bit
-enddc-mask = refl
-
-and-or : (x : Bool) → (x && (x || true)) ≡ x
-and-or true = refl
-and-or false = refl
-
-enddc-written : (old b : ℕ) → bit 3 (statusWritten old b) ≡ bit 3 b
-unfolding statusWritten
-enddc-written old b = rw (bit-and 3 (updated IISTS old b) (bitOr b 0xcf), enddc-merged old b, bit-or 3 b 0xcf, enddc-mask) (and-or (bit 3 b))
 
 mode-kept : (iists mdcon iists′ mdcon′ : ℕ) (b : Bus) → bit 3 iists ≡ false → bit 0 mdcon ≡ true → bit 3 iists′ ≡ false → bit 0 mdcon′ ≡ true →
     busAtMode (mode iists mdcon) (mode iists′ mdcon′) b ≡ b

@@ -5,6 +5,7 @@ use lib.Dec.{eqb}
 use Rattle.events.specs.Pins as pin
 use Rattle.events.specs.Clocks as clock
 use Rattle.events.specs.declared.Decoded.{Decoded}
+use Rattle.events.specs.Kinds.{onRead, onClock}
 use Rattle.events.specs.declared.Decoded.the-variants.{Read, Write, Pin, Clock, Polarity, Refused}
 use Rattle.counters.specs.Count.{watchdogFires}
 use Rattle.registers.specs.Names.{BTCON}
@@ -30,12 +31,7 @@ coreAfter c (Refused n) = c .core
 
 -- the watchdog reset the chip
 unfoldable pub watchdogReset : Chip → Decoded → Bool
-watchdogReset c (Read a) = false
-watchdogReset c (Write a b) = false
-watchdogReset c (Pin p level) = false
-watchdogReset c (Clock k) = c .core .reset && (eqb k clock.watchdog && watchdogFires (c .core .watchdog))
-watchdogReset c (Polarity vertical level) = false
-watchdogReset c (Refused n) = false
+watchdogReset c = onClock false (λ k. c .core .reset && (eqb k clock.watchdog && watchdogFires (c .core .watchdog)))
 
 -- the chip was reset, by RESET going low or by the watchdog
 unfoldable pub wasReset : Chip → Decoded → Bool
@@ -74,12 +70,7 @@ numberGiven c (Refused n) = n
 
 -- the byte read, else 0
 unfoldable pub byteGiven : Chip → Decoded → ℕ
-byteGiven c (Read a) = reading c a .byte
-byteGiven c (Write a b) = 0
-byteGiven c (Pin p level) = 0
-byteGiven c (Clock k) = 0
-byteGiven c (Polarity vertical level) = 0
-byteGiven c (Refused n) = 0
+byteGiven c = onRead 0 (λ a. reading c a .byte)
 
 -- all that an event does at a chip, whether well formed or not
 unfoldable pub outcome : Chip → Decoded → Outcome

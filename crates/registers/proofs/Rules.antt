@@ -11,7 +11,7 @@ use lib.ListN.{length, getD, List·getD-map, List·getD-eq-default}
 use Rattle.bits.specs.Finite.{allBelow}
 use Rattle.bits.proofs.Finite.{or-right, at-each, lt-or-le, beq-eq}
 use Rattle.registers.specs.declared.Row.{Row}
-use Rattle.registers.specs.Table.{table, none, rowOf, resetValue, writeMask, readMask, isWritable, isReadable, isRegister, resets, maskChoice}
+use Rattle.registers.specs.Table.{table, none, rowOf, resetValue, writeMask, readMask, isWritable, isReadable, isRegister, resets, maskChoice, readChoice, writableChoice, readableChoice}
 
 -- the table has 38 rows
 pub table-length : length table ≡ 38
@@ -37,49 +37,127 @@ pub readMask-lt : (a : ℕ) → readMask a < 256
 unfolding readMask rowOf
 readMask-lt a = ltb→lt (readMask a) 256 (at-row (λ r. ltb (r .read) 256) tt tt a)
 
--- ---- the write mask as a choice
+-- ---- columns as choices
+
+-- a choice that is the table's column over the 38 rows, and past them what the row of no register has
+as-column : {A : Type 0} (column : Row → A) (choice : ℕ → A) (same : A → A → Bool) → ((x y : A) → T (same x y) → x ≡ y)
+    → T (allBelow (λ a. same (column (rowOf a)) (choice a)) 38) → ((a : ℕ) → 38 ≤ a → choice a ≡ column none) → (a : ℕ) → column (rowOf a) ≡ choice a
+as-column column choice same equal t p a =
+    ⊎-elim (λ (h : a < 38). equal (column (rowOf a)) (choice a) (at-each (λ a. same (column (rowOf a)) (choice a)) 38 t a h))
+    (λ (h : 38 ≤ a). ap column (row-past a h) ∙ sym (p a h)) (lt-or-le a 38)
 
 past : (a k : ℕ) → 38 ≤ a → k < 38 → eqb a k ≡ false
 past a k h l = ne-eqb a k (λ e. absurd (omega arith))
 
--- above 25H no line of the choice is met
-choice-past : (a : ℕ) → 38 ≤ a → maskChoice a ≡ 0
-unfolding maskChoice
-choice-past a h =
-    simp (
-      le-ltb a 38 h,
-      past a 0 h (omega arith),
-      past a 1 h (omega arith),
-      past a 2 h (omega arith),
-      past a 3 h (omega arith),
-      past a 4 h (omega arith),
-      past a 5 h (omega arith),
-      past a 6 h (omega arith),
-      past a 7 h (omega arith),
-      past a 8 h (omega arith),
-      past a 9 h (omega arith),
-      past a 10 h (omega arith),
-      past a 11 h (omega arith),
-      past a 12 h (omega arith),
-      past a 13 h (omega arith),
-      past a 14 h (omega arith),
-      past a 15 h (omega arith),
-      past a 16 h (omega arith),
-      past a 17 h (omega arith),
-      past a 18 h (omega arith),
-      past a 19 h (omega arith),
-      past a 20 h (omega arith),
-      past a 21 h (omega arith),
-      past a 22 h (omega arith),
-      past a 23 h (omega arith),
-    )
+-- above 25H no line of a choice is met
+module _ (a : ℕ) (h : 38 ≤ a) where
+  mask-past : maskChoice a ≡ 0
+  unfolding maskChoice
+  mask-past =
+      simp (
+        le-ltb a 38 h,
+        past a 0 h (omega arith),
+        past a 1 h (omega arith),
+        past a 2 h (omega arith),
+        past a 3 h (omega arith),
+        past a 4 h (omega arith),
+        past a 5 h (omega arith),
+        past a 6 h (omega arith),
+        past a 7 h (omega arith),
+        past a 8 h (omega arith),
+        past a 9 h (omega arith),
+        past a 10 h (omega arith),
+        past a 11 h (omega arith),
+        past a 12 h (omega arith),
+        past a 13 h (omega arith),
+        past a 14 h (omega arith),
+        past a 15 h (omega arith),
+        past a 16 h (omega arith),
+        past a 17 h (omega arith),
+        past a 18 h (omega arith),
+        past a 19 h (omega arith),
+        past a 20 h (omega arith),
+        past a 21 h (omega arith),
+        past a 22 h (omega arith),
+        past a 23 h (omega arith),
+      )
 
--- the choice is the table's column at each address
+  read-past : readChoice a ≡ 0
+  unfolding readChoice
+  read-past =
+      simp (
+        le-ltb a 38 h,
+        past a 0 h (omega arith),
+        past a 1 h (omega arith),
+        past a 2 h (omega arith),
+        past a 3 h (omega arith),
+        past a 4 h (omega arith),
+        past a 5 h (omega arith),
+        past a 6 h (omega arith),
+        past a 7 h (omega arith),
+        past a 8 h (omega arith),
+        past a 9 h (omega arith),
+        past a 10 h (omega arith),
+        past a 11 h (omega arith),
+        past a 12 h (omega arith),
+        past a 13 h (omega arith),
+        past a 14 h (omega arith),
+        past a 15 h (omega arith),
+        past a 16 h (omega arith),
+        past a 17 h (omega arith),
+        past a 18 h (omega arith),
+        past a 19 h (omega arith),
+        past a 20 h (omega arith),
+        past a 21 h (omega arith),
+        past a 22 h (omega arith),
+        past a 23 h (omega arith),
+      )
+
+  writable-past : writableChoice a ≡ false
+  unfolding writableChoice isRegister
+  writable-past =
+      simp (
+        le-ltb a 38 h,
+        past a 7 h (omega arith),
+        past a 8 h (omega arith),
+        past a 9 h (omega arith),
+        past a 10 h (omega arith),
+        past a 14 h (omega arith),
+        past a 16 h (omega arith),
+      )
+
+  readable-past : readableChoice a ≡ false
+  unfolding readableChoice isRegister
+  readable-past =
+      simp (
+        le-ltb a 38 h,
+        past a 2 h (omega arith),
+        past a 11 h (omega arith),
+        past a 12 h (omega arith),
+        past a 15 h (omega arith),
+        past a 17 h (omega arith),
+        past a 18 h (omega arith),
+        past a 19 h (omega arith),
+        past a 22 h (omega arith),
+        past a 23 h (omega arith),
+      )
+
+-- each choice is the table's column at each address
 pub mask-choice : (a : ℕ) → writeMask a ≡ maskChoice a
 unfolding writeMask maskChoice rowOf table
-mask-choice a =
-    ⊎-elim (λ (h : a < 38). eqb→eq (writeMask a) (maskChoice a) (at-each (λ a. eqb (writeMask a) (maskChoice a)) 38 tt a h))
-    (λ (h : 38 ≤ a). ap (λ (r : Row). r .write) (row-past a h) ∙ sym (choice-past a h)) (lt-or-le a 38)
+mask-choice = as-column (λ r. r .write) maskChoice eqb eqb→eq tt mask-past
+
+pub read-choice : (a : ℕ) → readMask a ≡ readChoice a
+unfolding readMask readChoice rowOf table
+read-choice = as-column (λ r. r .read) readChoice eqb eqb→eq tt read-past
+
+pub writable-choice : (a : ℕ) → isWritable a ≡ writableChoice a
+unfolding isWritable writableChoice isRegister rowOf table
+writable-choice = as-column (λ r. r .writable) writableChoice Bool·beq beq-eq tt writable-past
+
+pub readable-choice : (a : ℕ) → isReadable a ≡ readableChoice a
+unfolding isReadable readableChoice isRegister rowOf table
+readable-choice = as-column (λ r. r .readable) readableChoice Bool·beq beq-eq tt readable-past
 
 -- ---- what is refused has no bit
 

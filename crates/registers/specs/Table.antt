@@ -124,6 +124,62 @@ isWritable a = rowOf a .writable
 unfoldable pub isReadable : ℕ → Bool
 isReadable a = rowOf a .readable
 
+-- these three columns as choices too, equal to the table's at every address by `Rules.read-choice`, `writable-choice` and
+-- `readable-choice`
+unfoldable pub readChoice : ℕ → ℕ
+readChoice a =
+    pick (eqb a PT0) 0xff
+    (pick (eqb a PT1) 0x7f
+    (pick (eqb a PT2DIR) 0x00
+    (pick (eqb a PT2) 0xff
+    (pick (eqb a PT3) 0x03
+    (pick (eqb a MDCON) 0x03
+    (pick (eqb a HVCON) 0xfc
+    (pick (eqb a HCNTL) 0xff
+    (pick (eqb a HCNTH) 0x0f
+    (pick (eqb a VCNTL) 0xff
+    (pick (eqb a VCNTH) 0x0f
+    (pick (eqb a SYNCON) 0x00
+    (pick (eqb a ENDAC) 0x00
+    (pick (eqb a AD0) 0xc0
+    (pick (eqb a AD1) 0x00
+    (pick (eqb a IEX) 0x00
+    (pick (eqb a IRQX) 0x3f
+    (pick (eqb a CLRFLG) 0x00
+    (pick (eqb a CLRWDT) 0x00
+    (pick (eqb a IIADR) 0x00
+    (pick (eqb a IIDAT) 0xff
+    (pick (eqb a IISTS) 0x3e
+    (pick (eqb a BT) 0x00
+    (pick (eqb a BTCON) 0x00
+    (pick (ltb a 0x26) 0xff  -- DACH0 to DACH13
+    0x00))))))))))))))))))))))))
+
+-- every register but six takes writes
+unfoldable pub writableChoice : ℕ → Bool
+writableChoice a =
+    pick (eqb a HCNTL) false
+    (pick (eqb a HCNTH) false
+    (pick (eqb a VCNTL) false
+    (pick (eqb a VCNTH) false
+    (pick (eqb a AD1) false
+    (pick (eqb a IRQX) false
+    (isRegister a))))))
+
+-- every register but nine takes reads
+unfoldable pub readableChoice : ℕ → Bool
+readableChoice a =
+    pick (eqb a PT2DIR) false
+    (pick (eqb a SYNCON) false
+    (pick (eqb a ENDAC) false
+    (pick (eqb a IEX) false
+    (pick (eqb a CLRFLG) false
+    (pick (eqb a CLRWDT) false
+    (pick (eqb a IIADR) false
+    (pick (eqb a BT) false
+    (pick (eqb a BTCON) false
+    (isRegister a)))))))))
+
 -- the reset values of all registers, in order
 unfoldable pub resets : List ℕ
 unfolding table

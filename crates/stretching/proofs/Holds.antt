@@ -5,13 +5,11 @@ use mathlib.Core.Bool.{Bool, true, false, not, _&&_, _||_}
 use Prim.Native.Nat.{ℕ}
 use native.Mathlib.Omega.{arith}
 use borrow.Author.Tests.{eqb-true}
-use lib.Bits.{bitOr}
 use lib.Dec.{eqb}
 use Rattle.bits.specs.Byte.{pick, bit}
 use Rattle.bits.proofs.Level.{pick-by}
-use Rattle.bits.proofs.Bitwise.{bit-or, bit-and, bit-merge}
 use Rattle.registers.specs.Names.{MDCON, IIDAT, IISTS, BTCON}
-use Rattle.registers.specs.Table.{table, rowOf, writeMask, isWritable, updated}
+use Rattle.registers.specs.Table.{table, rowOf, isWritable, updated}
 use Rattle.events.specs.declared.Decoded.{Decoded}
 use Rattle.events.specs.declared.Decoded.the-variants.{Read, Write, Pin, Clock, Polarity, Refused}
 use Rattle.bus.specs.declared.Mode.the-variants.{Off, Ddc2b}
@@ -31,6 +29,7 @@ use Rattle.chip.specs.declared.Chip.{Chip}
 use Rattle.chip.specs.State.{busOf, modeOf, released, registerAt, resetAt, resetCore, withReset, withScl, withSda, withWatchdog}
 use Rattle.edges.specs.Edges.{busAtMode, busAtRise, onScl, onSclDdc2b, sclMoved, onSda, onSdaDdc2b, sdaMoved, busAtVsync}
 use Rattle.ddc_writes.specs.DdcWrites.{mdconWritten, iiadrWritten, statusWritten, iistsWritten, busLetGo, busRisen, busAtIidat, iidatWritten}
+use Rattle.ddc_writes.proofs.Modes.{md-written, enddc-written}
 use Rattle.writes.specs.declared.Target.{Target}
 use Rattle.writes.specs.Writes.{clrflgWritten, clrwdtWritten, writtenTo, written, writeRegister}
 use Rattle.writes.proofs.Addresses.{Addressed, at-mdcon, at-hvcon, at-clrflg, at-clrwdt, at-iiadr, at-iidat, at-iists, at-bt, at-plain, addressed}
@@ -63,27 +62,6 @@ plain : {n : ℕ} {c : Chip} {e : Decoded} {after : Core} → letsGo c e ≡ fal
 plain {c = c} {e = e} t k h = record { kept = λ _. rw k h; over = λ z. clash (letsGo c e) z t }
 
 -- ---- the mode
-
--- the bits of the mode as they are written
-md-written : (old b : ℕ) → bit 0 (updated MDCON old b) ≡ bit 0 b
-unfolding writeMask rowOf table bit
-md-written old b = bit-merge 0 0x0f old b (omega arith) (omega arith)
-
-enddc-merged : (old b : ℕ) → bit 3 (updated IISTS old b) ≡ bit 3 b
-unfolding writeMask rowOf table bit
-enddc-merged old b = bit-merge 3 0x0d old b (omega arith) (omega arith)
-
-enddc-mask : bit 3 0xcf ≡ true
-unfolding bit
-enddc-mask = refl
-
-and-or : (x : Bool) → (x && (x || true)) ≡ x
-and-or true = refl
-and-or false = refl
-
-enddc-written : (old b : ℕ) → bit 3 (statusWritten old b) ≡ bit 3 b
-unfolding statusWritten
-enddc-written old b = rw (bit-and 3 (updated IISTS old b) (bitOr b 0xcf), enddc-merged old b, bit-or 3 b 0xcf, enddc-mask) (and-or (bit 3 b))
 
 -- from DDC2B: to DDC2B nothing moves, and to another mode the bus is released
 module _ (iists mdcon iists′ mdcon′ : ℕ) (b : Bus) (e : bit 3 iists ≡ false) (m : bit 0 mdcon ≡ false) where

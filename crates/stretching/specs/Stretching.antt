@@ -7,7 +7,7 @@ use lib.Dec.{eqb, ltb}
 use Rattle.bits.specs.Byte.{pick, bit}
 use Rattle.registers.specs.Names.{MDCON, IIDAT, IISTS, MD12, ENDDC}
 use Rattle.events.specs.declared.Decoded.{Decoded}
-use Rattle.events.specs.declared.Decoded.the-variants.{Read, Write, Pin, Clock, Polarity, Refused}
+use Rattle.events.specs.Kinds.{onWrite}
 use Rattle.bus.specs.declared.OwnAddress.{OwnAddress}
 use Rattle.bus.specs.declared.Phase.the-variants.{Held}
 use Rattle.bus.specs.Bus.{pullsScl}
@@ -33,12 +33,7 @@ takesScl c e = fallsScl c e && (inDdc2b c && inNinthClock (c .core .bus .phase))
 
 -- a byte is written to II DAT while RESET is high
 abbrev pub writesData : Chip → Decoded → Bool
-writesData c (Read a) = false
-writesData c (Write a b) = eqb a IIDAT && c .core .reset
-writesData c (Pin p level) = false
-writesData c (Clock k) = false
-writesData c (Polarity vertical level) = false
-writesData c (Refused n) = false
+writesData c = onWrite false (λ a b. eqb a IIDAT && c .core .reset)
 
 -- what lets SCL go: a reset, by RESET going low or by the watchdog; a write to II DAT; ENDDC of II STS or MD1/2 of MDCON written
 -- other than it is

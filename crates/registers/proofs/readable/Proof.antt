@@ -1,14 +1,25 @@
--- `registers::readable` meets its contract.
+-- `registers::readable` meets its contract: each arm is the choice, and the choice is the table's column.
 -- Assumes nothing.
 use borrow.Author.Needs.{needs}
-use Rattle.registers.specs.Table.{isReadable}
+use borrow.Author.Tests.{ne-eqb}
+use Rattle.registers.specs.Table.{readableChoice}
+use Rattle.registers.proofs.Rules.{readable-choice}
 use Rattle.registers.proofs.readable.Statement.{statement}
 use Rattle.registers.proofs.readable.Tie as tie
 
 pub readable-spec : {M : Type 1} → statement M
-unfolding isReadable
+unfolding readableChoice
 readable-spec =
     tie.close
     (tie.spec
     (λ c κs. search needs)
-    (λ c. rw (c .row-of .ensures)))
+    (λ c. simp (readable-choice, c .match .keys1))
+    (λ c. simp (readable-choice, c .match .keys2))
+    (λ c. simp (readable-choice, c .match .keys3))
+    (λ c. simp (readable-choice, c .match .keys4))
+    (λ c. simp (readable-choice, c .match .keys5))
+    (λ c. simp (readable-choice, c .match .keys6))
+    (λ c. simp (readable-choice, c .match .keys7))
+    (λ c. simp (readable-choice, c .match .keys8))
+    (λ c. simp (readable-choice, c .match .keys9))
+    (λ c. simp (readable-choice, c .is-register .ensures, ne-eqb _ _ (c .before .match .rest .1), ne-eqb _ _ (c .before .match .rest .0 .1), ne-eqb _ _ (c .before .match .rest .0 .0 .1), ne-eqb _ _ (c .before .match .rest .0 .0 .0 .1), ne-eqb _ _ (c .before .match .rest .0 .0 .0 .0 .1), ne-eqb _ _ (c .before .match .rest .0 .0 .0 .0 .0 .1), ne-eqb _ _ (c .before .match .rest .0 .0 .0 .0 .0 .0 .1), ne-eqb _ _ (c .before .match .rest .0 .0 .0 .0 .0 .0 .0 .1), ne-eqb _ _ (c .before .match .rest .0 .0 .0 .0 .0 .0 .0 .0 .1))))
