@@ -1,5 +1,5 @@
-/* Calls of the proved libraries for programs in C. A slice of a library passes as a pointer and a length. A library NAME is made by
- * `rt staticlib NAME` as target/staticlib/libNAME.a. */
+/* Calls of the proved libraries for programs in C. A slice of a library passes as a pointer and a length; what is lent to one call does not
+ * overlap. A library NAME is made by `rt staticlib NAME` as target/staticlib/libNAME.a. */
 #ifndef NT6861_H
 #define NT6861_H
 
@@ -15,7 +15,7 @@ extern "C" {
  * A chip is a state in an area of 128 bytes that the caller lends (docs/STATE.md). It may be copied, stored in a file and lent again;
  * the library keeps nothing. An area of another length answers 15, and bytes that no well formed state is written as answer 8,
  * both before all else. On every refusal the area keeps its bytes. An area is zeros at first or anything else: nt6861_fresh makes
- * it a chip. Areas, words, answers and hertz that are lent to one call do not overlap. */
+ * it a chip. */
 
 /* A fresh chip into the area: reset values, all outside levels 1. Gives 0, or 15. */
 uint8_t nt6861_fresh(uint8_t *area, size_t length);
@@ -128,12 +128,20 @@ uint8_t nt6861_why(const uint8_t *area, size_t area_length, const uint32_t *word
  * rom 24,576. An event has in bits 63..32 the number of the instruction that it precedes, counted from 0, and below them its word; its
  * answer goes to the place of the same index. counts has two places: instructions counted, and events given (modulo 2^32).
  *
- * Returns 0, or the number of the refusal of an instruction (5, 6, 20, 21), which leaves all as it was before that instruction. Or
- * nothing is touched: 15 for a wrong length of cpu, ram, area or counts, before all else; then 8 for bytes that no well formed state is
+ * Returns 0, or the number of the refusal of an instruction (5, 6, 20, 21): CPU, RAM and chip are then as that instruction's events and
+ * interrupt left them, and answers and counts tell what was given. Or nothing is touched: 15 for a wrong length of cpu, ram, area or counts, before all else; then 8 for bytes that no well formed state is
  * written as or more than 31 cycles, 22 for a ROM of another length, 7 for fewer answer places than events. */
 uint8_t nt6861_firmware(uint8_t *cpu, size_t cpu_length, uint8_t *ram, size_t ram_length, const uint8_t *rom, size_t rom_length,
                         uint8_t *area, size_t area_length, const uint64_t *events, size_t events_length, uint32_t *answers,
                         size_t answers_length, uint32_t instructions, uint32_t *counts, size_t counts_length);
+
+/* ---- rates of latches: library rates_capi
+ *
+ * The rates in hertz by the latches alone, as document 01 has them; 0 where there is none (a latch of 0, or above 4095). v is the latch of VCNT,
+ * h that of HCNT: the field rate, the line rate at HSEL 0, and the line rate at HSEL 1. */
+double nt6861_field_rate(uint16_t v);
+double nt6861_interval_rate(uint16_t h);
+double nt6861_line_rate(uint16_t h, uint16_t v);
 
 #ifdef __cplusplus
 }

@@ -75,6 +75,9 @@ if grep -q '^firmware_capi:' crates.txt; then
     rt staticlib firmware_capi > "$work/log" 2>&1 || { cat "$work/log"; exit 1; }
     cargo build --offline --quiet --release --features proved,area --bin firmware_compare
     target/cargo/release/firmware_compare
+    rt staticlib capi > "$work/log" 2>&1 || { cat "$work/log"; exit 1; }
+    cc -Wall -Wextra -Werror -Iinclude tests/firmware.c -o "$work/c" target/staticlib/libfirmware_capi.a target/staticlib/libcapi.a
+    "$work/c" < firmware/sort.rom
 fi
 
 # what a host reads, as lines of sixteen bytes

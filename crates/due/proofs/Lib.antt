@@ -3,3 +3,4 @@ pub mod Steps
 pub mod Lists
 pub mod Reasons
 pub mod Refused
+pub mod Numbers
