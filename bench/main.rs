@@ -1,5 +1,7 @@
-//! Words a second: the proved list call, linked from its static library, beside the independent model in the same run; then the calls
-//! on a state in bytes. Usage: bench SEED COUNT
+//! Words a second: the proved list call, linked from its static library, beside the independent model, run by run in turn; then the
+//! calls on a state in bytes. Usage: bench [SEED [COUNT]]
+//! `bench instructions CALL COUNT` makes one call of COUNT words, or COUNT calls of one, and prints nothing: for callgrind, which counts
+//! the instructions of two lengths (scripts/check-instructions.sh).
 
 #[path = "../tests/nt6861.rs"]
 #[allow(dead_code)]
@@ -30,6 +32,24 @@ fn seconds(mut run: impl FnMut()) -> f64 {
     best
 }
 
+/// The two in turn, so that other work disturbs both alike: the best of each in seconds, and the median of the ratios of their speeds.
+fn in_turn(mut ours: impl FnMut(), mut theirs: impl FnMut()) -> (f64, f64, f64) {
+    let begin = Instant::now();
+    let (mut a, mut b) = (f64::MAX, f64::MAX);
+    let mut ratios = Vec::new();
+    while ratios.len() < 21 || begin.elapsed().as_secs_f64() < 1.0 {
+        let start = Instant::now();
+        ours();
+        let middle = Instant::now();
+        theirs();
+        let (x, y) = ((middle - start).as_secs_f64(), middle.elapsed().as_secs_f64());
+        (a, b) = (a.min(x), b.min(y));
+        ratios.push(y / x);
+    }
+    ratios.sort_by(f64::total_cmp);
+    (a, b, ratios[ratios.len() / 2])
+}
+
 /// Calls on a fresh state in bytes, a list of so many words at a time, in ns a word.
 fn in_lists(words: &[u32], answers: &mut [u32], of: usize) -> f64 {
     let mut area = [0u8; state::SIZE];
@@ -54,20 +74,44 @@ fn by_steps(words: &[u32], answers: &mut [u32], step: fn(&mut [u8], u32) -> u32)
     best * 1e9 / words.len() as f64
 }
 
+/// One call, for the instruction count.
+fn counted(call: &str, count: usize) {
+    let words: Vec<u32> = traffic::Traffic::new(1).take(count).collect();
+    let mut answers = vec![0u32; count];
+    let mut area = [0u8; state::SIZE];
+    assert_eq!(nt6861::fresh(&mut area), 0);
+    match call {
+        "none" => {}
+        "list" => assert_eq!(nt6861::replay(&words, &mut answers), 0),
+        "model" => model(&words, &mut answers),
+        "step" => {
+            for (answer, word) in answers.iter_mut().zip(&words) {
+                *answer = nt6861::step(&mut area, *word);
+            }
+        }
+        other => panic!("no call: {other}"),
+    }
+    assert!(answers.len() == words.len());
+}
+
 fn main() {
+    if std::env::args().nth(1).as_deref() == Some("instructions") {
+        let mut args = std::env::args().skip(2);
+        let call = args.next().expect("a call");
+        return counted(&call, args.next().expect("a count").parse().expect("a number"));
+    }
     let mut args = std::env::args().skip(1).map(|a| a.parse::<u64>().expect("a number"));
     let seed = args.next().unwrap_or(1);
     let most = args.next().unwrap_or(4_000_000) as usize;
-    println!("words, list call in M words/s, model in M words/s, ratio");
+    println!("words, list call in M words/s, model in M words/s, median of the ratios");
     for count in [most / 64, most / 16, most / 4, most] {
         let words: Vec<u32> = traffic::Traffic::new(seed).take(count).collect();
         let mut ours = vec![0u32; count];
         let mut theirs = vec![0u32; count];
         let rate = |seconds: f64| count as f64 / seconds / 1e6;
-        let a = rate(seconds(|| assert_eq!(nt6861::replay(&words, &mut ours), 0)));
-        let b = rate(seconds(|| model(&words, &mut theirs)));
+        let (a, b, ratio) = in_turn(|| assert_eq!(nt6861::replay(&words, &mut ours), 0), || model(&words, &mut theirs));
         assert!(ours == theirs, "the answers differ");
-        println!("{count}, {a:.1}, {b:.1}, {:.2}", a / b);
+        println!("{count}, {:.1}, {:.1}, {ratio:.2}", rate(a), rate(b));
     }
 
     let count = most / 400;

@@ -8,7 +8,6 @@ use native.Mathlib.Numerals.{add-one}
 use lib.ListN.{length, take, drop, getD, set, length-set, take-append-drop}
 use lib.Seq.{drop-cons, take-suc-set, drop-set-lt, drop-length, drop-drop}
 use Rattle.events.specs.Word.{decode}
-use Rattle.events.specs.declared.Decoded.{Decoded}
 use Rattle.chip.specs.declared.Chip.{Chip}
 use Rattle.chip.specs.State.{chipOf}
 use Rattle.step.specs.declared.CoreStepped.{CoreStepped}
@@ -24,16 +23,16 @@ pub record Done (ws old : List ℕ) (c : Chip) (now : List ℕ) (s : Chip) (i : 
   pub rest : drop i now ≡ drop i old
 
 module _ (ws old : List ℕ) (c : Chip) (now : List ℕ) (s : Chip) (i : ℕ) (d : Done ws old c now s i) where
-  pub more : i < length ws → length ws ≤ length old → (e : Decoded) → e ≡ decode (getD ws i 0) → (r : CoreStepped) → r ≡ coreOf (advance s e)
-      → (registers : List ℕ) → registers ≡ advance s e .chip .registers
+  pub more : i < length ws → length ws ≤ length old → (r : CoreStepped) → r ≡ coreOf (advance s (decode (getD ws i 0)))
+      → (registers : List ℕ) → registers ≡ advance s (decode (getD ws i 0)) .chip .registers
       → Done ws old c (set now i (r .answer)) (chipOf registers (r .core)) (i + 1)
-  more h k e p r q registers l =
+  more h k r q registers l =
       let hn : i < length now = omega (arith, d .same) in
       record {
         within = omega arith;
         same = simp length-set (d .same);
-        state = rw (add-one, q, l, p) (rw (drop-cons ws i 0 h) at (d .state));
-        written = rw (add-one, take-suc-set now i (r .answer) hn, append-assoc, q, l, p) (rw (drop-cons ws i 0 h) at (d .written));
+        state = rw (add-one, q, l) (rw (drop-cons ws i 0 h) at (d .state));
+        written = rw (add-one, take-suc-set now i (r .answer) hn, append-assoc, q, l) (rw (drop-cons ws i 0 h) at (d .written));
         rest = drop-set-lt (i + 1) now i (r .answer) (omega arith) ∙ sym (drop-drop 1 i now) ∙ ap (drop 1) (d .rest) ∙ drop-drop 1 i old;
       }
 

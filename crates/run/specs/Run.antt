@@ -1,12 +1,18 @@
 -- A list of words given to the chip (document 01, "Numbers given back" and "How tight each statement is").
 use Prim.Native.Nat.{ℕ}
 use mathlib.Core.List.{List, [], _∷_, _++_}
+use mathlib.Core.Bool.{false}
 use lib.Dec.{ltb}
 use lib.ListN.{length, drop}
 use Rattle.bits.specs.Byte.{pick}
 use Rattle.events.specs.Word.{decode}
+use Rattle.answers.specs.Answer.{answerWord}
+use Rattle.registers.specs.Names.{IEX}
+use Rattle.chip.specs.declared.Core.{Core}
 use Rattle.chip.specs.declared.Chip.{Chip}
+use Rattle.chip.specs.State.{registerAt, requested}
 use Rattle.well_formed.specs.WellFormed.{wellFormed}
+use Rattle.step.specs.declared.CoreStepped.{CoreStepped}
 use Rattle.step.specs.Step.{step, advance}
 use Rattle.run.specs.declared.RunResult.{RunResult}
 
@@ -30,23 +36,30 @@ abbrev pub advancedAnswers : Chip → List ℕ → List ℕ
 advancedAnswers c [] = []
 advancedAnswers c (w ∷ ws) = advance c (decode w) .answer ∷ advancedAnswers (advance c (decode w) .chip) ws
 
+-- ---- a word that moves the core alone, and is answered with the request lines
+
+abbrev pub coreMoved : List ℕ → Core → CoreStepped
+coreMoved registers c = record { core = c; answer = answerWord 0 false (requested (c .irqx) (registerAt registers IEX)) 0 }
+
 -- ---- the list call
 
 abbrev pub runResult : Chip → ℕ → RunResult
 runResult c number = record { chip = c; number = number }
 
--- what it gives back: 8 at an ill formed state, then 7 where there are fewer answer places than words, else 0 and the chip
--- after the words
-unfoldable pub run : Chip → List ℕ → List ℕ → RunResult
-run c words places =
-    pick (wellFormed c)
-    (pick (ltb (length places) (length words)) (runResult c 7) (runResult (advanced c words) 0))
-    (runResult c 8)
+-- of a state that is not tested, what it gives back: 7 where there are fewer answer places than words, else 0 and the chip after the
+-- words
+abbrev pub advanceAll : Chip → List ℕ → List ℕ → RunResult
+advanceAll c words places = pick (ltb (length places) (length words)) (runResult c 7) (runResult (advanced c words) 0)
 
 -- what it leaves in the answer places: an answer for each word and, past them, what was there; nothing is written where it is
 -- refused
+abbrev pub advanceAllAnswers : Chip → List ℕ → List ℕ → List ℕ
+advanceAllAnswers c words places =
+    pick (ltb (length places) (length words)) places (advancedAnswers c words ++ drop (length words) places)
+
+-- the list call tests the state first: 8 at an ill formed one
+unfoldable pub run : Chip → List ℕ → List ℕ → RunResult
+run c words places = pick (wellFormed c) (advanceAll c words places) (runResult c 8)
+
 unfoldable pub runAnswers : Chip → List ℕ → List ℕ → List ℕ
-runAnswers c words places =
-    pick (wellFormed c)
-    (pick (ltb (length places) (length words)) places (advancedAnswers c words ++ drop (length words) places))
-    places
+runAnswers c words places = pick (wellFormed c) (advanceAllAnswers c words places) places

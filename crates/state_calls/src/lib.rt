@@ -1,7 +1,9 @@
 // A state in a lent area of 128 bytes: a fresh one, the step, the list call, the hold of SCL and the address outcome.
 ghost use mathlib.Core.Path.{_≡_};
+ghost use mathlib.Core.Bool.{true};
 ghost use Prim.Native.Nat.{_*_};
 ghost use Rattle.chip.specs.State.{fresh as freshOf};
+ghost use Rattle.well_formed.specs.WellFormed.{wellFormed};
 ghost use Rattle.step.specs.Step.{step as stepOf};
 ghost use Rattle.state_area.specs.Area.{storeNumber, storeLeft};
 ghost use Rattle.state_calls.specs.Calls.{stepArea, stepAnswer, runNumber, runArea, runPlaces, holdIn, outcomeIn};
@@ -23,14 +25,15 @@ pub fn fresh(area: &mut [u8]) -> u8
     state_area::store(chip::fresh(), area)
 }
 
-// The step, by the list call on one word: the code that carries out an event then stands at one place of a library that has both, and
-// the compiler puts it into the loop. The answer of an ill formed state stands in the place, which the list call then leaves.
+// The step of a well formed state, by the list call on one word: the code that carries out an event then stands at one place of a
+// library that has both, and the compiler puts it into the loop. The area was read as a well formed state: it is not tested again.
 fn stepped(c: Chip, word: u32) -> Stepped
+    requires { ⌜ wellFormed c ≡ true ⌝ }
     ensures { λ r. ⌜ r ≡ stepOf c word ⌝ }
 {
     let words = [word];
-    let mut places = [0x0800_0000];
-    let done = run::run(c, &words, &mut places);
+    let mut places = [0];
+    let done = run::advance_all(c, &words, &mut places);
     let after = done.chip;
     Stepped {
         chip: after,
@@ -65,7 +68,7 @@ pub fn run(area: &mut [u8], words: &[u32], answers: &mut [u32]) -> u8
     let number = read.number;
     if number == 0 {
         let c = read.state;
-        let done = run::run(c, words, answers);
+        let done = run::advance_all(c, words, answers);
         let after = done.chip;
         state_area::put(after, area);
         done.number

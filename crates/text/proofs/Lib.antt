@@ -1,5 +1,6 @@
 pub mod Move
 pub mod Words
 pub mod Lines
+pub mod Some
 pub mod Stream
 pub mod Parts

@@ -8,6 +8,20 @@ use native.Mathlib.Numerals.{add-one}
 use lib.ListN.{length, take, drop, getD, set, length-append, length-drop}
 use lib.Seq.{take-all, take-suc, drop-cons, getD-drop, getD-append-add, set-at, append-snoc, length-take-le}
 
+-- the first elements of src over those of old, and one more
+pub filled-more : (src old now : List ℕ) (i a : ℕ) → i < length src → i < length old → now ≡ take i src ++ drop i old → a ≡ getD src i 0
+    → set now i a ≡ take (i + 1) src ++ drop (i + 1) old
+filled-more src old now i a h k e p =
+    ap₂ (λ (l : List ℕ) (x : ℕ). set l i x) (e ∙ ap (λ (t : List ℕ). take i src ++ t) (drop-cons old i 0 k)) p
+    ∙ set-at (take i src) (getD old i 0) (drop (suc i) old) (getD src i 0) i (length-take-le i src (omega arith))
+    ∙ sym (append-snoc (take i src) (getD src i 0) (drop (suc i) old))
+    ∙ ap (λ (t : List ℕ). t ++ drop (suc i) old) (sym (take-suc src i 0 h))
+    ∙ ap (λ (j : ℕ). take j src ++ drop j old) (sym (add-one i))
+
+pub filled-length : (src old now : List ℕ) (i : ℕ) → i ≤ length src → i ≤ length old → now ≡ take i src ++ drop i old → length now ≡ length old
+filled-length src old now i h k e =
+    ap length e ∙ length-append (take i src) (drop i old) ∙ omega (arith, length-take-le i src h, length-drop i old)
+
 -- of the elements from an index on, i are moved
 pub record Moved (old : List ℕ) (from : ℕ) (now : List ℕ) (i : ℕ) : Type 0 where
   pub within : i ≤ length old - from
@@ -37,17 +51,9 @@ module _ (old : List ℕ) (from : ℕ) (h : from ≤ length old) where
   -- one more
   pub more : (now : List ℕ) (i : ℕ) → Moved old from now i → i < length old - from → Moved old from (set now i (getD now (from + i) 0)) (i + 1)
   more now i m k =
-      let s = drop from old in
-      let n = length-drop from old in
-      let rest : drop i old ≡ getD old i 0 ∷ drop (suc i) old = drop-cons old i 0 (omega arith) in
       record {
         within = omega arith;
-        moved =
-            ap₂ (λ (l : List ℕ) (a : ℕ). set l i a) (m .moved ∙ ap (λ (t : List ℕ). take i s ++ t) rest) (kept now i m)
-            ∙ set-at (take i s) (getD old i 0) (drop (suc i) old) (getD s i 0) i (front i (m .within))
-            ∙ sym (append-snoc (take i s) (getD s i 0) (drop (suc i) old))
-            ∙ ap (λ (t : List ℕ). t ++ drop (suc i) old) (sym (take-suc s i 0 (omega (arith, n))))
-            ∙ ap (λ (j : ℕ). take j s ++ drop j old) (sym (add-one i));
+        moved = filled-more (drop from old) old now i (getD now (from + i) 0) (omega (arith, length-drop from old)) (omega arith) (m .moved) (kept now i m);
       }
 
   pub all : (now : List ℕ) (i : ℕ) → Moved old from now i → length old - from ≤ i → now ≡ drop from old ++ drop (length old - from) old

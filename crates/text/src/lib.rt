@@ -7,7 +7,6 @@ ghost use Rattle.run.specs.Run.{advanced, advancedAnswers};
 ghost use Rattle.hex.specs.Hex.{hexLine};
 ghost use Rattle.text.specs.Text.{hexLines, wordsOf, leftOverAnswer, answered, answeredText, partAnswered, partText, partBytes};
 use chip::Chip;
-use step::Stepped;
 
 // What a block gives: the chip after its words, and the bytes of text written.
 pub struct Answered {
@@ -50,24 +49,71 @@ fn word_at(bytes: &[u8], i: usize) -> u32
     a + b * 256 + c * 65536 + d * 16777216
 }
 
-// Every whole word to the chip, and the lines of the answers to the start of the text. The loop carries the step's whole
-// result, which saves a copy of the chip.
+// As many words as `count` says, from an index on, to the start of the places.
+fn read_words(bytes: &[u8], from: usize, count: usize, words: &mut [u32])
+    requires { ⌜ (from + count ≤ length (now bytes) / 4) × (count ≤ length (now words)) ⌝ }
+    ensures { λ _. ⌜ now (words .exit) ≡ take count (drop from (wordsOf (now (bytes .entry)))) ++ drop count (now (words .entry)) ⌝ }
+{
+    let mut i = 0;
+    while i < count {
+        words[i] = word_at(bytes, from + i);
+        i += 1;
+    }
+}
+
+// The lines of answers, from the line with an index on.
+fn put_lines(answers: &[u32], text: &mut [u8], from: usize)
+    requires { ⌜ 9 * (from + length (now answers)) ≤ length (now text) ⌝ }
+    ensures { λ _. ⌜ now (text .exit) ≡ take (9 * from) (now (text .entry)) ++ (hexLines (now (answers .entry)) ++ drop (9 * (from + length (now (answers .entry)))) (now (text .entry))) ⌝ }
+{
+    let mut i = 0;
+    while i < answers.len() {
+        put_line(text, 9 * (from + i), answers[i]);
+        i += 1;
+    }
+}
+
+// Places for 1,024 words, or for their answers.
+fn places() -> [u32; 1024]
+    ensures { λ r. ⌜ 1024 ≡ length r ⌝ }
+{
+    [0; 1024]
+}
+
+// Words of the stream, from an index on, to the chip, and the lines of their answers to their place in the text: by the list call,
+// whose loop carries no chip from word to word.
+fn answer_some(c: Chip, bytes: &[u8], from: usize, count: usize, text: &mut [u8]) -> Chip
+    requires { ⌜ (count ≤ 1024) × ((from + count ≤ length (now bytes) / 4) × (9 * (from + count) ≤ length (now text))) ⌝ }
+    ensures { λ r. ⌜ (r ≡ advanced c (take count (drop from (wordsOf (now (bytes .entry)))))) × (now (text .exit) ≡ take (9 * from) (now (text .entry)) ++ (hexLines (advancedAnswers c (take count (drop from (wordsOf (now (bytes .entry)))))) ++ drop (9 * (from + count)) (now (text .entry)))) ⌝ }
+{
+    let mut words = places();
+    let mut answers = places();
+    read_words(bytes, from, count, &mut words);
+    let done = run::advance_all(c, &words[..count], &mut answers);
+    put_lines(&answers[..count], text, from);
+    let after = done.chip;
+    after
+}
+
+// How many words are answered at a time, where so many are left.
+fn at_a_time(left: usize) -> usize
+    ensures { λ r. ⌜ (r ≤ 1024) × ((r ≤ left) × (0 < left → 0 < r)) ⌝ }
+{
+    if left < 1024 { left } else { 1024 }
+}
+
+// Every whole word to the chip, and the lines of the answers to the start of the text.
 fn answer_words(start: Chip, bytes: &[u8], text: &mut [u8]) -> Chip
     requires { ⌜ 9 * (length (now bytes) / 4) ≤ length (now text) ⌝ }
     ensures { λ r. ⌜ (r ≡ advanced start (wordsOf (now (bytes .entry)))) × (now (text .exit) ≡ hexLines (advancedAnswers start (wordsOf (now (bytes .entry)))) ++ drop (9 * (length (now (bytes .entry)) / 4)) (now (text .entry))) ⌝ }
 {
-    let mut r = Stepped {
-        chip: start,
-        answer: 0,
-    };
+    let mut c = start;
     let mut i = 0;
     while i < bytes.len() / 4 {
-        let c = r.chip;
-        r = step::advance(c, events::decode(word_at(bytes, i)));
-        put_line(text, 9 * i, r.answer);
-        i += 1;
+        let count = at_a_time(bytes.len() / 4 - i);
+        c = answer_some(c, bytes, i, count, text);
+        i += count;
     }
-    let c = r.chip;
     c
 }
 

@@ -19,17 +19,14 @@ abbrev μ-loop : tie.MeasureT-loop
 loop-holds : tie.Need-loop-holds Inv-loop μ-loop
 loop-holds c = record { within = search needs; same = refl; state = refl; written = refl; rest = refl }
 
-mul-decode : tie.Need-mul-decode Inv-loop μ-loop
-mul-decode c = search needs
+mul-advance-word : tie.Need-mul-advance-word Inv-loop μ-loop
+mul-advance-word c = search needs
 
-shared-slice-read-decode : tie.Need-shared-slice-read-decode Inv-loop μ-loop
-shared-slice-read-decode c = search needs
+shared-slice-read-advance-word : tie.Need-shared-slice-read-advance-word Inv-loop μ-loop
+shared-slice-read-advance-word c = search needs
 
-decode-requires : tie.Need-decode-requires Inv-loop μ-loop
-decode-requires c κs = search needs
-
-advance-core-requires : tie.Need-advance-core-requires Inv-loop μ-loop
-advance-core-requires c κs = search needs
+advance-word-requires : tie.Need-advance-word-requires Inv-loop μ-loop
+advance-word-requires c κs = search needs
 
 mul-answers : tie.Need-mul-answers Inv-loop μ-loop
 mul-answers c = search needs
@@ -45,9 +42,9 @@ loop-less c = omega arith
 
 loop-again : tie.Need-loop-again Inv-loop μ-loop
 loop-again c =
-    let l = c .before .before .before .before .before .before in
-    let done = c .before .advance-core .ensures in
-    more _ _ _ _ _ _ (l .loop .inv) (c .before .before .before .before .before .loop-test .taken) (l .before .before .before .before .before .pre) _ (c .before .before .decode .ensures .0) _ (done .0) _ (done .1)
+    let l = c .before .before .before .before .before in
+    let done = c .before .advance-word .ensures in
+    more _ _ _ _ _ _ (l .loop .inv) (c .before .before .before .before .loop-test .taken) (l .before .before .before .before .before .pre) _ (done .0) _ (done .1)
 
 same-length : tie.Need-same-length Inv-loop μ-loop
 same-length c = c .before .loop .inv .same
@@ -62,10 +59,9 @@ run-all-spec =
     Inv-loop
     μ-loop
     loop-holds
-    mul-decode
-    shared-slice-read-decode
-    decode-requires
-    advance-core-requires
+    mul-advance-word
+    shared-slice-read-advance-word
+    advance-word-requires
     mul-answers
     slice-write-answers
     add-i

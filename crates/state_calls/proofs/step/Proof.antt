@@ -5,7 +5,7 @@ use Prim.Native.Nat.{ℕ, _*_}
 use Rattle.chip.specs.declared.Chip.{Chip}
 use Rattle.step.specs.Step.{step}
 use Rattle.state_calls.specs.Calls.{refusalWord, stepArea, stepAnswer}
-use Rattle.state_calls.proofs.Opened.{done, put-done, refused}
+use Rattle.state_calls.proofs.Opened.{done, put-done, well, refused}
 use borrow.Author.Needs.{needs}
 use Rattle.state_calls.proofs.step.Statement.{statement}
 use Rattle.state_calls.proofs.step.Tie as tie
@@ -16,7 +16,7 @@ step-spec =
     tie.close
     (tie.spec
     (λ c κs. search needs)
-    (λ c κs. search needs)
+    (λ c κs. well _ _ (c .before .before .load .ensures) (c .before .if1 .taken))
     (λ c κs. search needs)
     (λ c κs. search needs)
     (λ c. search needs)

@@ -13,4 +13,4 @@ stepped-spec =
     (λ c. search needs)
     (λ c κs. search needs)
     (λ c. search needs)
-    (λ c. simp (c .before .before .run .ensures .0, c .before .before .run .ensures .1) (one-word _ _)))
+    (λ c. simp (c .before .before .advance-all .ensures .0, c .before .before .advance-all .ensures .1) (one-word _ (c .before .before .before .before .before .pre) _)))

@@ -1,0 +1,39 @@
+-- The commonest events move the core alone: what the step over the event gives, in the terms of the core.
+-- Assumes nothing.
+use Prim.Native.Nat.{ℕ}
+use mathlib.Core.Path.{_≡_, refl}
+use mathlib.Core.Bool.{Bool, true, false, and-false}
+use mathlib.Core.List.{List}
+use Rattle.events.specs.Word.{decode, noEvent, noPlace, badByte, event}
+use Rattle.events.specs.declared.Decoded.the-variants.{Pin, Clock}
+use Rattle.registers.specs.Names.{BTCON}
+use Rattle.chip.specs.declared.Core.{Core}
+use Rattle.chip.specs.State.{chipOf, registerAt}
+use Rattle.pins.specs.Pins.{pinMoved}
+use Rattle.clocks.specs.Clocks.{clocked}
+use Rattle.outcome.specs.Outcome.{coreAfter, watchdogReset, wasReset, keptAfter, next, numberGiven, byteGiven}
+use Rattle.step.specs.Step.{advance, answered, coreOf}
+use Rattle.run.specs.Run.{coreMoved}
+
+module _ (registers : List ℕ) (c : Core) where
+  pub hsynci : (level : Bool)
+      → (coreMoved registers (pinMoved c 26 level) ≡ coreOf (advance (chipOf registers c) (Pin 26 level))) × (registers ≡ advance (chipOf registers c) (Pin 26 level) .chip .registers)
+  unfolding advance answered next coreAfter keptAfter wasReset watchdogReset numberGiven byteGiven
+  hsynci level = (refl, refl)
+
+  pub period : (coreMoved registers (clocked (registerAt registers BTCON) c 0) ≡ coreOf (advance (chipOf registers c) (Clock 0))) × (registers ≡ advance (chipOf registers c) (Clock 0) .chip .registers)
+  unfolding advance answered next coreAfter keptAfter wasReset watchdogReset numberGiven byteGiven
+  period = (rw (and-false (c .reset)), rw (and-false (c .reset)))
+
+-- the words of these events
+pub hsynci-low : decode 0x03001a00 ≡ Pin 26 false
+unfolding decode noEvent noPlace badByte event
+hsynci-low = refl
+
+pub hsynci-high : decode 0x03001a01 ≡ Pin 26 true
+unfolding decode noEvent noPlace badByte event
+hsynci-high = refl
+
+pub period-clock : decode 0x04000000 ≡ Clock 0
+unfolding decode noEvent noPlace badByte event
+period-clock = refl
