@@ -60,6 +60,18 @@ unfoldable pub fullMachine : Machine
 unfolding startedChip
 fullMachine = machine fullCpu ram startedChip
 
+-- JSR 1234 in RAM at 01FD, where the stack is
+unfoldable pub stackMachine : Machine
+unfolding startedChip
+stackMachine =
+    machine (record { a = 0; x = 0; y = 0; s = 255; p = flags false false false true false false; pc = 0x1FD; over = 0 })
+    (replicate 125 0 ++ (0x20 ∷ 0x34 ∷ 0x12 ∷ replicate 128 0)) startedChip
+
+-- the first CPU with X 20H
+unfoldable pub indexMachine : Machine
+unfolding startedChip
+indexMachine = machine (record { a = 0; x = 0x20; y = 0; s = 255; p = flags false false false true false false; pc = 0xA000; over = 0 }) ram startedChip
+
 -- a listed event for instruction i
 abbrev pub event : ℕ → ℕ → ℕ
 event i w = i * 4294967296 + w
