@@ -46,6 +46,14 @@ unfoldable pub idleMachine : Machine
 unfolding idleChip
 idleMachine = machine cpu ram idleChip
 
+-- a fresh chip, with DDC off; and a chip that has gathered one bit of an address, a 1
+unfoldable pub freshMachine : Machine
+freshMachine = machine cpu ram fresh
+
+unfoldable pub gatheringMachine : Machine
+unfolding startedChip
+gatheringMachine = machine cpu ram (wordsGiven startedChip (0x03001900 ∷ 0x03001801 ∷ 0x03001901 ∷ []))
+
 -- RESET low in the middle of a transfer, which no run from a fresh chip reaches
 unfoldable pub lowMachine : Machine
 unfolding startedChip
@@ -87,6 +95,13 @@ transfer i n =
     clockBit i (n / 128 % 2) ++ (clockBit i (n / 64 % 2) ++ (clockBit i (n / 32 % 2)
     ++ (clockBit (i + 1) (n / 16 % 2) ++ (clockBit (i + 1) (n / 8 % 2) ++ (clockBit (i + 1) (n / 4 % 2)
     ++ (clockBit (i + 2) (n / 2 % 2) ++ (clockBit (i + 2) (n % 2) ++ (clockBit (i + 2) 1 ++ (event (i + 2) 0x01001400 ∷ [])))))))))
+
+-- seven bits before the first instruction, the top one first
+unfoldable pub sevenBits : ℕ → List ℕ
+unfolding clockBit
+sevenBits n =
+    clockBit 0 (n / 64 % 2) ++ (clockBit 0 (n / 32 % 2) ++ (clockBit 0 (n / 16 % 2) ++ (clockBit 0 (n / 8 % 2)
+    ++ (clockBit 0 (n / 4 % 2) ++ (clockBit 0 (n / 2 % 2) ++ clockBit 0 (n % 2))))))
 
 -- START, a transfer and a STOP, from instruction i on
 unfoldable pub whole : ℕ → ℕ → List ℕ
@@ -130,3 +145,7 @@ port3Reading = 0xA5 ∷ 0x04 ∷ []
 -- NOP, NOP, NOP, LDA 14 (II DAT)
 abbrev pub dataReading : List ℕ
 dataReading = 0xEA ∷ 0xEA ∷ 0xEA ∷ 0xA5 ∷ 0x14 ∷ []
+
+-- NOP, NOP, NOP, JMP 0014
+abbrev pub dataFetching : List ℕ
+dataFetching = 0xEA ∷ 0xEA ∷ 0xEA ∷ 0x4C ∷ 0x14 ∷ 0x00 ∷ []
