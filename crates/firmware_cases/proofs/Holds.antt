@@ -19,7 +19,7 @@ use Rattle.firmware_cases.proofs.Opened.{opened}
 
 -- ---- one transfer: A2H and 54H are not for this chip
 
-rom-length : length pollingRom ≡ 24576
+pub rom-length : length pollingRom ≡ 24576
 unfolding pollingRom
 rom-length = length-append polling (replicate 24568 0) ∙ ap (λ (n : ℕ). 8 + n) (length-replicate {A = ℕ} 24568 0)
 

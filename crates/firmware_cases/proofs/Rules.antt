@@ -12,8 +12,9 @@ use Rattle.firmware_isolation.specs.Trace.{turnAccesses}
 use Rattle.firmware_rules.specs.History.{Given, listed, clocked, history, cyclesCounted}
 use Rattle.firmware_rules.specs.Numbers.{madeBy}
 use Rattle.firmware_rules.specs.Parts.{renumbered}
-use Rattle.firmware_cases.specs.Firmware.{cpu, ram, startedChip, startedMachine, requestingMachine, stackMachine, indexMachine, fullMachine, event, polling}
+use Rattle.firmware_cases.specs.Firmware.{cpu, ram, startedChip, startedMachine, requestingMachine, stackMachine, indexMachine, over31Machine, over32Cpu, event, polling, pollingRom}
 use Rattle.firmware_cases.proofs.Opened.{opened}
+use Rattle.firmware_cases.proofs.Holds.{rom-length}
 
 abbrev numberOfRun : List ℕ → ℕ
 numberOfRun rom = runs 1 0 rom [] startedMachine .number
@@ -74,13 +75,21 @@ pub interrupt-accesses : turnAccesses [] requestingMachine
 unfolding opened
 interrupt-accesses = refl
 
--- 8, 22 and 7 in that order
-pub before-anything : firmware (fullMachine .cpu) ram [] startedChip (event 0 0 ∷ []) [] 1 .number ≡ 22
+-- 8, 22 and 7 in that order, with one event and no answer place: 32 cycles over and no ROM; 31 and no ROM; 31 and a whole ROM
+pub ill-formed-first : firmware over32Cpu ram [] startedChip (event 0 0 ∷ []) [] 1 .number ≡ 8
 unfolding opened firmware
-before-anything = refl
+ill-formed-first = refl
+
+pub rom-next : firmware (over31Machine .cpu) ram [] startedChip (event 0 0 ∷ []) [] 1 .number ≡ 22
+unfolding opened firmware
+rom-next = refl
+
+pub places-last : firmware (over31Machine .cpu) ram pollingRom startedChip (event 0 0 ∷ []) [] 1 .number ≡ 7
+unfolding opened firmware
+places-last = rw rom-length
 
 -- NOP with 31 cycles over: 33, of which 32 are a clock; the second NOP gives none
-pub clock-given : _≡_ {A = List Given × ℕ × ℕ} (history 2 0 (0xEA ∷ 0xEA ∷ []) [] fullMachine, cyclesCounted 2 0 (0xEA ∷ 0xEA ∷ []) [] fullMachine, runs 2 0 (0xEA ∷ 0xEA ∷ []) [] fullMachine .machine .cpu .over)
+pub clock-given : _≡_ {A = List Given × ℕ × ℕ} (history 2 0 (0xEA ∷ 0xEA ∷ []) [] over31Machine, cyclesCounted 2 0 (0xEA ∷ 0xEA ∷ []) [] over31Machine, runs 2 0 (0xEA ∷ 0xEA ∷ []) [] over31Machine .machine .cpu .over)
     (clocked ∷ [], 4, 3)
 unfolding opened
 clock-given = refl

@@ -15,16 +15,19 @@ use Rattle.machine.specs.Machine.{Machine, machine}
 abbrev pub cpu : Cpu
 cpu = record { a = 0; x = 0; y = 0; s = 255; p = flags false false false true false false; pc = 0xA000; over = 0 }
 
--- RAM of zeros, and ROM that begins with a program
+-- RAM of zeros
 abbrev pub ram : List ℕ
 ram = replicate 256 0
 
--- the same CPU with I clear; and with 31 cycles over
-abbrev pub openCpu : Cpu
-openCpu = record { a = 7; x = 0; y = 0; s = 255; p = flags false false true false false true; pc = 0xA000; over = 0 }
+-- A 7, D and C set, I clear; then the first CPU with 31 cycles over, and with 32, which is ill formed
+abbrev pub interruptibleCpu : Cpu
+interruptibleCpu = record { a = 7; x = 0; y = 0; s = 255; p = flags false false true false false true; pc = 0xA000; over = 0 }
 
-abbrev pub fullCpu : Cpu
-fullCpu = record { a = 0; x = 0; y = 0; s = 255; p = flags false false false true false false; pc = 0xA000; over = 31 }
+abbrev pub over31Cpu : Cpu
+over31Cpu = record { a = 0; x = 0; y = 0; s = 255; p = flags false false false true false false; pc = 0xA000; over = 31 }
+
+abbrev pub over32Cpu : Cpu
+over32Cpu = record { a = 0; x = 0; y = 0; s = 255; p = flags false false false true false false; pc = 0xA000; over = 32 }
 
 -- words given one after another
 abbrev pub wordsGiven : Chip → List ℕ → Chip
@@ -62,11 +65,11 @@ lowMachine = machine cpu ram (chipOf (startedChip .registers) (withReset (starte
 -- flag S, raised by a fall of SCL, is enabled, so that a request stands
 unfoldable pub requestingMachine : Machine
 unfolding startedChip
-requestingMachine = machine openCpu ram (wordsGiven startedChip (0x02000F20 ∷ 0x03001900 ∷ []))
+requestingMachine = machine interruptibleCpu ram (wordsGiven startedChip (0x02000F20 ∷ 0x03001900 ∷ []))
 
-unfoldable pub fullMachine : Machine
+unfoldable pub over31Machine : Machine
 unfolding startedChip
-fullMachine = machine fullCpu ram startedChip
+over31Machine = machine over31Cpu ram startedChip
 
 -- JSR 1234 in RAM at 01FD, where the stack is
 unfoldable pub stackMachine : Machine
