@@ -15,12 +15,12 @@ use Rattle.causes.specs.Causes.{Source, flag, raises, clears}
 use Rattle.causes.proofs.Causes.{causes-of-word}
 use Rattle.listcall.proofs.Runs.{step-advances}
 use Rattle.run.specs.Run.{after, answers}
-use Rattle.isolation.specs.Foreign.{Trace, since, observerOf, OneTransfer, SeveralTransfers, Begun, Agree}
-use Rattle.isolation.proofs.Theorems.{several-transfers, one-transfer}
+use Rattle.isolation.specs.Foreign.{Trace, since, observerOf, OneTransfer, SeveralTransfers, Begun, Agree, CallsAgree}
+use Rattle.isolation.proofs.Theorems.{several-transfers, one-transfer, several-transfers-called, one-transfer-called}
 use Rattle.state_area.specs.Area.{loaded}
-use Rattle.state_calls.specs.Calls.{holdsState, stepArea, stepAnswer}
-use Rattle.byte_form.specs.Bytes.{bytesAfter, bytesAnswers, BytesRunsAgree}
-use Rattle.byte_form.proofs.Stays.{well, stepped-holds, after-holds, answers-given}
+use Rattle.state_calls.specs.Calls.{holdsState, stepArea, stepAnswer, runNumber}
+use Rattle.byte_form.specs.Bytes.{bytesAfter, bytesAnswers, BytesRunsAgree, BytesCallsAgree}
+use Rattle.byte_form.proofs.Stays.{well, stepped-holds, after-holds, answers-given, call-number, call-places, call-state}
 
 -- ---- demand 2: whatever holds of every step of a well formed state holds of every step of its bytes, the state being what the area
 -- holds before and after
@@ -52,3 +52,18 @@ module _ (s : List ℕ) (held : holdsState s ≡ true) (ddc2b : modeOf (loaded s
   pub demand-3-several : {t : Trace} → Begun (loaded s .state .core .bus .phase) t → (ws vs : List ℕ)
       → SeveralTransfers (observerOf (loaded s .state) t) (observerOf (loaded s .state) t) ws vs → BytesRunsAgree s ws vs
   demand-3-several b ws vs p = carried ws vs (several-transfers (loaded s .state) ddc2b b ws vs p)
+
+  -- two list calls that return 0, with the answer places xs and ys
+  carried-called : (ws vs xs ys : List ℕ) → CallsAgree (loaded s .state) ws vs xs ys → BytesCallsAgree s ws vs xs ys
+  carried-called ws vs xs ys a = rw (call-places s held ws xs, call-places s held vs ys, call-state s held ws xs, call-state s held vs ys) a
+
+  pub demand-3-called : loaded s .state .core .bus .phase ≡ startPhase → (ws vs xs ys : List ℕ) → OneTransfer (observerOf (loaded s .state) (since [])) ws vs
+      → runNumber s ws xs ≡ 0 → runNumber s vs ys ≡ 0 → BytesCallsAgree s ws vs xs ys
+  demand-3-called b ws vs xs ys p n n′ =
+      carried-called ws vs xs ys (one-transfer-called (loaded s .state) ddc2b b ws vs xs ys p (rw (call-number s held ws xs) at n) (rw (call-number s held vs ys) at n′))
+
+  pub demand-3-several-called : {t : Trace} → Begun (loaded s .state .core .bus .phase) t → (ws vs xs ys : List ℕ)
+      → SeveralTransfers (observerOf (loaded s .state) t) (observerOf (loaded s .state) t) ws vs
+      → runNumber s ws xs ≡ 0 → runNumber s vs ys ≡ 0 → BytesCallsAgree s ws vs xs ys
+  demand-3-several-called b ws vs xs ys p n n′ =
+      carried-called ws vs xs ys (several-transfers-called (loaded s .state) ddc2b b ws vs xs ys p (rw (call-number s held ws xs) at n) (rw (call-number s held vs ys) at n′))

@@ -1,2 +1,3 @@
 pub mod Stays
 pub mod Demands
+pub mod Refusals

@@ -23,7 +23,7 @@ use Rattle.listcall.proofs.Runs.{step-advances, after-advanced, answers-advance
 use Rattle.state_bytes.specs.Layout.{bytesOf}
 use Rattle.state_area.specs.Area.{holds, loaded, storeNumber, storeLeft}
 use Rattle.state_area.proofs.Accepted.{load-written, loaded-well, loaded-written, loaded-registers}
-use Rattle.state_calls.specs.Calls.{holdsState, stepArea, stepAnswer, runArea, runPlaces}
+use Rattle.state_calls.specs.Calls.{holdsState, stepArea, stepAnswer, runNumber, runArea, runPlaces}
 use Rattle.state_calls.proofs.Steps.{step-area, step-answer, step-refused, unmoved}
 use Rattle.byte_form.specs.Bytes.{bytesAfter, bytesAnswers}
 
@@ -109,6 +109,25 @@ module _ (s : List ℕ) (held : holdsState s ≡ true) where
   call-answers ws ps short =
       let c = loaded s .state in
       rw (held, well, short) (ap (λ (l : List ℕ). l ++ drop (length ws) ps) (sym (answers-advanced c ws well) ∙ sym (answers-given ws)))
+
+  -- of every list call, 7 included, the number and the answer places are those of the state, and the area holds the state after it
+  pub call-number : (ws ps : List ℕ) → runNumber s ws ps ≡ run (loaded s .state) ws ps .number
+  unfolding runNumber
+  call-number ws ps = rw held
+
+  pub call-places : (ws ps : List ℕ) → runPlaces s ws ps ≡ runAnswers (loaded s .state) ws ps
+  unfolding runPlaces
+  call-places ws ps = rw held
+
+  state-by : (ws ps : List ℕ) (b : Bool) → ltb (length ps) (length ws) ≡ b → loaded (runArea s ws ps) ≡ holds (run (loaded s .state) ws ps .chip)
+  unfolding runArea run
+  state-by ws ps true short = rw (held, well, short) (load-written (loaded s .state) size well)
+  state-by ws ps false short =
+      let c = loaded s .state in
+      rw (held, well, short, ← (after-advanced c ws well)) (load-written (after c ws) (after-length c ws well size) (after-well-formed c ws well))
+
+  pub call-state : (ws ps : List ℕ) → loaded (runArea s ws ps) ≡ holds (run (loaded s .state) ws ps .chip)
+  call-state ws ps = state-by ws ps (ltb (length ps) (length ws)) refl
 
 -- ---- every refusal, 1 to 6, 8 and 15: the number in bits 31..24 is not 0, and the area keeps its bytes
 

@@ -12,14 +12,14 @@ use Rattle.instruction.specs.Program.{readAt, writeAt}
 use Rattle.machine.specs.Run.{runs, firmware}
 use Rattle.firmware_isolation.specs.Trace.{trace, accessesOf}
 use Rattle.firmware_isolation.specs.Transfers.{RunsAgree, CallsAgree}
-use Rattle.firmware_isolation.proofs.Runs.{firmware-runs, firmware-calls}
-use Rattle.firmware_cases.specs.Firmware.{cpu, ram, startedChip, startedMachine, idleMachine, lowMachine, clockBit, event, transfer, whole, times, polling, pollingRom}
+use Rattle.firmware_isolation.proofs.Runs.{firmware-runs-listed, firmware-runs, firmware-calls-listed}
+use Rattle.firmware_cases.specs.Firmware.{cpu, ram, startedChip, startedMachine, idleMachine, lowMachine, clockBit, event, transfer, whole, sdaPut, times, polling, pollingRom}
 use Rattle.firmware_cases.specs.Tests.{tests}
 use Rattle.firmware_cases.proofs.Opened.{opened}
 
 -- ---- one transfer: A2H and 54H are not for this chip
 
-rom-length : length pollingRom ≡ 24576
+pub rom-length : length pollingRom ≡ 24576
 unfolding pollingRom
 rom-length = length-append polling (replicate 24568 0) ∙ ap (λ (n : ℕ). 8 + n) (length-replicate {A = ℕ} 24568 0)
 
@@ -27,7 +27,7 @@ pub transfers-agree : CallsAgree (firmware cpu ram pollingRom startedChip (trans
     (trace 4 0 pollingRom (transfer 0 0xa2) startedMachine) (trace 4 0 pollingRom (transfer 0 0x54) startedMachine)
 unfolding opened pollingRom
 transfers-agree =
-    firmware-calls cpu ram pollingRom startedChip 4 refl rom-length refl start-seen (transfer 0 0xa2) (transfer 0 0x54) (replicate 28 0) (replicate 28 0) refl refl
+    firmware-calls-listed cpu ram pollingRom startedChip 4 refl rom-length refl start-seen (transfer 0 0xa2) (transfer 0 0x54) (replicate 28 0) (replicate 28 0) refl refl
     (record { events = refl; left = refl; right = refl; sda = refl; unread = refl })
 
 -- the accesses of both
@@ -48,7 +48,34 @@ data-differs = refl
 pub several-agree : RunsAgree (runs 4 0 polling (whole 0 0xa2 ++ whole 2 0x10) idleMachine) (runs 4 0 polling (whole 0 0x54 ++ whole 2 0xee) idleMachine)
     (trace 4 0 polling (whole 0 0xa2 ++ whole 2 0x10) idleMachine) (trace 4 0 polling (whole 0 0x54 ++ whole 2 0xee) idleMachine)
 unfolding opened
-several-agree = firmware-runs 4 polling idleMachine refl refl bus-idle (whole 0 0xa2 ++ whole 2 0x10) (whole 0 0x54 ++ whole 2 0xee) (record { events = refl; left = refl; right = refl; sda = refl; unread = refl })
+several-agree = firmware-runs-listed 4 polling idleMachine refl refl bus-idle (whole 0 0xa2 ++ whole 2 0x10) (whole 0 0x54 ++ whole 2 0xee) (record { events = refl; left = refl; right = refl; sda = refl; unread = refl })
+
+-- ---- an instruction that is refused: NOP, then an opcode that is not documented
+
+abbrev pub refusing : List ℕ
+refusing = 0xEA ∷ 0x02 ∷ []
+
+-- the lists agree, so that equally many of their events are given: the 18 before the two instructions, of 28
+pub refused-agree : RunsAgree (runs 4 0 refusing (transfer 0 0xa2) startedMachine) (runs 4 0 refusing (transfer 0 0x54) startedMachine) (trace 4 0 refusing (transfer 0 0xa2) startedMachine) (trace 4 0 refusing (transfer 0 0x54) startedMachine)
+unfolding opened
+refused-agree = firmware-runs-listed 4 refusing startedMachine refl refl start-seen (transfer 0 0xa2) (transfer 0 0x54) (record { events = refl; left = refl; right = refl; sda = refl; unread = refl })
+
+pub refused-given : _≡_ {A = List ℕ} (length (transfer 0 0xa2) ∷ length (runs 4 0 refusing (transfer 0 0xa2) startedMachine .answers) ∷ length (runs 4 0 refusing (transfer 0 0x54) startedMachine .answers) ∷ [])
+    (28 ∷ 18 ∷ 18 ∷ [])
+unfolding opened
+refused-given = refl
+
+-- what is listed past the run need not agree, nor what is listed behind a refused instruction where those given agree: an event before the
+-- fifth instruction, and another before the third
+pub past-agree : RunsAgree (runs 4 0 polling (transfer 0 0xa2 ++ (event 4 0x03000000 ∷ [])) startedMachine) (runs 4 0 polling (transfer 0 0x54) startedMachine)
+    (trace 4 0 polling (transfer 0 0xa2 ++ (event 4 0x03000000 ∷ [])) startedMachine) (trace 4 0 polling (transfer 0 0x54) startedMachine)
+unfolding opened
+past-agree = firmware-runs-listed 4 polling startedMachine refl refl start-seen (transfer 0 0xa2 ++ (event 4 0x03000000 ∷ [])) (transfer 0 0x54) (record { events = refl; left = refl; right = refl; sda = refl; unread = refl })
+
+pub behind-agree : RunsAgree (runs 4 0 refusing (sdaPut 0 0 ++ (event 2 0x03000000 ∷ [])) startedMachine) (runs 4 0 refusing (sdaPut 0 1) startedMachine)
+    (trace 4 0 refusing (sdaPut 0 0 ++ (event 2 0x03000000 ∷ [])) startedMachine) (trace 4 0 refusing (sdaPut 0 1) startedMachine)
+unfolding opened
+behind-agree = firmware-runs 4 refusing startedMachine refl refl start-seen (sdaPut 0 0 ++ (event 2 0x03000000 ∷ [])) (sdaPut 0 1) (record { events = refl; left = refl; right = refl; sda = refl; unread = refl })
 
 -- ---- RESET low at first: the first instruction does nothing, a clock then is not gathered, and the transfer begins once RESET is high
 

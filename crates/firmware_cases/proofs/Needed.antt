@@ -1,4 +1,5 @@
--- No premise can be left out: for each a pair of runs where it alone fails, and something compared differs.
+-- No premise on the first chip's mode and phase, on the listed events or on what happens can be left out: for each a pair of runs where it
+-- fails, and something compared differs. That the chip is well formed the call tests itself.
 use Prim.Native.Nat.{ℕ}
 use mathlib.Core.Path.{_≡_, refl}
 use mathlib.Core.Bool.{true, false}
@@ -9,7 +10,7 @@ use Rattle.bus.specs.declared.Phase.the-variants.{Idle, Address}
 use Rattle.isolation.specs.Foreign.{none, since}
 use Rattle.machine.specs.Machine.{Machine}
 use Rattle.machine.specs.Run.{runs}
-use Rattle.firmware_cases.specs.Firmware.{startedMachine, idleMachine, event, transfer, sdaPut, times, polling, adrWriting, turningOff, askingDdc1, port3Reading, dataReading}
+use Rattle.firmware_cases.specs.Firmware.{freshMachine, startedMachine, gatheringMachine, idleMachine, event, transfer, sevenBits, sdaPut, times, polling, adrWriting, turningOff, askingDdc1, port3Reading, dataReading, dataFetching}
 use Rattle.firmware_cases.specs.Tests.{Tested, tests}
 use Rattle.firmware_cases.proofs.Opened.{opened}
 
@@ -19,6 +20,22 @@ accumulators n rom m es fs = (runs n 0 rom es m .machine .cpu .a, runs n 0 rom f
 
 abbrev bytes : ℕ → List ℕ → Machine → List ℕ → List ℕ → ℕ × ℕ
 bytes n rom m es fs = (getD (runs n 0 rom es m .machine .ram) 0 0, getD (runs n 0 rom fs m .machine .ram) 0 0)
+
+-- ---- the first chip
+
+-- DDC off, as in a fresh chip: PT3 shows SDA
+pub mode-needed : _≡_ {A = Tested × (ℕ × ℕ)} (tests 1 port3Reading freshMachine none (sdaPut 0 0) (sdaPut 0 1), accumulators 1 port3Reading freshMachine (sdaPut 0 0) (sdaPut 0 1))
+    ((true, true, true, true, true), (0, 1))
+unfolding opened
+mode-needed = refl
+
+-- neither a START just seen nor an idle bus: the first bit of an address is gathered already, and seven more make A0H in one run
+pub start-needed : _≡_ {A = Tested × (ℕ × ℕ)} (tests 4 polling gatheringMachine (since []) (sevenBits 0x20) (sevenBits 0x22), bytes 4 polling gatheringMachine (sevenBits 0x20) (sevenBits 0x22))
+    ((true, true, true, true, true), (0x28, 0x20))
+unfolding opened
+start-needed = refl
+
+-- ---- the listed events
 
 -- listed events that differ in the level of P00, which PT0 shows
 pub events-needed : _≡_ {A = Tested × (ℕ × ℕ)} (tests 1 (0xA5 ∷ 0x00 ∷ []) startedMachine (since []) (event 0 0x03000000 ∷ []) (event 0 0x03000001 ∷ []), accumulators 1 (0xA5 ∷ 0x00 ∷ []) startedMachine (event 0 0x03000000 ∷ []) (event 0 0x03000001 ∷ []))
@@ -31,6 +48,8 @@ pub numbers-needed : _≡_ {A = Tested × (ℕ × ℕ)} (tests 1 (0xA5 ∷ 0x00 
     ((false, true, true, true, true), (0xFE, 0xFF))
 unfolding opened
 numbers-needed = refl
+
+-- ---- what happens
 
 -- an address that matches in the first run: flag A
 pub match-needed : _≡_ {A = Tested × (ℕ × ℕ)} (tests 4 polling startedMachine (since []) (transfer 0 0xa0) (transfer 0 0xa2), bytes 4 polling startedMachine (transfer 0 0xa0) (transfer 0 0xa2))
@@ -92,8 +111,23 @@ pub sda-needed : _≡_ {A = Tested × (Phase × Phase)} (tests 1 port3Reading id
 unfolding opened
 sda-needed = refl
 
+-- SDA falls in both runs while SCL is high, having been 0 before in one of them: a START in the other alone
+abbrev fallAfter : ℕ → List ℕ
+fallAfter level = sdaPut 0 level ++ (event 0 0x03001901 ∷ event 0 0x03001800 ∷ [])
+
+pub sda-before-needed : _≡_ {A = Tested × (Phase × Phase)} (tests 1 polling idleMachine none (fallAfter 0) (fallAfter 1), (runs 1 0 polling (fallAfter 0) idleMachine .machine .chip .core .bus .phase, runs 1 0 polling (fallAfter 1) idleMachine .machine .chip .core .bus .phase))
+    ((true, true, true, false, true), (Idle, Address 0 0))
+unfolding opened
+sda-before-needed = refl
+
 -- an instruction that reads II DAT
 pub data-needed : _≡_ {A = Tested × (ℕ × ℕ)} (tests 4 dataReading startedMachine (since []) (transfer 0 0xa2) (transfer 0 0x54), accumulators 4 dataReading startedMachine (transfer 0 0xa2) (transfer 0 0x54))
     ((true, true, true, true, false), (0xa2, 0x54))
 unfolding opened
 data-needed = refl
+
+-- an opcode fetched from II DAT: A2H is LDX, 54H is not documented
+pub opcode-needed : _≡_ {A = Tested × (ℕ × ℕ)} (tests 5 dataFetching startedMachine (since []) (transfer 0 0xa2) (transfer 0 0x54), (runs 5 0 dataFetching (transfer 0 0xa2) startedMachine .number, runs 5 0 dataFetching (transfer 0 0x54) startedMachine .number))
+    ((true, true, true, true, false), (0, 20))
+unfolding opened
+opcode-needed = refl

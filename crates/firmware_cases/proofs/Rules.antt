@@ -8,11 +8,13 @@ use Rattle.memory.specs.declared.Loaded.the-variants.{Byte}
 use Rattle.instruction.specs.Program.{Access, readAt, writeAt}
 use Rattle.machine.specs.Machine.{Machine}
 use Rattle.machine.specs.Run.{runs, firmware}
+use Rattle.firmware_isolation.specs.Trace.{turnAccesses}
 use Rattle.firmware_rules.specs.History.{Given, listed, clocked, history, cyclesCounted}
 use Rattle.firmware_rules.specs.Numbers.{madeBy}
 use Rattle.firmware_rules.specs.Parts.{renumbered}
-use Rattle.firmware_cases.specs.Firmware.{cpu, ram, startedChip, startedMachine, requestingMachine, fullMachine, event, polling}
+use Rattle.firmware_cases.specs.Firmware.{cpu, ram, startedChip, startedMachine, requestingMachine, stackMachine, indexMachine, over31Machine, over32Cpu, event, polling, pollingRom}
 use Rattle.firmware_cases.proofs.Opened.{opened}
+use Rattle.firmware_cases.proofs.Holds.{rom-length}
 
 abbrev numberOfRun : List ℕ → ℕ
 numberOfRun rom = runs 1 0 rom [] startedMachine .number
@@ -34,13 +36,60 @@ pub opcode-alone : madeBy (0x02 ∷ 0x00 ∷ []) startedMachine ≡ readAt 0xA00
 unfolding opened
 opcode-alone = refl
 
--- 8, 22 and 7 in that order
-pub before-anything : firmware (fullMachine .cpu) ram [] startedChip (event 0 0 ∷ []) [] 1 .number ≡ 22
+-- ---- every access in order, pushes among them (PHA, PHP, BRK, JSR, STA 00F0,X), and no others
+
+pub pushes-a : madeBy (0x48 ∷ []) startedMachine ≡ readAt 0xA000 (Byte 0x48) ∷ writeAt 0x1FF 0 ∷ []
+unfolding opened
+pushes-a = refl
+
+pub pushes-p : madeBy (0x08 ∷ []) startedMachine ≡ readAt 0xA000 (Byte 0x08) ∷ writeAt 0x1FF 0x34 ∷ []
+unfolding opened
+pushes-p = refl
+
+-- the byte behind BRK is not fetched; its vector in this ROM is 0
+pub break-accesses : madeBy (0x00 ∷ 0x12 ∷ []) startedMachine
+    ≡ readAt 0xA000 (Byte 0) ∷ writeAt 0x1FF 0xA0 ∷ writeAt 0x1FE 2 ∷ writeAt 0x1FD 0x34 ∷ readAt 0xFFFE (Byte 0) ∷ readAt 0xFFFF (Byte 0) ∷ []
+unfolding opened
+break-accesses = refl
+
+pub call-accesses : madeBy (0x20 ∷ 0x34 ∷ 0x12 ∷ []) startedMachine
+    ≡ readAt 0xA000 (Byte 0x20) ∷ readAt 0xA001 (Byte 0x34) ∷ writeAt 0x1FF 0xA0 ∷ writeAt 0x1FE 2 ∷ readAt 0xA002 (Byte 0x12) ∷ []
+unfolding opened
+call-accesses = refl
+
+-- JSR in RAM under the stack: its high byte is the one just pushed
+pub call-on-stack : madeBy [] stackMachine
+    ≡ readAt 0x1FD (Byte 0x20) ∷ readAt 0x1FE (Byte 0x34) ∷ writeAt 0x1FF 1 ∷ writeAt 0x1FE 0xFF ∷ readAt 0x1FF (Byte 1) ∷ []
+unfolding opened
+call-on-stack = refl
+
+-- X is 20H; no read before the store
+pub store-accesses : madeBy (0x9D ∷ 0xF0 ∷ 0x00 ∷ []) indexMachine
+    ≡ readAt 0xA000 (Byte 0x9D) ∷ readAt 0xA001 (Byte 0xF0) ∷ readAt 0xA002 (Byte 0) ∷ writeAt 0x110 0 ∷ []
+unfolding opened
+store-accesses = refl
+
+-- an interrupt, then the opcode at 0000
+pub interrupt-accesses : turnAccesses [] requestingMachine
+    ≡ writeAt 0x1FF 0xA0 ∷ writeAt 0x1FE 0 ∷ writeAt 0x1FD 0x29 ∷ readAt 0xFFFE (Byte 0) ∷ readAt 0xFFFF (Byte 0) ∷ readAt 0 (Byte 0xFF) ∷ []
+unfolding opened
+interrupt-accesses = refl
+
+-- 8, 22 and 7 in that order, with one event and no answer place: 32 cycles over and no ROM; 31 and no ROM; 31 and a whole ROM
+pub ill-formed-first : firmware over32Cpu ram [] startedChip (event 0 0 ∷ []) [] 1 .number ≡ 8
 unfolding opened firmware
-before-anything = refl
+ill-formed-first = refl
+
+pub rom-next : firmware (over31Machine .cpu) ram [] startedChip (event 0 0 ∷ []) [] 1 .number ≡ 22
+unfolding opened firmware
+rom-next = refl
+
+pub places-last : firmware (over31Machine .cpu) ram pollingRom startedChip (event 0 0 ∷ []) [] 1 .number ≡ 7
+unfolding opened firmware
+places-last = rw rom-length
 
 -- NOP with 31 cycles over: 33, of which 32 are a clock; the second NOP gives none
-pub clock-given : _≡_ {A = List Given × ℕ × ℕ} (history 2 0 (0xEA ∷ 0xEA ∷ []) [] fullMachine, cyclesCounted 2 0 (0xEA ∷ 0xEA ∷ []) [] fullMachine, runs 2 0 (0xEA ∷ 0xEA ∷ []) [] fullMachine .machine .cpu .over)
+pub clock-given : _≡_ {A = List Given × ℕ × ℕ} (history 2 0 (0xEA ∷ 0xEA ∷ []) [] over31Machine, cyclesCounted 2 0 (0xEA ∷ 0xEA ∷ []) [] over31Machine, runs 2 0 (0xEA ∷ 0xEA ∷ []) [] over31Machine .machine .cpu .over)
     (clocked ∷ [], 4, 3)
 unfolding opened
 clock-given = refl

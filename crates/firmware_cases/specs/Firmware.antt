@@ -15,16 +15,19 @@ use Rattle.machine.specs.Machine.{Machine, machine}
 abbrev pub cpu : Cpu
 cpu = record { a = 0; x = 0; y = 0; s = 255; p = flags false false false true false false; pc = 0xA000; over = 0 }
 
--- RAM of zeros, and ROM that begins with a program
+-- RAM of zeros
 abbrev pub ram : List ℕ
 ram = replicate 256 0
 
--- the same CPU with I clear; and with 31 cycles over
-abbrev pub openCpu : Cpu
-openCpu = record { a = 7; x = 0; y = 0; s = 255; p = flags false false true false false true; pc = 0xA000; over = 0 }
+-- A 7, D and C set, I clear; then the first CPU with 31 cycles over, and with 32, which is ill formed
+abbrev pub interruptibleCpu : Cpu
+interruptibleCpu = record { a = 7; x = 0; y = 0; s = 255; p = flags false false true false false true; pc = 0xA000; over = 0 }
 
-abbrev pub fullCpu : Cpu
-fullCpu = record { a = 0; x = 0; y = 0; s = 255; p = flags false false false true false false; pc = 0xA000; over = 31 }
+abbrev pub over31Cpu : Cpu
+over31Cpu = record { a = 0; x = 0; y = 0; s = 255; p = flags false false false true false false; pc = 0xA000; over = 31 }
+
+abbrev pub over32Cpu : Cpu
+over32Cpu = record { a = 0; x = 0; y = 0; s = 255; p = flags false false false true false false; pc = 0xA000; over = 32 }
 
 -- words given one after another
 abbrev pub wordsGiven : Chip → List ℕ → Chip
@@ -46,6 +49,14 @@ unfoldable pub idleMachine : Machine
 unfolding idleChip
 idleMachine = machine cpu ram idleChip
 
+-- a fresh chip, with DDC off; and a chip that has gathered one bit of an address, a 1
+unfoldable pub freshMachine : Machine
+freshMachine = machine cpu ram fresh
+
+unfoldable pub gatheringMachine : Machine
+unfolding startedChip
+gatheringMachine = machine cpu ram (wordsGiven startedChip (0x03001900 ∷ 0x03001801 ∷ 0x03001901 ∷ []))
+
 -- RESET low in the middle of a transfer, which no run from a fresh chip reaches
 unfoldable pub lowMachine : Machine
 unfolding startedChip
@@ -54,11 +65,23 @@ lowMachine = machine cpu ram (chipOf (startedChip .registers) (withReset (starte
 -- flag S, raised by a fall of SCL, is enabled, so that a request stands
 unfoldable pub requestingMachine : Machine
 unfolding startedChip
-requestingMachine = machine openCpu ram (wordsGiven startedChip (0x02000F20 ∷ 0x03001900 ∷ []))
+requestingMachine = machine interruptibleCpu ram (wordsGiven startedChip (0x02000F20 ∷ 0x03001900 ∷ []))
 
-unfoldable pub fullMachine : Machine
+unfoldable pub over31Machine : Machine
 unfolding startedChip
-fullMachine = machine fullCpu ram startedChip
+over31Machine = machine over31Cpu ram startedChip
+
+-- JSR 1234 in RAM at 01FD, where the stack is
+unfoldable pub stackMachine : Machine
+unfolding startedChip
+stackMachine =
+    machine (record { a = 0; x = 0; y = 0; s = 255; p = flags false false false true false false; pc = 0x1FD; over = 0 })
+    (replicate 125 0 ++ (0x20 ∷ 0x34 ∷ 0x12 ∷ replicate 128 0)) startedChip
+
+-- the first CPU with X 20H
+unfoldable pub indexMachine : Machine
+unfolding startedChip
+indexMachine = machine (record { a = 0; x = 0x20; y = 0; s = 255; p = flags false false false true false false; pc = 0xA000; over = 0 }) ram startedChip
 
 -- a listed event for instruction i
 abbrev pub event : ℕ → ℕ → ℕ
@@ -75,6 +98,13 @@ transfer i n =
     clockBit i (n / 128 % 2) ++ (clockBit i (n / 64 % 2) ++ (clockBit i (n / 32 % 2)
     ++ (clockBit (i + 1) (n / 16 % 2) ++ (clockBit (i + 1) (n / 8 % 2) ++ (clockBit (i + 1) (n / 4 % 2)
     ++ (clockBit (i + 2) (n / 2 % 2) ++ (clockBit (i + 2) (n % 2) ++ (clockBit (i + 2) 1 ++ (event (i + 2) 0x01001400 ∷ [])))))))))
+
+-- seven bits before the first instruction, the top one first
+unfoldable pub sevenBits : ℕ → List ℕ
+unfolding clockBit
+sevenBits n =
+    clockBit 0 (n / 64 % 2) ++ (clockBit 0 (n / 32 % 2) ++ (clockBit 0 (n / 16 % 2) ++ (clockBit 0 (n / 8 % 2)
+    ++ (clockBit 0 (n / 4 % 2) ++ (clockBit 0 (n / 2 % 2) ++ clockBit 0 (n % 2))))))
 
 -- START, a transfer and a STOP, from instruction i on
 unfoldable pub whole : ℕ → ℕ → List ℕ
@@ -118,3 +148,7 @@ port3Reading = 0xA5 ∷ 0x04 ∷ []
 -- NOP, NOP, NOP, LDA 14 (II DAT)
 abbrev pub dataReading : List ℕ
 dataReading = 0xEA ∷ 0xEA ∷ 0xEA ∷ 0xA5 ∷ 0x14 ∷ []
+
+-- NOP, NOP, NOP, JMP 0014
+abbrev pub dataFetching : List ℕ
+dataFetching = 0xEA ∷ 0xEA ∷ 0xEA ∷ 0x4C ∷ 0x14 ∷ 0x00 ∷ []

@@ -38,7 +38,7 @@ left-permitted (writeAt x b ∷ a) s o h =
     let r = left-permitted a s (observe o (Write x b)) (z .1) in
     (rw (z .0) (r .0), r .1)
 
-right-listed : (a : List Access) (s : List Entry) (o : Observer) → throughout mayBeListed o (entries a ++ s) ≡ true → throughout mayBeListed (watch o a) s ≡ true
+pub right-listed : (a : List Access) (s : List Entry) (o : Observer) → throughout mayBeListed o (entries a ++ s) ≡ true → throughout mayBeListed (watch o a) s ≡ true
 unfolding observe
 right-listed [] s o h = h
 right-listed (readAt x l ∷ a) s o h = right-listed a s o h
@@ -53,7 +53,7 @@ left-unread (readAt x l ∷ a) s o h =
     ((not-true (eqb x 20) (z .0), r .0), r .1)
 left-unread (writeAt x b ∷ a) s o h = left-unread a s (observe o (Write x b)) h
 
-both-equal : (a : List Access) (s t : List Entry) (o p : Observer) → equalThroughout o p (entries a ++ s) (entries a ++ t) ≡ true → equalThroughout (watch o a) (watch p a) s t ≡ true
+pub both-equal : (a : List Access) (s t : List Entry) (o p : Observer) → equalThroughout o p (entries a ++ s) (entries a ++ t) ≡ true → equalThroughout (watch o a) (watch p a) s t ≡ true
 unfolding observe
 both-equal [] s t o p h = h
 both-equal (readAt x l ∷ a) s t o p h = both-equal a s t o p h
@@ -85,7 +85,7 @@ restart : (rom : List ℕ) (c : Cpu) (ram : List ℕ) (b b′ : Bool) → b ≡ 
     → Both (machine (pick b (resetCpu rom c) c) ram d) (machine (pick b′ (resetCpu rom c) c) ram e) o p
 restart rom c ram b b′ h t = rw (← h) (both (pick b (resetCpu rom c) c) ram t)
 
-occurs : (rom : List ℕ) (u v : ℕ) → sameButSda u v ≡ true → {m m′ : Machine} {o p : Observer} → Both m m′ o p → equalAtHigh o p u v ≡ true
+pub occurs : (rom : List ℕ) (u v : ℕ) → sameButSda u v ≡ true → {m m′ : Machine} {o p : Observer} → Both m m′ o p → equalAtHigh o p u v ≡ true
     → permitted o (decode u) ≡ true → permitted p (decode v) ≡ true
     → Both (occurred rom m u) (occurred rom m′ v) (observe o (decode u)) (observe p (decode v))
     × (comparedAnswer (decode u) (answered (m .chip) (decode u)) ≡ comparedAnswer (decode v) (answered (m′ .chip) (decode v)))
@@ -106,7 +106,7 @@ data Waiting (i : ℕ) : List ℕ → Type 0 where
   empty : Waiting i []
   not-yet : {e : ℕ} {es : List ℕ} → ltb i (numberOf e) ≡ true → Waiting i (e ∷ es)
 
-same-number : (e f : ℕ) → sameEvent e f ≡ true → numberOf e ≡ numberOf f
+pub same-number : (e f : ℕ) → sameEvent e f ≡ true → numberOf e ≡ numberOf f
 same-number e f h = eqb-true (numberOf e) (numberOf f) (both-true (eqb (numberOf e) (numberOf f)) _ h .0)
 
 -- an event given in one run alone is against the premise

@@ -3,8 +3,10 @@ use Prim.Native.Nat.{ℕ, zero, suc, _+_}
 use mathlib.Core.Path.{_≡_, refl, ap, ap₂, sym, _∙_}
 use mathlib.Core.Bool.{Bool, true, false}
 use mathlib.Core.List.{List, [], _∷_, _++_}
+use native.Mathlib.Omega.{arith}
 use lib.ListN.{length, drop}
 use lib.Dec.{eqb, ltb}
+use borrow.Author.Tests.{lt-ltb}
 use Rattle.bits.specs.Byte.{pick}
 use Rattle.bits.proofs.Finite.{both as both-true}
 use Rattle.events.specs.Word.{decode}
@@ -19,12 +21,13 @@ use Rattle.isolation.proofs.Theorems.{self-related, flags-lt}
 use Rattle.operations.specs.declared.Cpu.{Cpu}
 use Rattle.instruction.specs.Program.{Access}
 use Rattle.machine.specs.Machine.{Machine, machine, Turned, turn}
-use Rattle.machine.specs.Run.{Ended, ended, onTurned, runs, called, isWellFormed, firmware, numberOf, wordOf, occurred, fed, left, answersBefore}
+use Rattle.machine.specs.Run.{Ended, ended, prepended, onTurned, runs, called, isWellFormed, firmware, numberOf, wordOf, occurred, fed, left, answersBefore}
 use Rattle.firmware_isolation.specs.Trace.{Entry, given, made, entries, turnAccesses, eventsBefore, trace, wordsOf, answersOf, accessesOf}
-use Rattle.firmware_isolation.specs.Transfers.{happening, throughout, leavesSda, equalThroughout, ForeignRuns, OneForeignTransfer, comparedTrace, RunsAgree, CallsAgree}
+use Rattle.firmware_isolation.specs.Transfers.{happening, mayHappen, leavesData, throughout, leavesSda, equalThroughout, ForeignLists, ForeignRuns, OneForeignTransfer, comparedTrace, RunsAgree, CallsAgree}
 use Rattle.firmware_isolation.proofs.Observers.{watch}
 use Rattle.firmware_isolation.proofs.Turns.{Both, both, Ended as TurnEnds, onward, halted, turns}
 use Rattle.firmware_isolation.proofs.Lists.{left-permitted, left-unread, behind-accesses, feeds, behindEvents, later-behind}
+use Rattle.firmware_isolation.proofs.Listed.{listed-behind, feeds-listed}
 
 -- ---- the parts of what happens
 
@@ -97,34 +100,48 @@ record Result (a b : Ended) (s t : List Entry) : Type 0 where
   counted : a .next ≡ b .next
   happened : comparedTrace s ≡ comparedTrace t
 
-after-turn : {o p : Observer} {x y : Turned} → TurnEnds o p x y → (i : ℕ) (v w : Ended) (s t : List Entry)
-    → ForeignRuns o p (pick (eqb (x .number) 0) s []) (pick (eqb (y .number) 0) t [])
-    → (Both (x .machine) (y .machine) o p → ForeignRuns o p s t → Result v w s t)
-    → Result (pick (eqb (x .number) 0) v (ended (x .machine) (x .number) i [])) (pick (eqb (y .number) 0) w (ended (y .machine) (y .number) i []))
-    (pick (eqb (x .number) 0) s []) (pick (eqb (y .number) 0) t [])
-after-turn (onward k) i v w s t q go = go k q
-after-turn (halted n h k) i v w s t q go = rw h (record { state = ends-with k; number = refl; counted = refl; happened = refl })
+-- a turn, and what is behind it, where P is presumed of two runs: it asks what a turn looks at, and holds behind the same accesses
+module _ (P : Observer → Observer → List Entry → List Entry → Type 0)
+    (left-of : (o p : Observer) (s t : List Entry) → P o p s t → throughout mayHappen o s ≡ true)
+    (unread-of : (o p : Observer) (s t : List Entry) → P o p s t → throughout leavesData o s ≡ true)
+    (behind : (a : List Access) (s t : List Entry) (o p : Observer) → P o p (entries a ++ s) (entries a ++ t) → P (watch o a) (watch p a) s t) where
+  after-turn : {o p : Observer} {x y : Turned} → TurnEnds o p x y → (i : ℕ) (v w : Ended) (s t : List Entry) → P o p (pick (eqb (x .number) 0) s []) (pick (eqb (y .number) 0) t [])
+      → (Both (x .machine) (y .machine) o p → P o p s t → Result v w s t)
+      → Result (pick (eqb (x .number) 0) v (ended (x .machine) (x .number) i [])) (pick (eqb (y .number) 0) w (ended (y .machine) (y .number) i []))
+      (pick (eqb (x .number) 0) s []) (pick (eqb (y .number) 0) t [])
+  after-turn (onward k) i v w s t q go = go k q
+  after-turn (halted n h k) i v w s t q go = rw h (record { state = ends-with k; number = refl; counted = refl; happened = refl })
 
-turned-by : (n i : ℕ) (rom es fs : List ℕ) {m m′ : Machine} {o p : Observer} → Both m m′ o p → ForeignRuns o p (behindEvents n i rom es m) (behindEvents n i rom fs m′)
-    → ((c d : Machine) (o p : Observer) → Both c d o p → ForeignRuns o p (trace n (i + 1) rom es c) (trace n (i + 1) rom fs d)
-    → Result (runs n (i + 1) rom es c) (runs n (i + 1) rom fs d) (trace n (i + 1) rom es c) (trace n (i + 1) rom fs d))
-    → Result (onTurned (turn rom m) i (λ (t : Machine). runs n (i + 1) rom es t)) (onTurned (turn rom m′) i (λ (t : Machine). runs n (i + 1) rom fs t)) (behindEvents n i rom es m) (behindEvents n i rom fs m′)
-turned-by n i rom es fs {m} {m′} {o} {p} k q go =
-    let a = turnAccesses rom m in
-    let x = turn rom m in
-    let y = turn rom m′ in
-    let s = trace n (i + 1) rom es (x .machine) in
-    let t = trace n (i + 1) rom fs (y .machine) in
-    let s₀ = pick (eqb (x .number) 0) s [] in
-    let t₀ = pick (eqb (y .number) 0) t [] in
-    let z = turns rom k (left-unread a s₀ o (q .unread) .0) (left-permitted a s₀ o (q .left) .0) in
-    let q′ : ForeignRuns o p (entries a ++ s₀) (entries a ++ t₀) = rw (← (z .1)) at q in
-    let r = after-turn (z .0) i (runs n (i + 1) rom es (x .machine)) (runs n (i + 1) rom fs (y .machine)) s t (behind-accesses a s₀ t₀ o p q′) (go (x .machine) (y .machine) (watch o a) (watch p a)) in
+  turned-by : (n i : ℕ) (rom es fs : List ℕ) {m m′ : Machine} {o p : Observer} → Both m m′ o p → P o p (behindEvents n i rom es m) (behindEvents n i rom fs m′)
+      → ((c d : Machine) (o p : Observer) → Both c d o p → P o p (trace n (i + 1) rom es c) (trace n (i + 1) rom fs d)
+      → Result (runs n (i + 1) rom es c) (runs n (i + 1) rom fs d) (trace n (i + 1) rom es c) (trace n (i + 1) rom fs d))
+      → Result (onTurned (turn rom m) i (λ (t : Machine). runs n (i + 1) rom es t)) (onTurned (turn rom m′) i (λ (t : Machine). runs n (i + 1) rom fs t)) (behindEvents n i rom es m) (behindEvents n i rom fs m′)
+  turned-by n i rom es fs {m} {m′} {o} {p} k q go =
+      let a = turnAccesses rom m in
+      let x = turn rom m in
+      let y = turn rom m′ in
+      let s = trace n (i + 1) rom es (x .machine) in
+      let t = trace n (i + 1) rom fs (y .machine) in
+      let s₀ = pick (eqb (x .number) 0) s [] in
+      let t₀ = pick (eqb (y .number) 0) t [] in
+      let z = turns rom k (left-unread a s₀ o (unread-of o p (behindEvents n i rom es m) (behindEvents n i rom fs m′) q) .0) (left-permitted a s₀ o (left-of o p (behindEvents n i rom es m) (behindEvents n i rom fs m′) q) .0) in
+      let q′ : P o p (entries a ++ s₀) (entries a ++ t₀) = rw (← (z .1)) at q in
+      let r = after-turn (z .0) i (runs n (i + 1) rom es (x .machine)) (runs n (i + 1) rom fs (y .machine)) s t (behind a s₀ t₀ o p q′) (go (x .machine) (y .machine) (watch o a) (watch p a)) in
+      record {
+        state = r .state;
+        number = r .number;
+        counted = r .counted;
+        happened = compared-append (entries a) s₀ ∙ ap₂ (λ (b : List Access) (l : List Entry). comparedTrace (entries b) ++ l) (z .1) (r .happened) ∙ sym (compared-append (entries (turnAccesses rom m′)) t₀);
+      }
+
+-- the events before a turn come to a and b, what is behind them to s and t
+with-events : {v w : Ended} (a b s t : List Entry) (k l : List ℕ) → comparedTrace a ≡ comparedTrace b → Result v w s t → Result (prepended k v) (prepended l w) (a ++ s) (b ++ t)
+with-events a b s t k l said r =
     record {
       state = r .state;
       number = r .number;
       counted = r .counted;
-      happened = compared-append (entries a) s₀ ∙ ap₂ (λ (b : List Access) (l : List Entry). comparedTrace (entries b) ++ l) (z .1) (r .happened) ∙ sym (compared-append (entries (turnAccesses rom m′)) t₀);
+      happened = compared-append a s ∙ ap₂ _++_ said (r .happened) ∙ sym (compared-append b t);
     }
 
 two-runs : (n i : ℕ) (rom es fs : List ℕ) {m m′ : Machine} {o p : Observer} → Both m m′ o p → ForeignRuns o p (trace n i rom es m) (trace n i rom fs m′)
@@ -137,13 +154,26 @@ two-runs (suc n) i rom es fs {m} {m′} k q =
     let s = behindEvents n i rom (left i es) a in
     let t = behindEvents n i rom (left i fs) b in
     let f = feeds rom i es fs s t k (later-behind n i rom (left i es) a) (later-behind n i rom (left i fs) b) q in
-    let r = turned-by n i rom (left i es) (left i fs) (f .state) (f .rest) (λ (c d : Machine) (o p : Observer). two-runs n (i + 1) rom (left i es) (left i fs) {m = c} {m′ = d} {o = o} {p = p}) in
-    record {
-      state = r .state;
-      number = r .number;
-      counted = r .counted;
-      happened = compared-append (eventsBefore rom i es m) s ∙ ap₂ _++_ (f .said) (r .happened) ∙ sym (compared-append (eventsBefore rom i fs m′) t);
-    }
+    let r = turned-by ForeignRuns (λ o p s t q. q .left) (λ o p s t q. q .unread) behind-accesses n i rom (left i es) (left i fs) (f .state) (f .rest)
+    (λ (c d : Machine) (o p : Observer). two-runs n (i + 1) rom (left i es) (left i fs) {m = c} {m′ = d} {o = o} {p = p}) in
+    with-events (eventsBefore rom i es m) (eventsBefore rom i fs m′) s t (answersBefore rom i es m) (answersBefore rom i fs m′) (f .said) r
+
+-- the same where the lists agree; n′ instructions in all
+two-runs-listed : (n i n′ : ℕ) → i + n ≡ n′ → (rom es fs : List ℕ) {m m′ : Machine} {o p : Observer} → Both m m′ o p → ForeignLists n′ es fs o p (trace n i rom es m) (trace n i rom fs m′)
+    → Result (runs n i rom es m) (runs n i rom fs m′) (trace n i rom es m) (trace n i rom fs m′)
+unfolding trace runs
+two-runs-listed zero i n′ e rom es fs k q = record { state = ends-with k; number = refl; counted = refl; happened = refl }
+two-runs-listed (suc n) i n′ e rom es fs {m} {m′} k q =
+    let a = fed rom i es m in
+    let b = fed rom i fs m′ in
+    let es′ = left i es in
+    let fs′ = left i fs in
+    let s = behindEvents n i rom es′ a in
+    let t = behindEvents n i rom fs′ b in
+    let f = feeds-listed rom i n′ (lt-ltb i n′ (omega (arith, e))) es fs s t k q in
+    let r = turned-by (ForeignLists n′ es′ fs′) (λ o p s t q. q .left) (λ o p s t q. q .unread) (listed-behind n′ es′ fs′) n i rom es′ fs′ (f .state) (f .rest)
+    (λ (c d : Machine) (o p : Observer). two-runs-listed n (i + 1) n′ (omega (arith, e)) rom es′ fs′ {m = c} {m′ = d} {o = o} {p = p}) in
+    with-events (eventsBefore rom i es m) (eventsBefore rom i fs m′) s t (answersBefore rom i es m) (answersBefore rom i fs m′) (f .said) r
 
 -- ---- from one machine
 
@@ -155,12 +185,9 @@ record SameMachine (m m′ : Machine) : Type 0 where
 same-machine : {m m′ : Machine} → SameEnd m m′ → SameMachine m m′
 same-machine (ends-with (both c ram t)) = record { cpu = refl; ram = refl; chip = related-agree t }
 
--- The chip is in DDC2B, at a START just seen or on an idle bus. RESET, SCL and SDA may have any level, and CPU, RAM and ROM any content.
-pub firmware-runs : (n : ℕ) (rom : List ℕ) (m : Machine) → wellFormed (m .chip) ≡ true → modeOf (m .chip .core) ≡ Ddc2b → {b : Trace} → Begun (m .chip .core .bus .phase) b
-    → (es fs : List ℕ) → ForeignRuns (observerOf (m .chip) b) (observerOf (m .chip) b) (trace n 0 rom es m) (trace n 0 rom fs m)
+agreeing : (n : ℕ) (rom es fs : List ℕ) (m : Machine) → Result (runs n 0 rom es m) (runs n 0 rom fs m) (trace n 0 rom es m) (trace n 0 rom fs m)
     → RunsAgree (runs n 0 rom es m) (runs n 0 rom fs m) (trace n 0 rom es m) (trace n 0 rom fs m)
-firmware-runs n rom m w h b es fs q =
-    let z = two-runs n 0 rom es fs (both (m .cpu) (m .ram) (self-related (m .chip) h (flags-lt (m .chip) w) b)) q in
+agreeing n rom es fs m z =
     let e = same-machine (z .state) in
     let s = trace n 0 rom es m in
     let t = trace n 0 rom fs m in
@@ -179,9 +206,25 @@ firmware-runs n rom m w h b es fs q =
       chip = e .chip;
     }
 
+-- The chip is in DDC2B, at a START just seen or on an idle bus. RESET, SCL and SDA may have any level, and CPU, RAM and ROM any content.
+module _ (n : ℕ) (rom : List ℕ) (m : Machine) (well : wellFormed (m .chip) ≡ true) (ddc2b : modeOf (m .chip .core) ≡ Ddc2b) {b : Trace} (begun : Begun (m .chip .core .bus .phase) b) where
+  at-first : Both m m (observerOf (m .chip) b) (observerOf (m .chip) b)
+  at-first = both (m .cpu) (m .ram) (self-related (m .chip) ddc2b (flags-lt (m .chip) well) begun)
+
+  -- Of the events, that those listed agree: demand 3 as the wish has it
+  pub firmware-runs-listed : (es fs : List ℕ) → ForeignLists n es fs (observerOf (m .chip) b) (observerOf (m .chip) b) (trace n 0 rom es m) (trace n 0 rom fs m)
+      → RunsAgree (runs n 0 rom es m) (runs n 0 rom fs m) (trace n 0 rom es m) (trace n 0 rom fs m)
+  firmware-runs-listed es fs q = agreeing n rom es fs m (two-runs-listed n 0 n (omega arith) rom es fs at-first q)
+
+  -- that those given agree
+  pub firmware-runs : (es fs : List ℕ) → ForeignRuns (observerOf (m .chip) b) (observerOf (m .chip) b) (trace n 0 rom es m) (trace n 0 rom fs m)
+      → RunsAgree (runs n 0 rom es m) (runs n 0 rom fs m) (trace n 0 rom es m) (trace n 0 rom fs m)
+  firmware-runs es fs q = agreeing n rom es fs m (two-runs n 0 rom es fs at-first q)
+
 -- ---- one transfer
 
-untouched-equal : (o p : Observer) (s t : List Entry) → throughout leavesSda o s ≡ true → equalThroughout o p s t ≡ true
+-- SDA left alone while SCL is high is SDA touched equally there
+pub untouched-equal : (o p : Observer) (s t : List Entry) → throughout leavesSda o s ≡ true → equalThroughout o p s t ≡ true
 untouched-equal o p [] t h = refl
 untouched-equal o p (x ∷ s) [] h = refl
 untouched-equal o p (given e x ∷ s) (given f y ∷ t) h =
@@ -191,7 +234,6 @@ untouched-equal o p (given e x ∷ s) (made b ∷ t) h =
     untouched-equal (observe o (decode (wordOf e))) (observe p (happening (made b))) s t (both-true (untouched o (decode (wordOf e))) _ h .1)
 untouched-equal o p (made a ∷ s) (y ∷ t) h = untouched-equal (observe o (happening (made a))) (observe p (happening y)) s t h
 
--- SDA left alone while SCL is high is SDA touched equally there
 pub foreign-of : {o p : Observer} {s t : List Entry} → OneForeignTransfer o p s t → ForeignRuns o p s t
 foreign-of {o} {p} {s} {t} q = record { events = q .events; left = q .left; right = q .right; sda = untouched-equal o p s t (q .sda); unread = q .unread }
 
@@ -215,22 +257,35 @@ unfolding firmware
 run-called c ram rom k es xs n w l p = rw (w, l, p)
 
 -- Two calls that are run, neither being refused with 8, 22 or 7, with the answer places xs and ys
-pub firmware-calls : (c : Cpu) (ram rom : List ℕ) (k : Chip) (n : ℕ) → isWellFormed c k ≡ true → length rom ≡ 24576 → modeOf (k .core) ≡ Ddc2b
-    → {b : Trace} → Begun (k .core .bus .phase) b → (es fs xs ys : List ℕ) → ltb (length xs) (length es) ≡ false → ltb (length ys) (length fs) ≡ false
-    → ForeignRuns (observerOf k b) (observerOf k b) (trace n 0 rom es (machine c ram k)) (trace n 0 rom fs (machine c ram k))
-    → CallsAgree (firmware c ram rom k es xs n) (firmware c ram rom k fs ys n) (trace n 0 rom es (machine c ram k)) (trace n 0 rom fs (machine c ram k))
-firmware-calls c ram rom k n w l h b es fs xs ys p p′ q =
-    let m = machine c ram k in
-    let z = firmware-runs n rom m (both-true (ltb (c .over) 32) (wellFormed k) w .1) h b es fs q in
-    rw (run-called c ram rom k es xs n w l p, run-called c ram rom k fs ys n w l p′)
-    (record {
-      number = z .number;
-      counted = z .counted;
-      events-given = z .events-given;
-      answers = places-of n rom es m xs ∙ z .answers ∙ sym (places-of n rom fs m ys);
-      accesses = z .accesses;
-      order = z .order;
-      cpu = z .cpu;
-      ram = z .ram;
-      chip = z .chip;
-    })
+module _ (c : Cpu) (ram rom : List ℕ) (k : Chip) (n : ℕ) (well : isWellFormed c k ≡ true) (whole : length rom ≡ 24576) where
+  calling : (es fs xs ys : List ℕ) → ltb (length xs) (length es) ≡ false → ltb (length ys) (length fs) ≡ false
+      → RunsAgree (runs n 0 rom es (machine c ram k)) (runs n 0 rom fs (machine c ram k)) (trace n 0 rom es (machine c ram k)) (trace n 0 rom fs (machine c ram k))
+      → CallsAgree (firmware c ram rom k es xs n) (firmware c ram rom k fs ys n) (trace n 0 rom es (machine c ram k)) (trace n 0 rom fs (machine c ram k))
+  calling es fs xs ys p p′ z =
+      let m = machine c ram k in
+      rw (run-called c ram rom k es xs n well whole p, run-called c ram rom k fs ys n well whole p′)
+      (record {
+        number = z .number;
+        counted = z .counted;
+        events-given = z .events-given;
+        answers = places-of n rom es m xs ∙ z .answers ∙ sym (places-of n rom fs m ys);
+        accesses = z .accesses;
+        order = z .order;
+        cpu = z .cpu;
+        ram = z .ram;
+        chip = z .chip;
+      })
+
+  chip-well : wellFormed k ≡ true
+  chip-well = both-true (ltb (c .over) 32) (wellFormed k) well .1
+
+  module _ (ddc2b : modeOf (k .core) ≡ Ddc2b) {b : Trace} (begun : Begun (k .core .bus .phase) b) where
+    pub firmware-calls-listed : (es fs xs ys : List ℕ) → ltb (length xs) (length es) ≡ false → ltb (length ys) (length fs) ≡ false
+        → ForeignLists n es fs (observerOf k b) (observerOf k b) (trace n 0 rom es (machine c ram k)) (trace n 0 rom fs (machine c ram k))
+        → CallsAgree (firmware c ram rom k es xs n) (firmware c ram rom k fs ys n) (trace n 0 rom es (machine c ram k)) (trace n 0 rom fs (machine c ram k))
+    firmware-calls-listed es fs xs ys p p′ q = calling es fs xs ys p p′ (firmware-runs-listed n rom (machine c ram k) chip-well ddc2b begun es fs q)
+
+    pub firmware-calls : (es fs xs ys : List ℕ) → ltb (length xs) (length es) ≡ false → ltb (length ys) (length fs) ≡ false
+        → ForeignRuns (observerOf k b) (observerOf k b) (trace n 0 rom es (machine c ram k)) (trace n 0 rom fs (machine c ram k))
+        → CallsAgree (firmware c ram rom k es xs n) (firmware c ram rom k fs ys n) (trace n 0 rom es (machine c ram k)) (trace n 0 rom fs (machine c ram k))
+    firmware-calls es fs xs ys p p′ q = calling es fs xs ys p p′ (firmware-runs n rom (machine c ram k) chip-well ddc2b begun es fs q)

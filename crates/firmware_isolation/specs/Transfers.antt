@@ -5,7 +5,8 @@ use mathlib.Core.Path.{_≡_}
 use mathlib.Core.Bool.{Bool, true, false, not, _&&_}
 use mathlib.Core.List.{List, [], _∷_}
 use lib.ListN.{length}
-use lib.Dec.{eqb}
+use lib.Dec.{eqb, ltb}
+use Rattle.bits.specs.Byte.{pick}
 use Rattle.registers.specs.Names.{IIDAT}
 use Rattle.events.specs.declared.Decoded.{Decoded}
 use Rattle.events.specs.declared.Decoded.the-variants.{Read, Write}
@@ -26,6 +27,12 @@ alikeEvents [] [] = true
 alikeEvents [] (f ∷ fs) = false
 alikeEvents (e ∷ es) [] = false
 alikeEvents (e ∷ es) (f ∷ fs) = sameEvent e f && alikeEvents es fs
+
+-- of a list, the events that a run of n instructions gives where none of them is refused: one with number n or more is not given, nor is any
+-- behind it
+abbrev pub within : ℕ → List ℕ → List ℕ
+within n [] = []
+within n (e ∷ es) = pick (ltb (numberOf e) n) (e ∷ within n es) []
 
 -- ---- what each run may not do
 
@@ -67,7 +74,16 @@ equalThroughout o p [] t = true
 equalThroughout o p (x ∷ s) [] = true
 equalThroughout o p (x ∷ s) (y ∷ t) = equalEntry o p x y && equalThroughout (observe o (happening x)) (observe p (happening y)) s t
 
--- what is presumed of two runs, in which s and t happen. Of the second run nothing is asked about what its CPU does.
+-- what is presumed of two runs of n instructions with the lists es and fs, in which s and t happen: that the listed events agree. How many are
+-- given is not presumed. Of the second run nothing is asked about what its CPU does.
+pub record ForeignLists (n : ℕ) (es fs : List ℕ) (o p : Observer) (s t : List Entry) : Type 0 where
+  pub events : alikeEvents (within n es) (within n fs) ≡ true
+  pub left : throughout mayHappen o s ≡ true
+  pub right : throughout mayBeListed p t ≡ true
+  pub sda : equalThroughout o p s t ≡ true
+  pub unread : throughout leavesData o s ≡ true
+
+-- the same for lists that differ behind a refused instruction: the events given agree
 pub record ForeignRuns (o p : Observer) (s t : List Entry) : Type 0 where
   pub events : alikeEvents (eventsOf s) (eventsOf t) ≡ true
   pub left : throughout mayHappen o s ≡ true
