@@ -18,7 +18,7 @@ fn stopped(why: &str) -> ExitCode {
 fn main() -> ExitCode {
     let mut args = std::env::args().skip(1);
     let (Some(own), None) = (args.next(), args.next()) else {
-        return stopped("usage: ./addresses II-ADR < CHANGES");
+        return stopped("one argument, the byte in II ADR");
     };
     let Ok(own) = u8::from_str_radix(&own, 16) else {
         return stopped("II ADR is a byte of two hex digits");

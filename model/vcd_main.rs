@@ -1,27 +1,20 @@
-//! ./vcd FILE: the event words of a value change dump, lowest byte first, on standard output; a refusal as `40 at 91` on
-//! standard error, with status 1. The words come from the proved library, in pieces, whatever the length of the file.
+//! ./vcd: the event words of the value change dump on standard input, lowest byte first, on standard output; a refusal as `40 at 91`
+//! on standard error, with status 1. The words come from the proved library, in pieces, whatever the length of the file.
 
 #[allow(dead_code)]
 mod vcd_link;
-use std::io::Write;
+use std::io::{Read, Write};
 use std::process::ExitCode;
 use vcd_link::more;
 
 const WORDS: usize = 1 << 16;
 
 fn main() -> ExitCode {
-    let mut args = std::env::args_os().skip(1);
-    let (Some(path), None) = (args.next(), args.next()) else {
-        eprintln!("usage: ./vcd FILE");
+    let mut file = Vec::new();
+    if let Err(error) = std::io::stdin().lock().read_to_end(&mut file) {
+        eprintln!("vcd: standard input: {error}");
         return ExitCode::from(2);
-    };
-    let file = match std::fs::read(&path) {
-        Ok(file) => file,
-        Err(error) => {
-            eprintln!("vcd: {}: {error}", path.to_string_lossy());
-            return ExitCode::from(2);
-        }
-    };
+    }
     let mut words = vec![0u32; WORDS];
     let mut cursor = [0u64; 8];
     let mut out = std::io::stdout().lock();
@@ -29,7 +22,7 @@ fn main() -> ExitCode {
         let (number, told) = more(&file, &mut words, &mut cursor);
         let bytes: Vec<u8> = words[..told[0] as usize].iter().flat_map(|w| w.to_le_bytes()).collect();
         if let Err(error) = out.write_all(&bytes).and_then(|()| out.flush()) {
-            eprintln!("vcd: {error}");
+            eprintln!("vcd: standard output: {error}");
             return ExitCode::from(2);
         }
         match number {

@@ -1,5 +1,5 @@
 #!/usr/bin/env bash
-# Compares `counters6862`, as `rt ci` built it, with the independent model of the counters: generated scripts of four seeds, the hand-worked
+# Compares `./counters6862` with the independent model of the counters: generated scripts of four seeds, the hand-worked
 # lines of crates/counters6862, malformed lines, and the example of the README; then the calls of the C interface, linked from their
 # static library, from C by the header and, beside the same model, from Rust. A difference prints the line and both outputs.
 set -euo pipefail
@@ -8,7 +8,7 @@ work=$(mktemp -d)
 trap 'rm -rf "$work"' EXIT
 cargo build --offline --quiet --release --bin model6862
 model=target/cargo/release/model6862
-program=target/bin/counters6862
+program=./counters6862
 
 # same NAME: the program's lines and the model's for the script of that name
 same() {

@@ -1,7 +1,7 @@
 #!/usr/bin/env bash
 # Compares the proved check of EDID blocks and the programs edid, feed and replay with an independent check and the independent
-# chip, builds and runs a program in C over the header, sees that failures are told, and runs README's example. Ends in a line
-# for each part, or names the first difference and fails.
+# chip, builds and runs a program in C over the header, sees that refused blocks are told, and runs README's example. Ends in a line
+# for each part, or names the first difference and fails. scripts/check-commands.sh tries reads and writes that fail.
 set -euo pipefail
 cd "$(dirname "$0")/.."
 work=$(mktemp -d)
@@ -14,25 +14,15 @@ target/cargo/release/edid
 cc -std=c99 -Wall -Wextra -Werror -Iinclude -o "$work/edid" tests/edid.c target/staticlib/libedid_capi.a
 "$work/edid" < crates/edid/stdin
 
-# told STATUS COMMAND..: it ends with this status, prints nothing and says why on standard error
-told() {
-    local status=0
-    "${@:2}" > "$work/out" 2> "$work/err" || status=$?
-    if [ "$status" != "$1" ] || [ -s "$work/out" ] || [ ! -s "$work/err" ]; then
-        echo "edid: ${*:2}: status $status, $(wc -c < "$work/out") bytes printed, $(wc -c < "$work/err") bytes told"
-        exit 1
-    fi
-}
-unwritten() {
-    "$@" crates/edid/stdin > /dev/full
-}
+# a refused block: ./edid prints its verdict, ./feed writes nothing and tells the number, both with status 1
 head -c 127 crates/edid/stdin > "$work/short"
-told 2 ./edid /
-told 1 ./feed /
-told 1 ./feed "$work/short"
-told 2 unwritten ./edid
-told 1 unwritten ./feed
-echo "edid: failures of reading and writing, and refused blocks, are told"
+status=0
+./edid "$work/short" > "$work/out" 2> "$work/err" || status=$?
+[ "$status" = 1 ] && [ "$(cat "$work/out")" = '30 length' ] && [ ! -s "$work/err" ] || { echo "edid: a refused block: status $status, $(cat "$work/out" "$work/err")"; exit 1; }
+status=0
+./feed "$work/short" > "$work/out" 2> "$work/err" || status=$?
+[ "$status" = 1 ] && [ ! -s "$work/out" ] && [ "$(cat "$work/err")" = 'feed: the block is refused: 30' ] || { echo "feed: a refused block: status $status, $(cat "$work/err")"; exit 1; }
+echo "edid: refused blocks are told by ./edid and ./feed"
 
 # the commands of README's section, each with the lines that it prints
 sed -n '/^## An EDID base block/,/^## A run case/p' README.md | sed -n 's/^    //p' > "$work/example"

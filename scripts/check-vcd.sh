@@ -14,7 +14,7 @@ cat "$work/compare"
 # The stored dumps, with the words that they stand for.
 dumps=0
 for file in tests/vcd/*.vcd; do
-    target/cargo/release/vcd "$file" > "$work/words" 2> "$work/refusal" || true
+    target/cargo/release/vcd < "$file" > "$work/words" 2> "$work/refusal" || true
     { od -An -v -tx4 -w4 "$work/words" | tr -d " "; cat "$work/refusal"; } > "$work/out"
     diff -u "${file%.vcd}.expect" "$work/out" || { echo "vcd: $file differs"; exit 1; }
     dumps=$((dumps + 1))

@@ -28,8 +28,8 @@ loop-less c = search needs
 loop-again : tie.Need-loop-again Inv-loop μ-loop
 loop-again c = search needs
 
-take-byte-requires : tie.Need-take-byte-requires Inv-loop μ-loop
-take-byte-requires c κs = search needs
+finish-turn-requires : tie.Need-finish-turn-requires Inv-loop μ-loop
+finish-turn-requires c κs = search needs
 
 returns : tie.Need-returns Inv-loop μ-loop
 returns c = search needs
@@ -49,6 +49,6 @@ main-spec =
     sub-blocks
     loop-less
     loop-again
-    take-byte-requires
+    finish-turn-requires
     returns
     returns-2)

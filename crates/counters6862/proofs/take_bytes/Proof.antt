@@ -7,10 +7,10 @@ use Rattle.counters6862.proofs.take_bytes.Statement.{statement}
 use Rattle.counters6862.proofs.take_bytes.Tie as tie
 
 abbrev Inv-loop : tie.InvT-loop
-Inv-loop bytes p₀ i₀ p i = Unit {0}
+Inv-loop bytes p₀ is-written₀ i₀ p is-written i = Unit {0}
 
 abbrev μ-loop : tie.MeasureT-loop
-μ-loop bytes p₀ i₀ p i = length bytes - i
+μ-loop bytes p₀ is-written₀ i₀ p is-written i = length bytes - i
 
 loop-holds : tie.Need-loop-holds Inv-loop μ-loop
 loop-holds c = search needs

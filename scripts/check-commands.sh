@@ -1,0 +1,117 @@
+#!/usr/bin/env bash
+# Tries every command at the top of the repository in what they have in common (scripts/program.sh): usage, options, more files than one,
+# files that cannot be read, links, outputs that cannot be written, and a proof that fails. What a command does is tried by its own check.
+set -euo pipefail
+cd "$(dirname "$0")/.."
+work=$(mktemp -d)
+trap 'rm -rf "$work"' EXIT
+bad=0
+tried=0
+complain() {
+    echo "commands: $*"
+    bad=1
+}
+
+# tried STATUS STDOUT STDERR COMMAND..: the status and what is said are these; a `*` in a text stands for anything
+tried() {
+    local status=0
+    tried=$((tried + 1))
+    "${@:4}" > "$work/out" 2> "$work/err" || status=$?
+    [ "$status" = "$1" ] || complain "${*:4}: status $status, not $1"
+    # shellcheck disable=SC2053
+    [[ "$(tr -d '\0' < "$work/out")" == $2 ]] || complain "${*:4}: printed '$(head -c 200 "$work/out" | tr -d '\0')', not '$2'"
+    # shellcheck disable=SC2053
+    [[ "$(cat "$work/err")" == $3 ]] || complain "${*:4}: said '$(cat "$work/err")', not '$3'"
+}
+full() { "$@" > /dev/full; }
+closed_input() { "$@" <&-; }
+closed_output() { "$@" >&-; }
+from() { "${@:2}" < "$1"; }
+
+# A command is a file at the top that can be run. Each has a row: what stands before the file, a file to read, the status where something
+# cannot be read, written or proved, and what is said of a full disk.
+declare -A before=([addresses]=6E)
+declare -A file=(
+    [addresses]=tests/addresses/example.bin [counters6862]=crates/counters6862/stdin [edid]=crates/edid/stdin [feed]=crates/edid/stdin
+    [record]=crates/record/stdin [recording]=crates/record/stdout [replay]=crates/record/stdin [vcd]=tests/vcd/start.vcd [why]=crates/why/stdin)
+declare -A failure=([addresses]=2 [edid]=2 [vcd]=2)
+mapfile -t commands < <(find . -maxdepth 1 -type f -perm -u+x -printf '%f\n' | sort)
+
+# a tree whose programs are not proved, and a checker that refuses
+mkdir -p "$work/copy/crates" "$work/copy/scripts" "$work/bin" "$work/elsewhere"
+: > "$work/copy/crates.txt"
+cp scripts/program.sh "$work/copy/scripts"
+cat > "$work/bin/rt" << 'END'
+#!/bin/sh
+echo "rt: bits proved (2 s)"
+echo "crates/hex/proofs/hex_line/Proof.antt:9:1: error: the goal does not follow"
+echo "crates/hex/proofs/hex_line/Proof.antt:12:1: error: another"
+echo "rt: hex NOT PROVED (exit 1, 3 s)"
+exit 1
+END
+chmod +x "$work/bin/rt"
+# a function of that name would be called before a program
+unproved() (
+    unset -f rt
+    PATH=$work/bin:$PATH "$@"
+)
+
+# locked COMMAND..: root, who may read every file, gives that right up
+touch "$work/locked"
+chmod 000 "$work/locked"
+locked() {
+    if [ ! -r "$work/locked" ]; then
+        "$@"
+    else
+        setpriv --bounding-set=-dac_override,-dac_read_search --inh-caps=-dac_override,-dac_read_search "$@"
+    fi
+}
+missing=$work/'no such file'
+for name in "${commands[@]}"; do
+    [ -n "${file[$name]:-}" ] || { complain "./$name has no row in this check"; continue; }
+    words=(${before[$name]:-})
+    good=${file[$name]}
+    fails=${failure[$name]:-1}
+    tried 0 "usage: ./$name *FILE*
+*./$name*" '' "./$name" -h
+    ./"$name" --help | cmp -s - "$work/out" || complain "./$name --help is not ./$name -h"
+    tried 2 '' "$name: no option -x; ./$name -h says what it takes" "./$name" -x
+    tried 2 '' "$name: one file at most, and 2 are named; ./$name -h says what it takes" "./$name" "${words[@]}" "$good" "$good"
+    tried "$fails" '' "$name: cannot open $missing: No such file or directory" "./$name" "${words[@]}" "$missing"
+    tried "$fails" '' "$name: cannot read $work: Is a directory" "./$name" "${words[@]}" "$work"
+    tried "$fails" '' "$name: *standard input*" from "$work" "./$name" "${words[@]}"
+    tried "$fails" '' "$name: standard input is closed" closed_input "./$name" "${words[@]}"
+    tried "$fails" '' "$name: standard output is closed" closed_output "./$name" "${words[@]}" "$good"
+    tried "$fails" '' "$name: *standard output*" full "./$name" "${words[@]}" "$good"
+    tried "$fails" '' "$name: cannot open $work/locked: Permission denied" locked "./$name" "${words[@]}" "$work/locked"
+
+    # by a link to a link from elsewhere, and from standard input, as by its own name
+    tried 0 '?*' '' "./$name" "${words[@]}" "$good"
+    mv "$work/out" "$work/own"
+    ln -s "$PWD/$name" "$work/elsewhere/$name"
+    ln -s "elsewhere/$name" "$work/link"
+    tried 0 '?*' '' from "$good" "$work/link" "${words[@]}"
+    cmp -s "$work/own" "$work/out" || complain "./$name prints otherwise by a link or from standard input"
+    rm "$work/link"
+
+    # a proof that fails: the first error, and where the log is
+    cp "$name" "$work/copy"
+    log=$work/copy/target/$name.log
+    tried "$fails" '' "$name: proving*rt: hex NOT PROVED*Proof.antt:9:1: error: the goal does not follow
+$name: the program is not proved, so it is not run; $log has all that the checker said" unproved "$work/copy/$name" "${words[@]}" "$good"
+    grep -q 'Proof.antt:12:1: error: another' "$log" || complain "the log of a failed proof of $name is not whole"
+done
+
+# the argument of ./addresses, and a pipe by name, which is opened once
+tried 2 '' 'addresses: the byte in II ADR is missing;*' ./addresses
+tried 2 '' 'addresses: II ADR is a byte of two hex digits, and not 1FF;*' ./addresses 1FF tests/addresses/example.bin
+mkfifo "$work/pipe"
+for _ in 1 2 3; do
+    timeout 20 bash -c 'cat "$1" > "$2" || echo "the writer ends with $?" >> "$3"' _ crates/record/stdin "$work/pipe" "$work/writer" 2> /dev/null &
+    tried 0 "$(cat crates/record/stdin | target/bin/replay)" '' timeout 20 ./replay "$work/pipe"
+    wait $! || true
+done
+[ ! -e "$work/writer" ] || complain "a pipe by name: $(cat "$work/writer")"
+
+[ "$bad" = 0 ] && echo "commands: $tried uses of ${#commands[@]} commands behave as said: usage, arguments, files, links, failed reads and writes, failed proofs"
+exit "$bad"
