@@ -337,10 +337,7 @@ fn read_digits(text: &[u8], from: usize) -> Digits
     while i < text.len() {
         let b = text[i];
         if vcd_text::white(b) {
-            return Digits {
-                end: i,
-                value: v,
-            };
+            return Digits { end: i, value: v };
         }
         if is_plain_digit(b, v) {
             v = v * 10 + long(b - 48);
@@ -352,10 +349,7 @@ fn read_digits(text: &[u8], from: usize) -> Digits
             };
         }
     }
-    Digits {
-        end: i,
-        value: v,
-    }
+    Digits { end: i, value: v }
 }
 
 // A digit after a number that is so small that no digit makes it 2^64.

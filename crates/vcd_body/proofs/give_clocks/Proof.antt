@@ -18,7 +18,7 @@ same-length : tie.Need-same-length
 same-length c = search needs
 
 returns : tie.Need-returns
-returns c = 
+returns c =
     λ find scale text p k.
     clocks-lead find scale text _ _ _ p _ _ _ _ _ k (c .before .before .before .before .before .before .later .ensures) (c .before .before .before .before .before .has-room .ensures (c .before .before .before .before .if1 .taken)) (c .before .before .clocks .ensures)
 

@@ -1,6 +1,7 @@
 -- `vcd_body::is_single` meets its contract.
 -- Assumes nothing.
 use mathlib.Core.Path.{_≡_, refl, sym, ap, _∙_}
+use Prim.Native.Nat.{_+_}
 use native.Mathlib.Omega.{arith}
 use Rattle.vcd_text.proofs.Laws.{word-more, word-stops}
 use Rattle.vcd_body.proofs.Running.{never}
@@ -33,7 +34,7 @@ white-requires-2 : tie.Need-white-requires-2
 white-requires-2 c κs = search needs
 
 returns-3 : tie.Need-returns-3
-returns-3 c = 
+returns-3 c =
     let a = c .before .before .before .before .before .before .before .args in
     λ e.
     (omega (arith, c .before .before .before .before .before .if1 .left), word-stops (a .text .now) (a .from + 1) (omega (arith, c .before .before .before .before .before .if1 .left)) (sym (c .white2 .ensures) ∙ e) ∙ word-more (a .text .now) (a .from) (omega (arith, c .before .before .before .before .before .if1 .left)) (sym (c .before .before .before .white .ensures) ∙ c .before .before .if2 .left))

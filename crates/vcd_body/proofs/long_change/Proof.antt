@@ -40,7 +40,7 @@ same-length : tie.Need-same-length
 same-length c = search needs
 
 returns : tie.Need-returns
-returns c = 
+returns c =
     let a = c .before .before .before .before .before .before .before .before .before .before .before .before .before .before .before .args in
     λ scale from.
     let h = c .before .before .before .before .before .before .before .before .before .before .before .before .before .before .before .pre .1 in

@@ -1,36 +1,33 @@
+-- `vcd_body::pass_run` meets its contract.
+-- Assumes nothing.
+use mathlib.Core.Path.{_≡_, refl, sym, ap, _∙_}
+use Prim.Native.Nat.{_<_}
+use native.Mathlib.Omega.{arith}
 use borrow.Author.Needs.{needs}
 use Rattle.vcd_body.proofs.pass_run.Statement.{statement}
 use Rattle.vcd_body.proofs.pass_run.Tie as tie
-use Rattle.vcd_body.proofs.pass_run.Reads as reads
-use Rattle.vcd_body.proofs.pass_run.Lts as lts
-use Rattle.vcd_body.proofs.is_plain.Reads as is-plain-reads
-use Rattle.vcd_body.proofs.run_from.Reads as run-from-reads
 
--- src/lib.rt:717:9
 returns : tie.Need-returns
 returns c = search needs
 
--- src/lib.rt:720:9
 returns-2 : tie.Need-returns-2
 returns-2 c = search needs
 
--- src/lib.rt:722:8
 is-plain-requires : tie.Need-is-plain-requires
 is-plain-requires c κs = search needs
 
--- src/lib.rt:723:9
 run-from-requires : tie.Need-run-from-requires
-run-from-requires c κs = ?
+run-from-requires c κs =
+    let start = c .before .before .before .before .before .before .before .before .before .before .before .before in
+    let some : 0 < start .args .scale = omega (arith, c .before .before .before .if2 .left) in
+    (start .pre .0, ((some, start .pre .1 some), c .before .before .is-plain .ensures (c .before .if3 .taken)))
 
--- src/lib.rt:723:9
 same-length : tie.Need-same-length
 same-length c = search needs
 
--- src/lib.rt:723:9
 returns-3 : tie.Need-returns-3
-returns-3 c = ?
+returns-3 c = let none : c .before .before .before .before .before .before .before .before .before .before .before .before .before .before .before .args .done ≡ 0 = omega (arith, c .before .before .before .before .before .before .before .if1 .left) in rw none (c .before .before .run-from .ensures)
 
--- src/lib.rt:698:1
 returns-4 : tie.Need-returns-4
 returns-4 c = search needs
 

@@ -28,7 +28,7 @@ white-requires : tie.Need-white-requires Inv-loop μ-loop
 white-requires c κs = search needs
 
 returns : tie.Need-returns Inv-loop μ-loop
-returns c = 
+returns c =
     let at = c .before .before .before .before in
     let a = at .before .before .args in
     (at .loop .inv .0, λ l. ((word-stops (a .text .now) (at .loop .i) (search needs) (sym (c .before .white .ensures) ∙ c .if1 .taken)) ∙ at .loop .inv .2, digits-whole (a .text .now) (a .from) (at .loop .i) (at .loop .v) l ((word-stops (a .text .now) (at .loop .i) (search needs) (sym (c .before .white .ensures) ∙ c .if1 .taken)) ∙ at .loop .inv .2) (at .loop .inv .1) (sym (at .loop .inv .3) ∙ digits-done (a .text .now) (at .loop .i) (at .loop .v) (word-stops (a .text .now) (at .loop .i) (search needs) (sym (c .before .white .ensures) ∙ c .if1 .taken)))))
@@ -55,7 +55,7 @@ loop-less : tie.Need-loop-less Inv-loop μ-loop
 loop-less c = search needs
 
 loop-again : tie.Need-loop-again Inv-loop μ-loop
-loop-again c = 
+loop-again c =
     let at = c .before .before .before .before .before .before .before in
     let a = at .before .before .args in
     let d = c .before .before .is-plain-digit .ensures (c .before .if2 .taken) in
@@ -65,7 +65,7 @@ returns-2 : tie.Need-returns-2 Inv-loop μ-loop
 returns-2 c = (search needs, λ l. absurd (omega arith))
 
 returns-3 : tie.Need-returns-3 Inv-loop μ-loop
-returns-3 c = 
+returns-3 c =
     let at = c .before in
     let a = at .before .before .args in
     (at .loop .inv .0, λ l. ((word-ends (a .text .now) (at .loop .i) (search needs)) ∙ at .loop .inv .2, digits-whole (a .text .now) (a .from) (at .loop .i) (at .loop .v) l ((word-ends (a .text .now) (at .loop .i) (search needs)) ∙ at .loop .inv .2) (at .loop .inv .1) (sym (at .loop .inv .3) ∙ digits-done (a .text .now) (at .loop .i) (at .loop .v) (word-ends (a .text .now) (at .loop .i) (search needs)))))

@@ -21,7 +21,7 @@ same-length : tie.Need-same-length
 same-length c = search needs
 
 returns : tie.Need-returns
-returns c = 
+returns c =
     let a = c .before .before .before .before .before .before .before .before .before .before .before .before .before .before .before .args in
     c .before .before .short-time .ensures (find (variables (a .text .now) (a .places .now) (a .pins .now) 0 (a .entries))) (c .before .before .before .before .before .before .before .token-from .ensures)
 
@@ -38,7 +38,7 @@ same-length-2 : tie.Need-same-length-2
 same-length-2 c = search needs
 
 returns-2 : tie.Need-returns-2
-returns-2 c = 
+returns-2 c =
     let a = c .before .before .before .before .before .before .before .before .before .before .before .before .before .before .before .before .before .args in
     let single = c .before .before .before .before .before .is-single .ensures (c .before .before .before .before .if3 .taken) in
     let from = c .before .before .before .before .before .before .before .before .before .token-from .ensures in

@@ -27,7 +27,7 @@ returns-3 : tie.Need-returns-3
 returns-3 c = search needs
 
 mul-give-clocks : tie.Need-mul-give-clocks
-mul-give-clocks c = record { fits = omega (arith, fits-of _ _ (c .before .before .before .before .before .before .before .before .before .before .before .before .before .pre .1 .0) (rw (← (c .before .before .before .before .before .before .before .before .before .before .before .before .before .pre .1 .1)) (c .before .before .if3 .left))) }
+mul-give-clocks c = record { fits = omega (arith, fits-of (c .before .before .before .before .before .before .before .before .before .read-digits .result .value) (c .before .before .before .before .before .before .before .before .before .before .before .before .args .scale) (c .before .before .before .before .before .before .before .before .before .before .before .before .pre .1 .0) (rw (← (c .before .before .before .before .before .before .before .before .before .before .before .before .pre .1 .1)) (c .before .before .if3 .left))) }
 
 give-clocks-requires : tie.Need-give-clocks-requires
 give-clocks-requires c κs = search needs
@@ -36,7 +36,7 @@ same-length : tie.Need-same-length
 same-length c = search needs
 
 returns-4 : tie.Need-returns-4
-returns-4 c = 
+returns-4 c =
     let a = c .before .before .before .before .before .before .before .before .before .before .before .before .before .before .before .args in
     let d = c .before .before .before .before .before .before .before .before .before .before .before .before .read-digits in
     λ find from.

@@ -37,7 +37,7 @@ same-length : tie.Need-same-length
 same-length c = search needs
 
 returns : tie.Need-returns
-returns c = 
+returns c =
     let a = c .before .before .before .before .before .before .before .before .before .before .before .args in
     λ find scale n each.
     c .before .before .write-change .ensures find scale (a .text .now) (a .p) n refl (each _ (c .before .before .before .before .before .wide .ensures .1) ∙ ap (λ (b : ℕ). find (b ∷ [])) (c .before .before .before .before .before .wide .ensures .0) ∙ ap find (sym (single-code (a .text .now) (a .p) (omega (arith, c .before .before .before .before .before .before .before .before .before .before .before .pre .0)))))

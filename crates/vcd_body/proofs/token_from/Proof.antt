@@ -1,6 +1,7 @@
 -- `vcd_body::token_from` meets its contract.
 -- Assumes nothing.
 use mathlib.Core.Path.{_≡_, refl, sym, ap, _∙_}
+use Prim.Native.Nat.{_+_}
 use native.Mathlib.Omega.{arith}
 use Rattle.vcd_text.proofs.Laws.{blank-more, blank-stop}
 use borrow.Author.Needs.{needs}
@@ -41,12 +42,12 @@ add-result : tie.Need-add-result
 add-result c = search needs
 
 returns-3 : tie.Need-returns-3
-returns-3 c = 
+returns-3 c =
     let a = c .before .before .before .before .before .before .before .before .args in
     blank-stop (a .text .now) (a .from + 1) (omega (arith, c .before .before .before .before .before .before .if1 .left)) (sym (c .before .white2 .ensures) ∙ c .if3 .left) ∙ blank-more (a .text .now) (a .from) (omega (arith, c .before .before .before .before .before .before .if1 .left)) (sym (c .before .before .before .before .white .ensures) ∙ c .before .before .before .if2 .taken)
 
 returns-4 : tie.Need-returns-4
-returns-4 c = 
+returns-4 c =
     let a = c .before .before .before .before .before .args in
     blank-stop (a .text .now) (a .from) (omega (arith, c .before .before .before .if1 .left)) (sym (c .before .white .ensures) ∙ c .if2 .left)
 

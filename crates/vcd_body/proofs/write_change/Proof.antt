@@ -19,7 +19,7 @@ moved-requires : tie.Need-moved-requires
 moved-requires c κs = search needs
 
 returns-4 : tie.Need-returns-4
-returns-4 c = 
+returns-4 c =
     let a = c .before .before .before .before .before .before .args in
     λ find scale text p n g f. rw (c .moved .ensures) (leads-silent find scale text (a .run) (a .out .now) p (a .e) (a .b) (a .list) n g (omega (arith, c .before .before .before .before .if1 .left)) (omega (arith, c .before .before .before .if2 .left)) f (c .before .if4 .taken))
 
@@ -42,7 +42,7 @@ same-length : tie.Need-same-length
 same-length c = search needs
 
 returns-5 : tie.Need-returns-5
-returns-5 c = 
+returns-5 c =
     let a = c .before .before .before .before .before .before .before .before .args in
     λ find scale text p n g f.
     rw (c .moved2 .ensures, c .before .change-word .ensures) (leads-pin find scale text (a .run) (a .out .now) p (a .e) (a .b) (a .list) n g (omega (arith, c .before .before .before .before .before .before .if1 .left)) (omega (arith, c .before .before .before .before .before .if2 .left)) f (omega (arith, c .before .before .before .if4 .left)) (omega (arith, c .before .before .before .before .if3 .left)) (c .before .before .if5 .taken))
