@@ -4,11 +4,12 @@
 A refusal by the prover can mean that a fact fails, or only that the proof does not find it. So each wrong answer of
 crates/*/must-fail that edits code (not a definition, not a contract) is built unproved, with that edit alone, and run beside the
 right program. A run that differs tells the two apart:
+    driver      tests/drivers/NAME.txt, a program over functions of the crates that it needs, which prints what they give
     listings    vectors over crates/vectors/data and a listing made of the model's words and the model's answers
-    replay      replay over its file `stdin`, and over a stream that ends within a word
-    driver      tests/drivers/CRATE.txt, a program over the crate's functions that prints what they give
-An answer that no run tells apart fails: it is no wrong answer, or a driver is missing. --write puts the result into FILE, where
-answers that are not run now keep their row.
+    CRATE       a program of this repository over its file `stdin`
+A driver runs the right crate and all wrong ones in one program: the crate and those above it are there once for each answer, under names
+of their own. Where that program does not come to its end, each answer is run alone. An answer that no run tells apart fails: it is no
+wrong answer, or a driver is missing. --write puts the result into FILE, where answers that are not run now keep their row.
 """
 import os
 import pathlib
@@ -23,6 +24,8 @@ RT = pathlib.Path(shutil.which("rt") or sys.exit("wrong answers: the Rattle tool
 KIT = pathlib.Path(os.environ.get("RATTLE_HOME", RT.parent.parent))
 OWN = KIT / "on" / os.uname().machine
 WORDS = 30000
+# what a driver reads of standard input at once
+BUFFER = 65536
 HEADER = re.compile(r"# ([a-z0-9_]+|[A-Z]\w*\.[^ .:]+)(?: of ([a-z0-9_]+))?(?: \(([a-z0-9_]+)\))?: (.*)")
 
 
@@ -46,6 +49,17 @@ def reached(names):
     return seen
 
 
+def source(name):
+    own = ROOT / "crates" / name / "src/lib.rt"
+    return own if own.is_file() else KIT / "libs" / name / "src/lib.rt"
+
+
+def written(path, text):
+    path.parent.mkdir(parents=True, exist_ok=True)
+    path.write_text(text)
+    return path
+
+
 def without_contracts(text):
     """code alone: what a program that is not proved is made of"""
     text = re.sub(r"^ *(?:requires|ensures)\b.*?^(?=\{|    [a-z]+ \{ |;)", "", text, flags=re.M | re.S)
@@ -65,172 +79,207 @@ class Answer:
         """the first two cells of its row in the report"""
         return self.title(), self.words.replace("|", "/")
 
-    def edited(self, folder):
-        """the crate's src/ with the edit, in a folder; None where no code changes"""
-        shutil.copytree(ROOT / "crates" / self.crate / "src", folder)
-        changed = False
+    def edited(self):
+        """the crate's code with the edit; None where no code changes"""
+        path = source(self.crate)
+        right = text = path.read_text()
         for file, old, new in self.pairs:
-            path = folder / file[len("src/"):]
-            text = path.read_text()
-            if text.count(old) != 1:
+            if file != "src/lib.rt" or text.count(old) != 1:
                 sys.exit(f"wrong answers: {self.title()}: the old text is {text.count(old)} times in {file}")
-            path.write_text(text.replace(old, new))
-            changed |= without_contracts(text) != without_contracts(text.replace(old, new))
-        return folder / "lib.rt" if changed else None
+            text = text.replace(old, new)
+        return text if without_contracts(text) != without_contracts(right) else None
 
 
 def answers():
     for path in sorted(ROOT.glob("crates/*/must-fail/*.edit")):
-        crate, file, old, found = path.parts[-3], "", "", []
+        crate, file, old, found, named = path.parts[-3], "", "", [], []
         lines = path.read_text().split("\n")
         several = any(HEADER.match(line) for line in lines)
         if not several:
-            found.append(Answer(crate, None, path.stem, next((line[2:] for line in lines if line.startswith("# ")), "")))
+            named = [Answer(crate, None, path.stem, next((line[2:] for line in lines if line.startswith("# ")), ""))]
+            found += named
         for line in lines:
             header = HEADER.match(line)
             if header and several:
-                found.append(Answer(crate, header[1], header[3], header[4]))
+                # headings one after the other name the same edit
+                named = [] if old else named
+                old = ""
+                named.append(Answer(crate, header[1], header[3], header[4]))
+                found.append(named[-1])
             elif line.startswith("file: "):
                 file = line[6:]
             elif line.startswith("old: "):
                 old = line[5:]
             elif line.startswith("new:") and file.startswith("src/"):
-                found[-1].pairs.append((file, old, line[5:]))
+                for answer in named:
+                    answer.pairs.append((file, old, line[5:]))
         yield from (answer for answer in found if answer.pairs)
 
 
-class NotBuilt(Exception):
-    """a program that does not fit the code"""
+def ran(root, libs, options, expected=None):
+    """what is said of a program that is built unproved and run: None where it writes what is expected"""
+    words = [str(OWN / "bin/rattle-cases"), "--toolchain", str(OWN / "toolchain"), *options]
+    words += ["--link", str(KIT / "lib/libos_c.a")] if "os" in libs else []
+    words += ["--stdout", str(expected)] if expected else []
+    words += [str(root), "--crate-name", "program", "--lib", f"std={KIT}/libs/std/src/lib.rt"]
+    for name, path in libs.items():
+        words += ["--lib", f"{name}={path}"]
+    done = subprocess.run(["nice", "-n", "10", *words], capture_output=True, text=True, cwd=ROOT)
+    said = done.stdout + done.stderr
+    if done.returncode == 0:
+        return None
+    if "FAIL: " not in said:
+        sys.exit(f"wrong answers: {root} is not built: {said.strip()[:2000]}")
+    return said
 
 
-class Run:
-    """a program that is built unproved and run: its root file, what it depends on, and what it is run on"""
+class Program:
+    """a program of this repository: its name here, its crate, what it is run on, and what it writes"""
 
-    def __init__(self, name, root, deps, options=(), expected=None):
-        self.name, self.root, self.named, self.deps = name, root, deps, reached(deps)
-        self.options, self.expected = list(options), expected
+    def __init__(self, name, crate, options, expected):
+        self.name, self.deps = name, reached(DEPS[crate])
+        self.root, self.options, self.expected, self.ready = ROOT / "crates" / crate / "src/main.rt", options, expected, False
 
-    def rank(self, crate):
-        """the crate's own driver first, then one that calls the crate itself, then programs, then drivers above it"""
-        driver = self.name.startswith("driver")
-        return 0 if self.name == f"driver {crate}" else 1 if driver and crate in self.named and crate != "bits" else 3 if driver else 2
+    def told(self, crate, path):
+        """None where it writes what is expected, with the crate's code in a file; else what is told of the difference"""
+        said = ran(self.root, {name: path if name == crate else source(name) for name in self.deps}, self.options, self.expected)
+        return said and (f"{self.name}, {self.difference(said)}" if self.name == "listings" else self.name)
 
-    def told(self, crate, lib):
-        """None where it writes what is expected; else what is said of the difference"""
-        words = [str(OWN / "bin/rattle-cases"), "--toolchain", str(OWN / "toolchain"), *self.options]
-        if "os" in self.deps:
-            words += ["--link", str(KIT / "lib/libos_c.a")]
-        words += ["--stdout", str(self.expected)] if self.expected else []
-        words += [str(self.root), "--crate-name", re.sub(r"\W", "_", self.root.stem), "--lib", f"std={KIT}/libs/std/src/lib.rt"]
-        for name in self.deps:
-            own = ROOT / "crates" / name / "src/lib.rt"
-            path = lib if name == crate else own if own.is_file() else KIT / "libs" / name / "src/lib.rt"
-            words += ["--lib", f"{name}={path}"]
-        done = subprocess.run(["nice", "-n", "10", *words], capture_output=True, text=True, cwd=ROOT)
-        said = done.stdout + done.stderr
-        if done.returncode == 0:
-            return None
-        if "FAIL: " not in said:
-            raise NotBuilt(f"wrong answers: {self.name}{' with an edit of ' + crate if crate else ''} is not built: {said.strip()[:500]}")
-        return said
+    def difference(self, said):
+        """the expected line in which the run that failed differs, or how it failed"""
+        place = re.search(r"on standard output, at byte (\d+)", said)
+        if not place:
+            return re.search(r"^FAIL: (.*)$", said, re.M)[1]
+        text = self.expected.read_text()
+        at = int(place[1])
+        return "in place of '" + text[text.rfind("\n", 0, at) + 1:].split("\n")[0] + "'"
+
+    def tell(self, crate, texts, work):
+        """for each code of the crate, what is told of the difference, or None"""
+        if not self.ready:
+            if said := self.told(None, None):
+                sys.exit(f"wrong answers: the right program differs in {said}")
+            self.ready = True
+        return [self.told(crate, written(work / "alone/lib.rt", text)) for text in texts]
 
 
-def placed(text):
-    """a driver with the parts of a chip as `chip::Chip` has them: a core beside the array of registers, or all in one struct"""
-    if "pub core: Core" in (ROOT / "crates/chip/src/lib.rt").read_text():
-        parts = {".CORE": ".core", "ARRAY(c)": "&c.registers"}
-    else:
-        parts = {".CORE": "", "ARRAY(c)": "c"}
-    for name, part in parts.items():
-        text = text.replace(name, part)
-    return text
+class Driver:
+    """a driver: its name, its text, what it needs, and the words that it reads"""
+
+    def __init__(self, path, words):
+        self.name, self.text, self.words = f"driver {path.stem}", path.read_text(), words[:BUFFER]
+        self.needs = re.search(r"^// needs: (.*)$", self.text, re.M)[1].split()
+        self.deps = reached(self.needs)
+
+    def parts(self, crate, texts, work):
+        """what the driver writes with each code of the crate, in one program; None where that does not come to its end"""
+        shutil.rmtree(work / "copies", ignore_errors=True)
+        above = [name for name in self.deps if crate in reached([name])]
+        libs = {name: source(name) for name in self.deps if name not in above}
+        calls = re.compile(r"\b(" + "|".join(above) + r")(?=::)")
+        main = ["// One driver with several codes of a crate.", "use libc::STDERR_FILENO;", "", "fn main() {", "    os::arg_count();"]
+        for number, text in enumerate(texts):
+            copies = {name: text if name == crate else source(name).read_text() for name in above}
+            copies["driver"] = self.text.replace("\nfn main() {", "\npub fn drive() {").replace("STDOUT_FILENO", "STDERR_FILENO")
+            for name, code in copies.items():
+                code = calls.sub(rf"\1_{number}", code).replace("#[no_mangle]\n", "").replace('pub extern "C" fn', "pub fn")
+                libs[f"{name}_{number}"] = written(work / "copies" / f"{name}_{number}" / "lib.rt", code)
+            main += [f"    driver_{number}::drive();", '    io::write_all(STDERR_FILENO, b"=\\n");']
+        root = written(work / "copies/main/main.rt", "\n".join([*main, "}", ""]))
+        words = work / "copies/words"
+        words.write_bytes(self.words * len(texts))
+        # standard error is shown whole where standard output is not the expected one
+        said = ran(root, libs, ["--stdin", str(words)], written(work / "copies/expected", "nothing\n"))
+        wrote = re.search(r"^what the run said:\nthe program exited with status 0\n(.*?)^(?=FAIL: |\Z)", said, re.M | re.S)
+        found = wrote[1].strip("\n").split("=") if wrote else []
+        return found[:-1] if len(found) == len(texts) + 1 else None
+
+    def tell(self, crate, texts, work):
+        """for each code of the crate, the driver's name where it writes something else than with the right one, or None"""
+        right = source(crate).read_text()
+        parts = self.parts(crate, [right, *texts], work)
+        if parts:
+            return [self.name if part != parts[0] else None for part in parts[1:]]
+        right_alone = self.parts(crate, [right], work) or sys.exit(f"wrong answers: {self.name} does not come to its end")
+        return [self.name if self.parts(crate, [text], work) != right_alone else None for text in texts]
 
 
-def first_difference(run, said):
-    """the expected line in which the first run that failed differs, or how it failed"""
-    place = re.search(r"on standard output, at byte (\d+)", said)
-    if not place:
-        return re.search(r"^FAIL: (.*)$", said, re.M)[1]
-    text = run.expected.read_text()
-    at = int(place[1])
-    return "in place of '" + text[text.rfind("\n", 0, at) + 1:].split("\n")[0] + "'"
-
-
-def runs(work):
-    """the programs, each with the output of the right one"""
-    vectors = ROOT / "crates/vectors"
+def generated(work):
+    """the model's words, and a listing of them with the model's answers"""
     model = ROOT / "target/cargo/release/model"
     subprocess.run(["cargo", "build", "--offline", "--quiet", "--release", "--bin", "model"], check=True, cwd=ROOT)
     words = subprocess.run([model, "words", "7", str(WORDS)], check=True, capture_output=True).stdout
     given = subprocess.run([model, "answers"], check=True, capture_output=True, input=words).stdout.decode().split()
-    (work / "words").write_bytes(words)
-    listing = work / "generated.txt"
-    listing.write_text("".join(f"{int.from_bytes(words[4 * i:4 * i + 4], 'little'):08X} {a}\n" for i, a in enumerate(given)))
-    names = (vectors / "args").read_text().split()
-    options = ["--arg", "generated.txt", "--data", f"generated.txt={listing}"]
-    for name in names:
-        options += ["--arg", name, "--data", f"{name}={vectors}/data/{name}"]
-    (work / "listings").write_text(f"generated.txt: words {len(given)}\n" + (vectors / "stdout").read_text())
-    found = [Run("listings", vectors / "src/main.rt", DEPS["vectors"], options, work / "listings")]
-    replay = ROOT / "crates/replay"
-    found.append(Run("replay", replay / "src/main.rt", DEPS["replay"], ["--stdin", str(replay / "stdin")], replay / "stdout"))
-    for path in sorted((ROOT / "tests/drivers").glob("*.txt")):
-        text = path.read_text()
-        root = work / "drivers" / path.stem / "main.rt"
-        root.parent.mkdir(parents=True)
-        root.write_text(placed(text))
-        deps = [name for name in re.search(r"^// needs: (.*)$", text, re.M)[1].split() if name in DEPS or name in KIT_DEPS]
-        driver = Run(f"driver {path.stem}", root, deps, ["--stdin", str(work / "words")])
-        try:
-            said = driver.told(None, None) or sys.exit(f"wrong answers: {path} prints nothing")
-        except NotBuilt as error:
-            print(f"{error}; it is left out", flush=True)
-            continue
-        wrote = re.search(r'expected "", found "(.*?)"$', said, re.M) or sys.exit(f"wrong answers: {path}: {said[:1000]}")
-        driver.expected = work / "drivers" / path.stem / "stdout"
-        driver.expected.write_text(wrote[1].replace("\\n", "\n"))
-        if driver.told(None, None) is not None:
-            sys.exit(f"wrong answers: {path} does not print the same twice")
-        found.append(driver)
-    for run in found:
-        if not run.name.startswith("driver") and (said := run.told(None, None)):
-            sys.exit(f"wrong answers: the right program differs in {run.name}: {first_difference(run, said)}")
+    entries = (f"{int.from_bytes(words[4 * i:4 * i + 4], 'little'):08X} {answer}\n" for i, answer in enumerate(given))
+    (work / "generated.txt").write_text("".join(entries))
+    return words
+
+
+def listings(work):
+    """vectors over its listings and the generated one"""
+    data = ROOT / "crates/vectors"
+    options = ["--arg", "generated.txt", "--data", f"generated.txt={work}/generated.txt"]
+    for name in (data / "args").read_text().split():
+        options += ["--arg", name, "--data", f"{name}={data}/data/{name}"]
+    (work / "listings").write_text(f"generated.txt: words {WORDS}\n" + (data / "stdout").read_text())
+    return Program("listings", "vectors", options, work / "listings")
+
+
+def runs(work):
+    """the drivers and the programs"""
+    words = generated(work)
+    found = [Driver(path, words) for path in sorted((ROOT / "tests/drivers").glob("*.txt"))]
+    found.append(listings(work))
+    for path in sorted(ROOT.glob("crates/*/src/main.rt")):
+        crate = path.parent.parent
+        if crate.name != "vectors":
+            found.append(Program(crate.name, crate.name, ["--stdin", str(crate / "stdin")], crate / "stdout"))
     return found
+
+
+def rank(run, crate):
+    """the crate's own driver first, then one that calls the crate itself, then programs, then drivers above it"""
+    driver = isinstance(run, Driver)
+    return 0 if run.name == f"driver {crate}" else 1 if driver and crate in run.needs else 3 if driver else 2
+
+
+def told_by(programs, crate, texts, work):
+    """for each code of a crate the run that differs with it, or None"""
+    told = [None] * len(texts)
+    for run in sorted((run for run in programs if crate in run.deps), key=lambda run: rank(run, crate)):
+        left = [place for place, by in enumerate(told) if by is None]
+        if left:
+            for place, by in zip(left, run.tell(crate, [texts[place] for place in left], work)):
+                told[place] = by
+    return told
 
 
 def main(arguments):
     out = pathlib.Path(arguments.pop(arguments.index("--write") + 1)) if "--write" in arguments else None
     wanted = [word for word in arguments if word != "--write"]
     kept = rows_of(out) if out and wanted else {}
-    rows, skipped, failed = [], 0, 0
+    rows, skipped, failed, now = [], 0, 0, {}
+    for answer in answers():
+        text = answer.edited()
+        if text is None:
+            skipped += 1
+        elif wanted and answer.crate not in wanted and answer.title() not in wanted:
+            rows += [kept[answer.row()]] if answer.row() in kept else []
+        else:
+            rows.append(answer)
+            now.setdefault(answer.crate, []).append((answer, text))
     with tempfile.TemporaryDirectory() as folder:
         work = pathlib.Path(folder)
         programs = runs(work)
-        for number, answer in enumerate(answers()):
-            lib = answer.edited(work / f"edit-{number}")
-            if lib is None:
-                skipped += 1
-            elif wanted and answer.crate not in wanted and answer.title() not in wanted:
-                rows += [kept[answer.row()]] if answer.row() in kept else []
-            else:
-                by = told_by(programs, answer, lib)
+        for crate, found in now.items():
+            for (answer, _), by in zip(found, told_by(programs, crate, [text for _, text in found], work)):
                 failed += by is None
-                rows.append((*answer.row(), by or "NOTHING: it is to be replaced"))
+                rows[rows.index(answer)] = (*answer.row(), by or "NOTHING: it is to be replaced")
                 print(f"{answer.title()}: {by or 'NOTHING TELLS IT APART: ' + answer.words}", flush=True)
-            shutil.rmtree(work / f"edit-{number}")
     print(f"wrong answers: {len(rows)} that edit code are run, {failed} of them now told apart by nothing; {skipped} edit a contract alone")
     if out:
         out.write_text(report(rows, skipped))
     sys.exit(1 if failed else 0)
-
-
-def told_by(programs, answer, lib):
-    """the run that differs with the edit, or None"""
-    own = sorted((run for run in programs if answer.crate in run.deps), key=lambda run: run.rank(answer.crate))
-    for run in own:
-        if said := run.told(answer.crate, lib):
-            return f"{run.name}, {first_difference(run, said)}" if run.name == "listings" else run.name
-    return None
 
 
 def rows_of(page):
@@ -247,8 +296,8 @@ def report(rows, skipped):
         "",
         "The last result of `scripts/check-wrong-answers.sh`, which writes this page. Each wrong answer of a must-fail edit that changes code",
         "was built unproved, with that edit alone, and run beside the right program; the run named in the last column differed.",
-        "`listings` are those of `crates/vectors/data` and one of generated words with the independent model's answers (generated.txt), `driver",
-        "NAME` is `tests/drivers/NAME.txt`.",
+        "`driver NAME` is `tests/drivers/NAME.txt`, `listings` are those of `crates/vectors/data` and one of generated words with the",
+        "independent model's answers (generated.txt), and another name is the program `crates/NAME` over its file `stdin`.",
         "",
         f"{told} of {len(rows)} differ. {skipped} more edit a contract alone, and have no code to run. Edits of definitions are not run: there a",
         "theorem about the definition fails.",
