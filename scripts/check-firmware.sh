@@ -1,7 +1,7 @@
 #!/usr/bin/env bash
 # Firmware images and their runs on the independent core: the images are what their sources make, where the assembler is installed;
 # the lists of events are what the hosts' descriptions make; the EDID block is what a host reads; the commands of docs/RECALL.md and
-# firmware/README.md print what these pages say; malformed files are told. Where crates.txt has the program `firmware`, the same runs
+# images/README.md print what these pages say; malformed files are told. Where crates.txt has the program `firmware`, the same runs
 # and refusals of the proved program print the same; where it has `firmware_capi`, the call for C is compared with the core. Ends in
 # a line for each part, or names the first difference and fails.
 set -euo pipefail
@@ -19,9 +19,9 @@ fail() {
 }
 
 if command -v ca65 > /dev/null; then
-    bash firmware/make.sh "$work"
+    bash images/make.sh "$work"
     for image in "$work"/*.rom "$work"/*.lst; do
-        cmp -s "$image" "firmware/${image##*/}" || fail "${image##*/} is not what its source makes"
+        cmp -s "$image" "images/${image##*/}" || fail "${image##*/} is not what its source makes"
     done
     echo "firmware: images and listings are what the sources make"
 else
@@ -43,9 +43,9 @@ same() {
 
 runs=0
 while read -r image list count; do
-    rom=firmware/$image.rom
-    events=firmware/$list.events
-    "$model" host "$rom" "firmware/$list.host" | cmp - "$events" || fail "$list.events is not what its description makes"
+    rom=images/$image.rom
+    events=images/$list.events
+    "$model" host "$rom" "images/$list.host" | cmp - "$events" || fail "$list.events is not what its description makes"
     same "$rom" "$count" "$events"
     tail -n 1 "$work/expected" | grep -q "^number 0 counted $count given $(grep -c '^[0-9]' "$events") " || fail "$list does not run to its end"
     same -t "$rom" "$count" "$events"
@@ -53,7 +53,7 @@ while read -r image list count; do
     same "$rom" 0 "$events"
     same "$rom" 3000
     runs=$((runs + 1))
-done < <(grep -v '^#' firmware/runs.txt)
+done < <(grep -v '^#' images/runs.txt)
 echo "firmware: $runs stored runs${proved:+, the proved program printing what the model prints}"
 
 # random programs with random events, from power up
@@ -78,12 +78,12 @@ if grep -q '^firmware_capi:' crates.txt; then
 fi
 
 # what a host reads, as lines of sixteen bytes
-od -An -v -tx1 -w16 firmware/edid.bin | sed 's/^ //' | tr a-f A-F > "$work/block"
-read -r image list count < <(grep '^ddc2b ' firmware/runs.txt)
-"$model" bus firmware/ddc2b.rom "$count" firmware/ddc2b.events > "$work/bus"
+od -An -v -tx1 -w16 images/edid.bin | sed 's/^ //' | tr a-f A-F > "$work/block"
+read -r image list count < <(grep '^ddc2b ' images/runs.txt)
+"$model" bus images/ddc2b.rom "$count" images/ddc2b.events > "$work/bus"
 sed -n '/^START A1+ /s///p' "$work/bus" | sed 's/ STOP$//; s/[+-]//g' | xargs -n 16 | diff "$work/block" - || fail "the host does not read the block by DDC2B"
-read -r image list count < <(grep '^ddc1 ' firmware/runs.txt)
-"$model" bus firmware/ddc1.rom "$count" firmware/ddc1.events | sed 1d | diff "$work/block" - || fail "the host does not read the block by DDC1"
+read -r image list count < <(grep '^ddc1 ' images/runs.txt)
+"$model" bus images/ddc1.rom "$count" images/ddc1.events | sed 1d | diff "$work/block" - || fail "the host does not read the block by DDC1"
 echo "firmware: the host reads the EDID block by DDC2B and by DDC1"
 
 # told LINE ARGUMENTS: nothing is printed, and this line is told
@@ -93,32 +93,32 @@ told() {
     [ "$status" = 2 ] && [ ! -s "$work/expected" ] && [ "$(cat "$work/told")" = "$1" ] || fail "${*:2}: status $status, told: $(cat "$work/told")"
     same "${@:2}"
 }
-head -c 24575 firmware/sort.rom > "$work/short"
-{ cat firmware/sort.rom; echo; } > "$work/long"
+head -c 24575 images/sort.rom > "$work/short"
+{ cat images/sort.rom; echo; } > "$work/long"
 printf '0 04000000\n\n1 0400000\n' > "$work/malformed"
 printf '4294967296 04000000\n' > "$work/great"
 told "$work/short: 24575 bytes, not 24576" "$work/short" x "$work/malformed"
 told "$work/long: 24577 bytes, not 24576" "$work/long" 1
-told "x: not a decimal number up to 4294967295" firmware/sort.rom x "$work/malformed"
-told "4294967296: not a decimal number up to 4294967295" firmware/sort.rom 4294967296
-told "$work/malformed:3: not NUMBER WORD" firmware/sort.rom 1 "$work/malformed"
-told "$work/great:1: not NUMBER WORD" -t firmware/sort.rom 1 "$work/great"
+told "x: not a decimal number up to 4294967295" images/sort.rom x "$work/malformed"
+told "4294967296: not a decimal number up to 4294967295" images/sort.rom 4294967296
+told "$work/malformed:3: not NUMBER WORD" images/sort.rom 1 "$work/malformed"
+told "$work/great:1: not NUMBER WORD" -t images/sort.rom 1 "$work/great"
 malformed=0
 for line in 1 '1 1234567' '1 123456789' '1 1234567G' '1 +1234567' '1 00000000 2' 'x 00000000' '-1 00000000' '+1 00000000' '1,00000000' '1 #00000000' \
     '00000000' '1 0x000000' '99999999999999999999 00000000' '1 0000 0000'; do
     printf '0 04000000 # a clock\n%s\n0 04000000\n' "$line" > "$work/malformed"
-    told "$work/malformed:2: not NUMBER WORD" firmware/sort.rom 1 "$work/malformed"
+    told "$work/malformed:2: not NUMBER WORD" images/sort.rom 1 "$work/malformed"
     malformed=$((malformed + 1))
 done
 for line in '' ' ' '#' '# 1' '1 00000000#' '\t007\t0400000f \r' '4294967295 FFFFFFFF' '00000000000000000000 04000000'; do
     printf "0 04000000\n$line\n0 04000000" > "$work/taken"
-    same firmware/sort.rom 9 "$work/taken"
+    same images/sort.rom 9 "$work/taken"
     [ -s "$work/expected" ] || fail "line '$line' is told: $(cat "$work/told")"
 done
 echo "firmware: malformed files are told, $malformed lines among them"
 
 # the commands of the pages, each with the lines that it prints
-PATH=$(dirname "$model"):$PATH python3 - docs/RECALL.md firmware/README.md <<'PYTHON'
+PATH=$(dirname "$model"):$PATH python3 - docs/RECALL.md images/README.md <<'PYTHON'
 import re, subprocess, sys
 commands = 0
 for page in sys.argv[1:]:
@@ -130,5 +130,5 @@ for page in sys.argv[1:]:
         done = subprocess.run(['bash', '-c', command], capture_output=True, text=True)
         if done.stdout + done.stderr != re.sub(r'^    ', '', expected, flags=re.M):
             sys.exit(f'firmware: {page}: {command}\n{done.stdout}{done.stderr}')
-print(f'firmware: {commands} commands of docs/RECALL.md and firmware/README.md print what the pages say')
+print(f'firmware: {commands} commands of docs/RECALL.md and images/README.md print what the pages say')
 PYTHON
