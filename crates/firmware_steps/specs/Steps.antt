@@ -1,0 +1,76 @@
+-- A firmware run in steps, one event or interrupt at a time, and that these make a run (document 02, Wish 5).
+use Prim.Native.Nat.{ℕ, _+_, _-_}
+use mathlib.Core.Bool.{Bool, true, false}
+use mathlib.Core.List.{List, [], _∷_}
+use lib.Dec.{eqb, ltb}
+use Rattle.bits.specs.Byte.{pick}
+use Rattle.events.specs.Clocks as clock
+use Rattle.events.specs.declared.Decoded.the-variants as event
+use Rattle.events.specs.Word.{decode}
+use Rattle.chip.specs.declared.Chip.{Chip}
+use Rattle.outcome.specs.Outcome.{next, wasReset}
+use Rattle.step.specs.Step.{answered}
+use Rattle.arithmetic.specs.declared.Flags.{Flags}
+use Rattle.operations.specs.declared.Cpu.{Cpu}
+use Rattle.instruction.specs.Instruction.{resetCpu}
+use Rattle.batch.specs.Batch.{isInterrupted}
+use Rattle.machine.specs.Machine.{Machine, machine, clockAfter, isRequesting, afterInterrupt}
+use Rattle.machine.specs.Run.{numberOf, wordOf, occurred, Ended, ended, prepended, runs}
+use Rattle.firmware_steps.specs.declared.Given.{Given}
+use Rattle.firmware_steps.specs.declared.Interrupted.{Interrupted}
+
+-- ---- power up
+
+abbrev pub noFlags : Flags
+noFlags = record { n = false; v = false; d = false; i = false; z = false; c = false }
+
+-- A, X, Y and cycles over are 0, S is FF; then a reset, which sets I and loads PC from FFFC
+unfoldable pub powerUp : List ℕ → Cpu
+powerUp rom = resetCpu rom (record { a = 0; x = 0; y = 0; s = 255; p = noFlags; pc = 0; over = 0 })
+
+-- ---- an event
+
+-- CPU and chip after a word, as `occurred` leaves them, and the answer
+unfoldable pub givenBy : List ℕ → Cpu → Chip → ℕ → Given
+givenBy rom c k w = record { cpu = pick (wasReset k (decode w)) (resetCpu rom c) c; chip = next k (decode w); answer = answered k (decode w) }
+
+-- ---- before an instruction
+
+-- an interrupt is due: RESET is high, a request stands and I is clear
+unfoldable pub isDue : Cpu → Chip → Bool
+isDue c k = pick (k .core .reset) (isInterrupted (isRequesting k) c) false
+
+abbrev pub clockedAfter : ℕ → Chip → Chip
+clockedAfter n k = clockAfter n k
+
+-- the machine behind the interrupt, where one is due
+unfoldable pub beforeInstruction : List ℕ → Machine → Machine
+beforeInstruction rom m = pick (m .chip .core .reset) (afterInterrupt rom m) m
+
+unfoldable pub interruptedBy : List ℕ → List ℕ → Cpu → Chip → Interrupted
+interruptedBy rom ram c k =
+    record {
+      cpu = beforeInstruction rom (machine c ram k) .cpu;
+      chip = beforeInstruction rom (machine c ram k) .chip;
+      taken = isDue c k;
+    }
+
+-- ---- a run in steps
+
+-- instructions up to the one of number t
+abbrev pub upTo : ℕ → ℕ → List ℕ → Machine → Ended
+upTo t i rom m = runs (t - i) i rom [] m
+
+abbrev pub least : ℕ → ℕ → ℕ
+least a b = pick (ltb a b) a b
+
+-- after the instructions before an event: it is given where another instruction follows and none was refused
+abbrev pub onEvent : Ended → ℕ → (Ended → Ended) → Ended
+onEvent r n k = pick (eqb (r .number) 0) (pick (ltb (r .next) n) (k r) r) r
+
+-- a run up to the instruction of number n, from number i: instructions up to each event, the event, and at last the instructions that remain
+unfoldable pub inSteps : ℕ → ℕ → List ℕ → List ℕ → Machine → Ended
+inSteps n i rom [] m = upTo n i rom m
+inSteps n i rom (e ∷ es) m =
+    onEvent (upTo (least n (numberOf e)) i rom m) n
+    (λ (r : Ended). prepended (answered (r .machine .chip) (decode (wordOf e)) ∷ []) (inSteps n (r .next) rom es (occurred rom (r .machine) (wordOf e))))
