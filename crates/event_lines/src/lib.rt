@@ -231,7 +231,7 @@ pub fn next(r: Reader, b: u8) -> Reader
 
 // What a line means, at its end.
 // Wrong answers: a word of seven digits taken; a number alone taken for nothing.
-pub fn meaning(line: Line) -> Meaning
+pub fn meaning_of(line: Line) -> Meaning
     ensures { λ r. ⌜ r ≡ meaningOf line ⌝ }
 {
     match line {

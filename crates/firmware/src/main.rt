@@ -301,7 +301,7 @@ fn listed(run: Run, reader: Reader, more: bool, changed: bool) -> Listed {
 // The end of a line. That every line is well formed was checked before.
 fn end_line(run: Run, ram: &mut [u8; 256], rom: &[u8; 24576], asked: Asked, reader: Reader) -> Listed {
     let line = reader.line;
-    let meaning = event_lines::meaning(line);
+    let meaning = event_lines::meaning_of(line);
     let start = event_lines::line_start();
     match meaning {
         Meaning::Nothing => listed(run, start, true, false),
@@ -388,7 +388,7 @@ fn finish(run: Run, ram: &mut [u8; 256], rom: &[u8; 24576], asked: Asked) {
 
 fn is_malformed(reader: Reader) -> bool {
     let line = reader.line;
-    let meaning = event_lines::meaning(line);
+    let meaning = event_lines::meaning_of(line);
     match meaning {
         Meaning::Nothing => false,
         Meaning::Event(_) => false,
