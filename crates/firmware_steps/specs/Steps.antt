@@ -1,20 +1,19 @@
 -- A firmware run in steps, one event or interrupt at a time, and that these make a run (document 02, Wish 5).
 use Prim.Native.Nat.{ℕ, _+_, _-_}
-use mathlib.Core.Bool.{Bool, true, false}
+use mathlib.Core.Bool.{Bool, true, false, not}
 use mathlib.Core.List.{List, [], _∷_}
 use lib.Dec.{eqb, ltb}
 use Rattle.bits.specs.Byte.{pick}
-use Rattle.events.specs.Clocks as clock
-use Rattle.events.specs.declared.Decoded.the-variants as event
 use Rattle.events.specs.Word.{decode}
 use Rattle.chip.specs.declared.Chip.{Chip}
-use Rattle.outcome.specs.Outcome.{next, wasReset}
-use Rattle.step.specs.Step.{answered}
+use Rattle.chip.specs.State.{requests}
+use Rattle.outcome.specs.Outcome.{wasReset}
+use Rattle.step.specs.declared.Stepped.{Stepped}
+use Rattle.step.specs.Step.{advance, answered}
 use Rattle.arithmetic.specs.declared.Flags.{Flags}
 use Rattle.operations.specs.declared.Cpu.{Cpu}
 use Rattle.instruction.specs.Instruction.{resetCpu}
-use Rattle.batch.specs.Batch.{isInterrupted}
-use Rattle.machine.specs.Machine.{Machine, machine, clockAfter, isRequesting, afterInterrupt}
+use Rattle.machine.specs.Machine.{Machine, machine, afterInterrupt}
 use Rattle.machine.specs.Run.{numberOf, wordOf, occurred, Ended, ended, prepended, runs}
 use Rattle.firmware_steps.specs.declared.Given.{Given}
 use Rattle.firmware_steps.specs.declared.Interrupted.{Interrupted}
@@ -30,30 +29,29 @@ powerUp rom = resetCpu rom (record { a = 0; x = 0; y = 0; s = 255; p = noFlags; 
 
 -- ---- an event
 
+abbrev pub givenWith : Cpu → Stepped → Given
+givenWith c s = record { cpu = c; chip = s .chip; answer = s .answer }
+
 -- CPU and chip after a word, as `occurred` leaves them, and the answer
 unfoldable pub givenBy : List ℕ → Cpu → Chip → ℕ → Given
-givenBy rom c k w = record { cpu = pick (wasReset k (decode w)) (resetCpu rom c) c; chip = next k (decode w); answer = answered k (decode w) }
+givenBy rom c k w = givenWith (pick (wasReset k (decode w)) (resetCpu rom c) c) (advance k (decode w))
 
 -- ---- before an instruction
 
 -- an interrupt is due: RESET is high, a request stands and I is clear
 unfoldable pub isDue : Cpu → Chip → Bool
-isDue c k = pick (k .core .reset) (isInterrupted (isRequesting k) c) false
-
-abbrev pub clockedAfter : ℕ → Chip → Chip
-clockedAfter n k = clockAfter n k
+isDue c k = pick (k .core .reset) (pick (eqb (requests k) 0) false (not (c .p .i))) false
 
 -- the machine behind the interrupt, where one is due
 unfoldable pub beforeInstruction : List ℕ → Machine → Machine
 beforeInstruction rom m = pick (m .chip .core .reset) (afterInterrupt rom m) m
 
-unfoldable pub interruptedBy : List ℕ → List ℕ → Cpu → Chip → Interrupted
-interruptedBy rom ram c k =
-    record {
-      cpu = beforeInstruction rom (machine c ram k) .cpu;
-      chip = beforeInstruction rom (machine c ram k) .chip;
-      taken = isDue c k;
-    }
+-- its CPU and chip, and whether an interrupt was taken
+abbrev pub interruptedWith : Machine → Bool → Interrupted
+interruptedWith m b = record { cpu = m .cpu; chip = m .chip; taken = b }
+
+abbrev pub interruptedBy : List ℕ → List ℕ → Cpu → Chip → Interrupted
+interruptedBy rom ram c k = interruptedWith (beforeInstruction rom (machine c ram k)) (isDue c k)
 
 -- ---- a run in steps
 

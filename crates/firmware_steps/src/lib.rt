@@ -3,13 +3,13 @@
 ghost use mathlib.Core.Path.{_≡_};
 ghost use mathlib.Core.List.{[]};
 ghost use lib.ListN.{getD, set};
-ghost use Rattle.chip.specs.declared.Chip.{Chip};
+ghost use Rattle.reads.specs.Reads.{reading};
 ghost use Rattle.outcome.specs.Outcome.{wasReset};
 ghost use Rattle.memory.specs.Memory.{stackPlace};
-ghost use Rattle.machine.specs.Machine.{machine, registerRead, load as loadOf};
+ghost use Rattle.machine.specs.Machine.{machine, registerRead, load as loadOf, clockAfter};
 ghost use Rattle.machine.specs.Run.{firmware as firmwareOf};
 ghost use Rattle.firmware_run.specs.Firmware.{resultOf};
-ghost use Rattle.firmware_steps.specs.Steps.{powerUp, givenBy, isDue, interruptedBy, beforeInstruction, clockedAfter};
+ghost use Rattle.firmware_steps.specs.Steps.{powerUp, givenBy, isDue, interruptedBy, beforeInstruction};
 use arithmetic::Flags;
 use chip::Chip;
 use events::Decoded;
@@ -66,13 +66,12 @@ pub fn power_up(rom: &[u8]) -> Cpu
 fn resets(chip: Chip, event: Decoded) -> bool
     ensures { λ r. ⌜ r ≡ wasReset chip event ⌝ }
 {
-    let core = chip.core;
     match event {
         Decoded::Read(_) => false,
         Decoded::Write(_, _) => false,
-        Decoded::Pin(p, level) => (p == RESET) & (core.reset & !level),
-        Decoded::Clock(k) => core.reset
-            & ((k == WATCHDOG) & counters::watchdog_fires(core.watchdog)),
+        Decoded::Pin(p, level) => (p == RESET) & (chip.core.reset & !level),
+        Decoded::Clock(k) => chip.core.reset
+            & ((k == WATCHDOG) & counters::watchdog_fires(chip.core.watchdog)),
         Decoded::Polarity(_, _) => false,
         Decoded::Refused(_) => false,
     }
@@ -124,7 +123,7 @@ fn push(ram: &mut [u8; 256], s: u8, b: u8)
 
 // The chip after n cycles, those over counted: 32 are an 8 µs clock.
 fn clocked_after(n: u16, chip: Chip) -> Chip
-    ensures { λ r. ⌜ r ≡ clockedAfter n chip ⌝ }
+    ensures { λ r. ⌜ r ≡ clockAfter n chip ⌝ }
 {
     if n < 32 {
         chip
@@ -178,6 +177,14 @@ fn register_read(r: Reading) -> Loaded
     }
 }
 
+fn register_at(chip: Chip, r: u8) -> Loaded
+    ensures { λ q. ⌜ q ≡ registerRead (reading chip r) ⌝ }
+{
+    let registers = chip.registers;
+    let core = chip.core;
+    register_read(reads::read_register(&registers, core, r))
+}
+
 fn byte_at(rom: &[u8], i: usize) -> u8
     ensures { λ r. ⌜ r ≡ getD (now (rom .entry)) i 0 ⌝ }
 {
@@ -191,11 +198,7 @@ pub fn load(ram: &[u8; 256], rom: &[u8], chip: Chip, a: u16) -> Loaded
 {
     let p = memory::place_of(a);
     match p {
-        Place::Register(r) => {
-            let registers = chip.registers;
-            let core = chip.core;
-            register_read(reads::read_register(&registers, core, r as u8))
-        }
+        Place::Register(r) => register_at(chip, r as u8),
         Place::Ram(i) => Loaded::Byte(ram[i]),
         Place::Rom(i) => Loaded::Byte(byte_at(rom, i)),
         Place::Unmapped => Loaded::Refused(21),

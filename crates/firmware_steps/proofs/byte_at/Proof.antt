@@ -1,20 +1,15 @@
+-- `firmware_steps::byte_at` meets its contract.
+-- Assumes nothing.
+use mathlib.Core.Path.{sym}
 use borrow.Author.Needs.{needs}
+use lib.ListN.{List·getD-eq-default}
 use Rattle.firmware_steps.proofs.byte_at.Statement.{statement}
 use Rattle.firmware_steps.proofs.byte_at.Tie as tie
-use Rattle.firmware_steps.proofs.byte_at.Reads as reads
-use Rattle.firmware_steps.proofs.byte_at.Lts as lts
-
--- src/lib.rt:184:24
-shared-slice-read-result : tie.Need-shared-slice-read-result
-shared-slice-read-result c = search needs
-
--- src/lib.rt:181:1
-returns : tie.Need-returns
-returns c = search needs
-
--- src/lib.rt:181:1
-returns-2 : tie.Need-returns-2
-returns-2 c = ?
 
 pub byte-at-spec : {M : Type 1} → statement M
-byte-at-spec = tie.close (tie.spec shared-slice-read-result returns returns-2)
+byte-at-spec =
+    tie.close
+    (tie.spec
+    (λ c. search needs)
+    (λ c. search needs)
+    (λ c. sym (List·getD-eq-default (c .before .args .rom .now) 0 (c .if1 .left))))

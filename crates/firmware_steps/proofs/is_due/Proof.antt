@@ -1,25 +1,17 @@
+-- `firmware_steps::is_due` meets its contract.
+-- Assumes nothing.
+use borrow.Author.Tests.{eq-eqb, ne-eqb}
+use Rattle.firmware_steps.specs.Steps.{isDue}
 use borrow.Author.Needs.{needs}
 use Rattle.firmware_steps.proofs.is_due.Statement.{statement}
 use Rattle.firmware_steps.proofs.is_due.Tie as tie
-use Rattle.firmware_steps.proofs.is_due.Reads as reads
-use Rattle.firmware_steps.proofs.is_due.Lts as lts
-use Rattle.chip.proofs.requests.Reads as requests-reads
-
--- src/lib.rt:112:12
-requests-requires : tie.Need-requests-requires
-requests-requires c κs = search needs
-
--- src/lib.rt:106:1
-returns : tie.Need-returns
-returns c = ?
-
--- src/lib.rt:106:1
-returns-2 : tie.Need-returns-2
-returns-2 c = ?
-
--- src/lib.rt:106:1
-returns-3 : tie.Need-returns-3
-returns-3 c = ?
 
 pub is-due-spec : {M : Type 1} → statement M
-is-due-spec = tie.close (tie.spec requests-requires returns returns-2 returns-3)
+unfolding isDue
+is-due-spec =
+    tie.close
+    (tie.spec
+    (λ c κs. search needs)
+    (λ c. simp (← (c .before .requests .ensures), eq-eqb _ _ (c .if2 .taken), c .before .before .if1 .taken))
+    (λ c. simp (← (c .before .before .requests .ensures), ne-eqb _ _ (c .before .if2 .left), c .before .before .before .if1 .taken))
+    (λ c. simp (c .if1 .left)))

@@ -1,15 +1,12 @@
+-- `firmware_steps::register_read` meets its contract.
+-- Assumes nothing.
+use borrow.Author.Tests.{eq-eqb, ne-eqb}
 use Rattle.firmware_steps.proofs.register_read.Statement.{statement}
 use Rattle.firmware_steps.proofs.register_read.Tie as tie
-use Rattle.firmware_steps.proofs.register_read.Reads as reads
-use Rattle.firmware_steps.proofs.register_read.Lts as lts
-
--- src/lib.rt:171:1
-returns : tie.Need-returns
-returns c = ?
-
--- src/lib.rt:171:1
-returns-2 : tie.Need-returns-2
-returns-2 c = ?
 
 pub register-read-spec : {M : Type 1} → statement M
-register-read-spec = tie.close (tie.spec returns returns-2)
+register-read-spec =
+    tie.close
+    (tie.spec
+    (λ c. simp (eq-eqb _ _ (c .if1 .taken)))
+    (λ c. simp (ne-eqb _ _ (c .if1 .left))))
