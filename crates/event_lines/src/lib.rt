@@ -198,7 +198,7 @@ fn advanced(line: Line, s: Symbol) -> Line
 // ---- the line
 
 // Before the first byte of a line.
-// Wrong answers: a line that begins behind a number; a line that begins in a comment.
+// Wrong answers: a line that begins behind a number; one that begins in a comment.
 pub fn line_start() -> Reader
     ensures { λ r. ⌜ r ≡ lineStart ⌝ }
 {
@@ -230,7 +230,7 @@ pub fn next(r: Reader, b: u8) -> Reader
 }
 
 // What a line means, at its end.
-// Wrong answers: a word of seven digits taken; a number alone taken for nothing.
+// Wrong answers: a number alone taken for nothing; blanks behind a word refused.
 pub fn meaning_of(line: Line) -> Meaning
     ensures { λ r. ⌜ r ≡ meaningOf line ⌝ }
 {

@@ -289,7 +289,7 @@ fn take_event(run: Run, ram: &mut [u8; 256], rom: &[u8; 24576], asked: Asked, ev
     }
 }
 
-fn listed(run: Run, reader: Reader, more: bool, changed: bool) -> Listed {
+fn listed_at(run: Run, reader: Reader, more: bool, changed: bool) -> Listed {
     Listed {
         run,
         reader,
@@ -299,17 +299,23 @@ fn listed(run: Run, reader: Reader, more: bool, changed: bool) -> Listed {
 }
 
 // The end of a line. That every line is well formed was checked before.
-fn end_line(run: Run, ram: &mut [u8; 256], rom: &[u8; 24576], asked: Asked, reader: Reader) -> Listed {
+fn end_line(
+    run: Run,
+    ram: &mut [u8; 256],
+    rom: &[u8; 24576],
+    asked: Asked,
+    reader: Reader,
+) -> Listed {
     let line = reader.line;
     let meaning = event_lines::meaning_of(line);
     let start = event_lines::line_start();
     match meaning {
-        Meaning::Nothing => listed(run, start, true, false),
+        Meaning::Nothing => listed_at(run, start, true, false),
         Meaning::Event(e) => {
             let r = take_event(run, ram, rom, asked, e);
-            listed(r, start, goes_on(r, asked.count), false)
+            listed_at(r, start, goes_on(r, asked.count), false)
         }
-        Meaning::Malformed => listed(run, start, false, true),
+        Meaning::Malformed => listed_at(run, start, false, true),
     }
 }
 
@@ -333,7 +339,7 @@ fn take_bytes(
                 return at;
             }
         } else {
-            at = listed(run, event_lines::next(reader, b), true, false);
+            at = listed_at(run, event_lines::next(reader, b), true, false);
         }
         i += 1;
     }
@@ -341,7 +347,13 @@ fn take_bytes(
 }
 
 // The end of the file ends its last line.
-fn take_block(start: Listed, ram: &mut [u8; 256], rom: &[u8; 24576], asked: Asked, fd: i32) -> Listed {
+fn take_block(
+    start: Listed,
+    ram: &mut [u8; 256],
+    rom: &[u8; 24576],
+    asked: Asked,
+    fd: i32,
+) -> Listed {
     let mut block = io::large_buffer();
     let filled = input::fill(fd, &mut block);
     let n = filled.count;
@@ -353,13 +365,13 @@ fn take_block(start: Listed, ram: &mut [u8; 256], rom: &[u8; 24576], asked: Aske
     let reader = taken.reader;
     let last = end_line(run, ram, rom, asked, reader);
     let r = last.run;
-    listed(r, reader, false, last.changed | filled.failed)
+    listed_at(r, reader, false, last.changed | filled.failed)
 }
 
 // The events of a list. A proved loop has to end, and nothing says that a list does, so the loop counts blocks down, from a number that no
 // run uses up.
 fn take_list(start: Run, ram: &mut [u8; 256], rom: &[u8; 24576], asked: Asked, fd: i32) -> Listed {
-    let mut at = listed(start, event_lines::line_start(), true, false);
+    let mut at = listed_at(start, event_lines::line_start(), true, false);
     let mut blocks = u64::MAX;
     while blocks > 0 {
         at = take_block(at, ram, rom, asked, fd);
@@ -544,13 +556,7 @@ fn count_of(text: &[u8]) -> u64 {
     match n {
         Number::Bad => 4294967296,
         Number::Big => 4294967296,
-        Number::Of(v) => {
-            if v < 4294967296 {
-                v
-            } else {
-                4294967296
-            }
-        }
+        Number::Of(v) => { if v < 4294967296 { v } else { 4294967296 } }
     }
 }
 

@@ -3,8 +3,8 @@ ghost use mathlib.Core.Path.{_≡_};
 ghost use Prim.Native.Nat.{_/_, _%_};
 ghost use Rattle.hex.specs.Hex.{hexDigit};
 ghost use Rattle.firmware_lines.specs.Lines.{shownP, registerLine, instructionText, idleText};
-use operations::Cpu;
 use arithmetic::Flags;
+use operations::Cpu;
 
 fn high_digit(n: u8) -> u8
     ensures { λ r. ⌜ r ≡ hexDigit (n / 16) ⌝ }
@@ -28,7 +28,7 @@ fn shown_p(f: Flags) -> u8
 }
 
 // The registers: `A=.. X=.. Y=.. S=.. P=.. PC=.... over=..` and a newline.
-// Wrong answers: X shown for Y; the high byte of PC twice.
+// Wrong answers: X shown for Y; the cycles over shown for S.
 pub fn register_line(c: Cpu) -> [u8; 41]
     ensures { λ r. ⌜ r ≡ registerLine c ⌝ }
 {
@@ -82,7 +82,7 @@ pub fn register_line(c: Cpu) -> [u8; 41]
 }
 
 // Where an instruction lay, and its opcode: ` PPPP OO `.
-// Wrong answers: the digits of the opcode exchanged; the low byte of PC first.
+// Wrong answers: the low digit of the opcode twice; its high digit twice.
 pub fn instruction_text(pc: u16, opcode: u8) -> [u8; 9]
     ensures { λ r. ⌜ r ≡ instructionText pc opcode ⌝ }
 {
@@ -102,18 +102,18 @@ pub fn instruction_text(pc: u16, opcode: u8) -> [u8; 9]
 }
 
 // The same while RESET is low, and no opcode is read: ` PPPP -- `.
-// Wrong answers: `++` for the opcode; the digits of a byte exchanged.
+// Wrong answers: PC with a digit of its low byte first; with one of its high byte last.
 pub fn idle_text(pc: u16) -> [u8; 9]
     ensures { λ r. ⌜ r ≡ idleText pc ⌝ }
 {
-    let h = (pc / 256) as u8;
-    let l = (pc % 256) as u8;
+    let upper = (pc / 256) as u8;
+    let lower = (pc % 256) as u8;
     [
         32,
-        high_digit(h),
-        low_digit(h),
-        high_digit(l),
-        low_digit(l),
+        high_digit(upper),
+        low_digit(upper),
+        high_digit(lower),
+        low_digit(lower),
         32,
         45,
         45,

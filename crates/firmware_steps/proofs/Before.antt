@@ -79,9 +79,10 @@ pub enters : (rom ram : List ℕ) (c : Cpu) (k : Chip) → isDue c k ≡ true
 unfolding interrupted stored
 enters rom ram c k h e he d hd l hl r₁ h₁ s₁ g₁ r₂ h₂ s₂ g₂ s₃ g₃ p hp r₃ h₃ =
     let x = takes rom ram c k h in
-    let y : r₃ ≡ stored ram (interrupted rom c .store) = simp (h₃, hp, g₃, g₂, h₂, g₁, h₁) in
-    (ap₂ (λ (d : Cpu) (l : Chip). interruptedWith (machine d ram l) true) (hd ∙ ap counted he) (hl ∙ ap (λ (e : Effect). clockAfter (cyclesWith e) k) he) ∙ x .0,
-    y ∙ x .1)
+    let y : r₃ ≡ stored ram (interrupted rom c .store) = simp (h₃, hp, g₃, g₂, h₂, g₁, h₁) in (
+      ap₂ (λ (d : Cpu) (l : Chip). interruptedWith (machine d ram l) true) (hd ∙ ap counted he) (hl ∙ ap (λ (e : Effect). clockAfter (cyclesWith e) k) he) ∙ x .0,
+      y ∙ x .1,
+    )
 
 -- ---- the turn from behind it is the turn with it
 

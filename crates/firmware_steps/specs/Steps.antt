@@ -1,20 +1,19 @@
--- A firmware run in steps, one event or interrupt at a time, and that these make a run (document 02, Wish 5).
-use Prim.Native.Nat.{ℕ, _+_, _-_}
-use mathlib.Core.Bool.{Bool, true, false, not}
-use mathlib.Core.List.{List, [], _∷_}
-use lib.Dec.{eqb, ltb}
+-- The steps of a firmware run: power up, an event, the interrupt before an instruction (document 02, Wish 5).
+use Prim.Native.Nat.{ℕ}
+use mathlib.Core.Bool.{Bool, false, not}
+use mathlib.Core.List.{List}
+use lib.Dec.{eqb}
 use Rattle.bits.specs.Byte.{pick}
 use Rattle.events.specs.Word.{decode}
 use Rattle.chip.specs.declared.Chip.{Chip}
 use Rattle.chip.specs.State.{requests}
 use Rattle.outcome.specs.Outcome.{wasReset}
 use Rattle.step.specs.declared.Stepped.{Stepped}
-use Rattle.step.specs.Step.{advance, answered}
+use Rattle.step.specs.Step.{advance}
 use Rattle.arithmetic.specs.declared.Flags.{Flags}
 use Rattle.operations.specs.declared.Cpu.{Cpu}
 use Rattle.instruction.specs.Instruction.{resetCpu}
 use Rattle.machine.specs.Machine.{Machine, machine, afterInterrupt}
-use Rattle.machine.specs.Run.{numberOf, wordOf, occurred, Ended, ended, prepended, runs}
 use Rattle.firmware_steps.specs.declared.Given.{Given}
 use Rattle.firmware_steps.specs.declared.Interrupted.{Interrupted}
 
@@ -52,23 +51,3 @@ interruptedWith m b = record { cpu = m .cpu; chip = m .chip; taken = b }
 
 abbrev pub interruptedBy : List ℕ → List ℕ → Cpu → Chip → Interrupted
 interruptedBy rom ram c k = interruptedWith (beforeInstruction rom (machine c ram k)) (isDue c k)
-
--- ---- a run in steps
-
--- instructions up to the one of number t
-abbrev pub upTo : ℕ → ℕ → List ℕ → Machine → Ended
-upTo t i rom m = runs (t - i) i rom [] m
-
-abbrev pub least : ℕ → ℕ → ℕ
-least a b = pick (ltb a b) a b
-
--- after the instructions before an event: it is given where another instruction follows and none was refused
-abbrev pub onEvent : Ended → ℕ → (Ended → Ended) → Ended
-onEvent r n k = pick (eqb (r .number) 0) (pick (ltb (r .next) n) (k r) r) r
-
--- a run up to the instruction of number n, from number i: instructions up to each event, the event, and at last the instructions that remain
-unfoldable pub inSteps : ℕ → ℕ → List ℕ → List ℕ → Machine → Ended
-inSteps n i rom [] m = upTo n i rom m
-inSteps n i rom (e ∷ es) m =
-    onEvent (upTo (least n (numberOf e)) i rom m) n
-    (λ (r : Ended). prepended (answered (r .machine .chip) (decode (wordOf e)) ∷ []) (inSteps n (r .next) rom es (occurred rom (r .machine) (wordOf e))))

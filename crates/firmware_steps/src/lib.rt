@@ -78,7 +78,7 @@ fn resets(chip: Chip, event: Decoded) -> bool
 }
 
 // A word given to the chip; where it resets the chip, the CPU is reset too.
-// Wrong answers: the CPU reset where the chip is not; a CPU that no event resets.
+// Wrong answers: the CPU reset as RESET rises; the CPU reset by an 8 µs clock.
 pub fn give(cpu: Cpu, chip: Chip, rom: &[u8], word: u32) -> Given
     ensures { λ r. ⌜ r ≡ givenBy (now (rom .entry)) cpu chip word ⌝ }
 {
@@ -108,7 +108,11 @@ fn is_due(cpu: Cpu, chip: Chip) -> bool
     let core = chip.core;
     let flags = cpu.p;
     if core.reset {
-        if chip::requests(chip) == 0 { false } else { !flags.i }
+        if chip::requests(chip) == 0 {
+            false
+        } else {
+            !flags.i
+        }
     } else {
         false
     }
@@ -135,7 +139,7 @@ fn clocked_after(n: u16, chip: Chip) -> Chip
 }
 
 // What comes before an instruction: the interrupt, where a request stands, I is clear and RESET is high.
-// Wrong answers: an interrupt while I is set; the low byte of PC pushed first.
+// Wrong answers: an interrupt taken with I set; the low byte of PC pushed first.
 pub fn interrupt(cpu: Cpu, chip: Chip, ram: &mut [u8; 256], rom: &[u8]) -> Interrupted
     ensures { λ r. ⌜ (r ≡ interruptedBy (now (rom .entry)) (now (ram .entry)) cpu chip) × (now (ram .exit) ≡ beforeInstruction (now (rom .entry)) (machine cpu (now (ram .entry)) chip) .ram) ⌝ }
 {
@@ -206,8 +210,14 @@ pub fn load(ram: &[u8; 256], rom: &[u8], chip: Chip, a: u16) -> Loaded
 }
 
 // Instructions with no event between: a firmware call with an empty list.
-// Wrong answers: none; one instruction whatever is asked.
-pub fn run_on(cpu: Cpu, chip: Chip, ram: &mut [u8; 256], rom: &[u8], instructions: u32) -> FirmwareResult
+// Wrong answers: no instruction; one, whatever is asked.
+pub fn run_on(
+    cpu: Cpu,
+    chip: Chip,
+    ram: &mut [u8; 256],
+    rom: &[u8],
+    instructions: u32,
+) -> FirmwareResult
     ensures { λ r. ⌜ (r ≡ resultOf (firmwareOf cpu (now (ram .entry)) (now (rom .entry)) chip [] [] instructions)) × (now (ram .exit) ≡ firmwareOf cpu (now (ram .entry)) (now (rom .entry)) chip [] [] instructions .ram) ⌝ }
 {
     let events = [0u64; 1];
