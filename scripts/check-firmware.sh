@@ -2,8 +2,9 @@
 # Firmware images and their runs on the independent core: the images are what their sources make, where the assembler is installed;
 # the lists of events are what the hosts' descriptions make; the EDID block is what a host reads; the commands of docs/RECALL.md and
 # images/README.md print what these pages say; malformed files are told. Where crates.txt has the program `firmware`, the same runs
-# and refusals of the proved program print the same; where it has `firmware_capi`, the call for C is compared with the core. Ends in
-# a line for each part, or names the first difference and fails.
+# and refusals of the proved program print the same, and ./firmware is tried on files that cannot be read and outputs that cannot be
+# written; where it has `firmware_capi`, the call for C is compared with the core. Ends in a line for each part, or names the first
+# difference and fails.
 set -euo pipefail
 cd "$(dirname "$0")/.."
 work=$(mktemp -d)
@@ -11,7 +12,11 @@ trap 'rm -rf "$work"' EXIT
 cargo build --offline --quiet --release --bin model
 model=target/cargo/release/model
 proved=''
-! grep -q '^firmware:' crates.txt || proved=target/bin/firmware
+if grep -q '^firmware:' crates.txt; then
+    proved=target/bin/firmware
+    source scripts/program.sh
+    ready firmware
+fi
 
 fail() {
     echo "firmware: $*"
@@ -70,6 +75,17 @@ for _ in $(seq $programs); do
 done
 echo "firmware: $programs random programs, of which $(grep -c '^number 0 ' "$work/ends") run to their end${proved:+; printed alike}"
 
+# lists longer than a block that the program reads at once, and a comment of that length
+"$model" image 3 > "$work/random.rom"
+"$model" events 3 20000 > "$work/long.events"
+{ head -n 9 "$work/long.events"; printf '#%0100000d\n' 0; tail -n +10 "$work/long.events"; printf ' 4294967295\t00000000'; } > "$work/comment.events"
+for list in long comment; do
+    same "$work/random.rom" 90000 "$work/$list.events"
+    same -t "$work/random.rom" 2000 "$work/$list.events"
+done
+{ cat "$work/long.events"; echo '1 0000000'; } > "$work/malformed"
+same "$work/random.rom" 1 "$work/malformed"
+
 # the call for C, beside the same core
 if grep -q '^firmware_capi:' crates.txt; then
     rt staticlib firmware_capi > "$work/log" 2>&1 || { cat "$work/log"; exit 1; }
@@ -116,6 +132,38 @@ for line in '' ' ' '#' '# 1' '1 00000000#' '\t007\t0400000f \r' '4294967295 FFFF
     [ -s "$work/expected" ] || fail "line '$line' is told: $(cat "$work/told")"
 done
 echo "firmware: malformed files are told, $malformed lines among them"
+
+# tried STATUS STDERR COMMAND..: nothing is printed, and the status and what is told are these
+tried=0
+tried() {
+    local status=0
+    tried=$((tried + 1))
+    "${@:3}" > "$work/printed" 2> "$work/said" || status=$?
+    [ "$status" = "$1" ] && [ ! -s "$work/printed" ] && [ "$(cat "$work/said")" = "$2" ] || fail "${*:3}: status $status, told: $(cat "$work/said")"
+}
+full_disk() { ./firmware "$@" > /dev/full; }
+closed_output() { ./firmware "$@" >&-; }
+piped_list() { ./firmware images/sort.rom 9 /dev/stdin < <(cat images/sort.events); }
+if [ -n "$proved" ]; then
+    tried 2 'usage: firmware [-t] ROM COUNT [EVENTS]' ./firmware
+    tried 2 'usage: firmware [-t] ROM COUNT [EVENTS]' ./firmware -t images/sort.rom
+    tried 2 'usage: firmware [-t] ROM COUNT [EVENTS]' ./firmware images/sort.rom 1 images/sort.events 1
+    tried 2 "$work/missing: No such file or directory" ./firmware "$work/missing" 1
+    tried 2 "$work: Is a directory" ./firmware "$work" 1
+    tried 2 "$work/missing: No such file or directory" ./firmware -t images/sort.rom 1 "$work/missing"
+    tried 2 "$work: Is a directory" ./firmware images/sort.rom 1 "$work"
+    tried 2 '/dev/stdin: Illegal seek' piped_list
+    tried 2 "$work/short: 24575 bytes, not 24576" ./firmware "$work/short" 1
+    touch "$work/unreadable"
+    chmod 000 "$work/unreadable"
+    [ -r "$work/unreadable" ] || tried 2 "$work/unreadable: Permission denied" ./firmware "$work/unreadable" 1
+    tried 2 'firmware: standard output: No space left on device' full_disk images/sort.rom 9
+    tried 2 'firmware: standard output: No space left on device' full_disk -t images/sort.rom 9 images/sort.events
+    tried 2 'firmware: standard output is closed' closed_output images/sort.rom 9
+    { ./firmware -t images/crc.rom 100000 2> "$work/said" || echo "$?" > "$work/status"; } | head -n 1 > "$work/first"
+    [ "$(cat "$work/status")" = 141 ] && [ ! -s "$work/said" ] || fail "a closed pipe: status $(cat "$work/status"), told: $(cat "$work/said")"
+    echo "firmware: $((tried + 1)) uses of ./firmware that fail are told"
+fi
 
 # the commands of the pages, each with the lines that it prints
 PATH=$(dirname "$model"):$PATH python3 - docs/RECALL.md images/README.md <<'PYTHON'

@@ -62,6 +62,10 @@ due (suc j) i rom e es m z h = rw (le-ltb i (numberOf e) h)
 
 -- ---- the run
 
+-- an event given after r, and the run from there
+abbrev going : ℕ → List ℕ → ℕ → List ℕ → Ended → Ended
+going n rom e es r = prepended (answered (r .machine .chip) (decode (wordOf e)) ∷ []) (inSteps n (r .next) rom es (occurred rom (r .machine) (wordOf e)))
+
 -- no instruction is left
 at-end-by : (n i k j : ℕ) (rom : List ℕ) (e : ℕ) (es : List ℕ) (m : Machine) (f : Ended → Ended) → k ≡ 0 → j ≡ 0 → ltb i n ≡ false
     → onEvent (runs k i rom [] m) n f ≡ runs j i rom (e ∷ es) m
@@ -81,8 +85,7 @@ late n i rom e es m f h g =
 -- the event comes before the end
 given-by : (n i k : ℕ) (rom : List ℕ) (e : ℕ) (es : List ℕ) (r : Ended) (b : Bool) → (b ≡ true → r .next ≡ i + k) → i + k < n → numberOf e ≤ i + k
     → ((a : ℕ) (m : Machine) → a ≤ n → inSteps n a rom es m ≡ runs (n - a) a rom es m)
-    → pick b (pick (ltb (r .next) n) (prepended (answered (r .machine .chip) (decode (wordOf e)) ∷ []) (inSteps n (r .next) rom es (occurred rom (r .machine) (wordOf e)))) r) r
-    ≡ pick b (runs (n - (i + k)) (i + k) rom (e ∷ es) (r .machine)) r
+    → pick b (pick (ltb (r .next) n) (going n rom e es r) r) r ≡ pick b (runs (n - (i + k)) (i + k) rom (e ∷ es) (r .machine)) r
 given-by n i k rom e es r true h l g f =
     let x = occurred rom (r .machine) (wordOf e) in
     let a = answered (r .machine .chip) (decode (wordOf e)) ∷ [] in
@@ -92,9 +95,7 @@ given-by n i k rom e es r false h l g f = refl
 
 given : (n i : ℕ) (rom : List ℕ) (e : ℕ) (es : List ℕ) (m : Machine) → i < n → numberOf e < n
     → ((a : ℕ) (x : Machine) → a ≤ n → inSteps n a rom es x ≡ runs (n - a) a rom es x)
-    → onEvent (upTo (numberOf e) i rom m) n
-    (λ (r : Ended). prepended (answered (r .machine .chip) (decode (wordOf e)) ∷ []) (inSteps n (r .next) rom es (occurred rom (r .machine) (wordOf e))))
-    ≡ runs (n - i) i rom (e ∷ es) m
+    → onEvent (upTo (numberOf e) i rom m) n (going n rom e es) ≡ runs (n - i) i rom (e ∷ es) m
 given n i rom e es m h g f =
     let k = numberOf e - i in
     let r = upTo (numberOf e) i rom m in
@@ -105,15 +106,13 @@ given n i rom e es m h g f =
 
 event-by : (n i : ℕ) (rom : List ℕ) (e : ℕ) (es : List ℕ) (m : Machine) (a b : Bool) → ltb i n ≡ a → ltb (numberOf e) n ≡ b → i ≤ n
     → ((j : ℕ) (x : Machine) → j ≤ n → inSteps n j rom es x ≡ runs (n - j) j rom es x)
-    → onEvent (upTo (pick b (numberOf e) n) i rom m) n
-    (λ (r : Ended). prepended (answered (r .machine .chip) (decode (wordOf e)) ∷ []) (inSteps n (r .next) rom es (occurred rom (r .machine) (wordOf e))))
-    ≡ runs (n - i) i rom (e ∷ es) m
+    → onEvent (upTo (pick b (numberOf e) n) i rom m) n (going n rom e es) ≡ runs (n - i) i rom (e ∷ es) m
 event-by n i rom e es m true true h g l f = given n i rom e es m (ltb-true i n h) (ltb-true (numberOf e) n g) f
-event-by n i rom e es m true false h g l f = late n i rom e es m _ l (ltb-false (numberOf e) n g)
+event-by n i rom e es m true false h g l f = late n i rom e es m (going n rom e es) l (ltb-false (numberOf e) n g)
 event-by n i rom e es m false true h g l f =
-    at-end-by n i (numberOf e - i) (n - i) rom e es m _ (omega (arith, ltb-false i n h, ltb-true (numberOf e) n g)) (omega (arith, ltb-false i n h)) h
+    at-end-by n i (numberOf e - i) (n - i) rom e es m (going n rom e es) (omega (arith, ltb-false i n h, ltb-true (numberOf e) n g)) (omega (arith, ltb-false i n h)) h
 event-by n i rom e es m false false h g l f =
-    at-end-by n i (n - i) (n - i) rom e es m _ (omega (arith, ltb-false i n h)) (omega (arith, ltb-false i n h)) h
+    at-end-by n i (n - i) (n - i) rom e es m (going n rom e es) (omega (arith, ltb-false i n h)) (omega (arith, ltb-false i n h)) h
 
 -- instructions up to an event, the event, and so on: the run up to the instruction of number n, whatever the list
 pub steps-run : (n i : ℕ) (rom es : List ℕ) (m : Machine) → i ≤ n → inSteps n i rom es m ≡ runs (n - i) i rom es m
