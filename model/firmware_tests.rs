@@ -6,7 +6,7 @@ use crate::host::{ddc1_bytes, host, monitor};
 use crate::{edid, opcodes};
 
 fn file(name: &str) -> Vec<u8> {
-    let path = format!("{}/firmware/{name}", env!("CARGO_MANIFEST_DIR"));
+    let path = format!("{}/images/{name}", env!("CARGO_MANIFEST_DIR"));
     std::fs::read(&path).expect(&path)
 }
 

@@ -1,9 +1,10 @@
 #!/usr/bin/env bash
 # Firmware images and their runs on the independent core: the images are what their sources make, where the assembler is installed;
 # the lists of events are what the hosts' descriptions make; the EDID block is what a host reads; the commands of docs/RECALL.md and
-# firmware/README.md print what these pages say; malformed files are told. Where crates.txt has the program `firmware`, the same runs
-# and refusals of the proved program print the same; where it has `firmware_capi`, the call for C is compared with the core. Ends in
-# a line for each part, or names the first difference and fails.
+# images/README.md print what these pages say; malformed files are told. Where crates.txt has the program `firmware`, the same runs
+# and refusals of the proved program print the same, and ./firmware is tried on files that cannot be read and outputs that cannot be
+# written; where it has `firmware_capi`, the call for C is compared with the core. Ends in a line for each part, or names the first
+# difference and fails.
 set -euo pipefail
 cd "$(dirname "$0")/.."
 work=$(mktemp -d)
@@ -11,7 +12,11 @@ trap 'rm -rf "$work"' EXIT
 cargo build --offline --quiet --release --bin model
 model=target/cargo/release/model
 proved=''
-! grep -q '^firmware:' crates.txt || proved=target/bin/firmware
+if grep -q '^firmware:' crates.txt; then
+    proved=target/bin/firmware
+    source scripts/program.sh
+    ready firmware
+fi
 
 fail() {
     echo "firmware: $*"
@@ -19,9 +24,9 @@ fail() {
 }
 
 if command -v ca65 > /dev/null; then
-    bash firmware/make.sh "$work"
+    bash images/make.sh "$work"
     for image in "$work"/*.rom "$work"/*.lst; do
-        cmp -s "$image" "firmware/${image##*/}" || fail "${image##*/} is not what its source makes"
+        cmp -s "$image" "images/${image##*/}" || fail "${image##*/} is not what its source makes"
     done
     echo "firmware: images and listings are what the sources make"
 else
@@ -43,9 +48,9 @@ same() {
 
 runs=0
 while read -r image list count; do
-    rom=firmware/$image.rom
-    events=firmware/$list.events
-    "$model" host "$rom" "firmware/$list.host" | cmp - "$events" || fail "$list.events is not what its description makes"
+    rom=images/$image.rom
+    events=images/$list.events
+    "$model" host "$rom" "images/$list.host" | cmp - "$events" || fail "$list.events is not what its description makes"
     same "$rom" "$count" "$events"
     tail -n 1 "$work/expected" | grep -q "^number 0 counted $count given $(grep -c '^[0-9]' "$events") " || fail "$list does not run to its end"
     same -t "$rom" "$count" "$events"
@@ -53,7 +58,7 @@ while read -r image list count; do
     same "$rom" 0 "$events"
     same "$rom" 3000
     runs=$((runs + 1))
-done < <(grep -v '^#' firmware/runs.txt)
+done < <(grep -v '^#' images/runs.txt)
 echo "firmware: $runs stored runs${proved:+, the proved program printing what the model prints}"
 
 # random programs with random events, from power up
@@ -70,6 +75,17 @@ for _ in $(seq $programs); do
 done
 echo "firmware: $programs random programs, of which $(grep -c '^number 0 ' "$work/ends") run to their end${proved:+; printed alike}"
 
+# lists longer than a block that the program reads at once, and a comment of that length
+"$model" image 3 > "$work/random.rom"
+"$model" events 3 20000 > "$work/long.events"
+{ head -n 9 "$work/long.events"; printf '#%0100000d\n' 0; tail -n +10 "$work/long.events"; printf ' 4294967295\t00000000'; } > "$work/comment.events"
+for list in long comment; do
+    same "$work/random.rom" 90000 "$work/$list.events"
+    same -t "$work/random.rom" 2000 "$work/$list.events"
+done
+{ cat "$work/long.events"; echo '1 0000000'; } > "$work/malformed"
+same "$work/random.rom" 1 "$work/malformed"
+
 # the call for C, beside the same core
 if grep -q '^firmware_capi:' crates.txt; then
     rt staticlib firmware_capi > "$work/log" 2>&1 || { cat "$work/log"; exit 1; }
@@ -81,12 +97,12 @@ if grep -q '^firmware_capi:' crates.txt; then
 fi
 
 # what a host reads, as lines of sixteen bytes
-od -An -v -tx1 -w16 firmware/edid.bin | sed 's/^ //' | tr a-f A-F > "$work/block"
-read -r image list count < <(grep '^ddc2b ' firmware/runs.txt)
-"$model" bus firmware/ddc2b.rom "$count" firmware/ddc2b.events > "$work/bus"
+od -An -v -tx1 -w16 images/edid.bin | sed 's/^ //' | tr a-f A-F > "$work/block"
+read -r image list count < <(grep '^ddc2b ' images/runs.txt)
+"$model" bus images/ddc2b.rom "$count" images/ddc2b.events > "$work/bus"
 sed -n '/^START A1+ /s///p' "$work/bus" | sed 's/ STOP$//; s/[+-]//g' | xargs -n 16 | diff "$work/block" - || fail "the host does not read the block by DDC2B"
-read -r image list count < <(grep '^ddc1 ' firmware/runs.txt)
-"$model" bus firmware/ddc1.rom "$count" firmware/ddc1.events | sed 1d | diff "$work/block" - || fail "the host does not read the block by DDC1"
+read -r image list count < <(grep '^ddc1 ' images/runs.txt)
+"$model" bus images/ddc1.rom "$count" images/ddc1.events | sed 1d | diff "$work/block" - || fail "the host does not read the block by DDC1"
 echo "firmware: the host reads the EDID block by DDC2B and by DDC1"
 
 # told LINE ARGUMENTS: nothing is printed, and this line is told
@@ -96,32 +112,64 @@ told() {
     [ "$status" = 2 ] && [ ! -s "$work/expected" ] && [ "$(cat "$work/told")" = "$1" ] || fail "${*:2}: status $status, told: $(cat "$work/told")"
     same "${@:2}"
 }
-head -c 24575 firmware/sort.rom > "$work/short"
-{ cat firmware/sort.rom; echo; } > "$work/long"
+head -c 24575 images/sort.rom > "$work/short"
+{ cat images/sort.rom; echo; } > "$work/long"
 printf '0 04000000\n\n1 0400000\n' > "$work/malformed"
 printf '4294967296 04000000\n' > "$work/great"
 told "$work/short: 24575 bytes, not 24576" "$work/short" x "$work/malformed"
 told "$work/long: 24577 bytes, not 24576" "$work/long" 1
-told "x: not a decimal number up to 4294967295" firmware/sort.rom x "$work/malformed"
-told "4294967296: not a decimal number up to 4294967295" firmware/sort.rom 4294967296
-told "$work/malformed:3: not NUMBER WORD" firmware/sort.rom 1 "$work/malformed"
-told "$work/great:1: not NUMBER WORD" -t firmware/sort.rom 1 "$work/great"
+told "x: not a decimal number up to 4294967295" images/sort.rom x "$work/malformed"
+told "4294967296: not a decimal number up to 4294967295" images/sort.rom 4294967296
+told "$work/malformed:3: not NUMBER WORD" images/sort.rom 1 "$work/malformed"
+told "$work/great:1: not NUMBER WORD" -t images/sort.rom 1 "$work/great"
 malformed=0
 for line in 1 '1 1234567' '1 123456789' '1 1234567G' '1 +1234567' '1 00000000 2' 'x 00000000' '-1 00000000' '+1 00000000' '1,00000000' '1 #00000000' \
     '00000000' '1 0x000000' '99999999999999999999 00000000' '1 0000 0000'; do
     printf '0 04000000 # a clock\n%s\n0 04000000\n' "$line" > "$work/malformed"
-    told "$work/malformed:2: not NUMBER WORD" firmware/sort.rom 1 "$work/malformed"
+    told "$work/malformed:2: not NUMBER WORD" images/sort.rom 1 "$work/malformed"
     malformed=$((malformed + 1))
 done
 for line in '' ' ' '#' '# 1' '1 00000000#' '\t007\t0400000f \r' '4294967295 FFFFFFFF' '00000000000000000000 04000000'; do
     printf "0 04000000\n$line\n0 04000000" > "$work/taken"
-    same firmware/sort.rom 9 "$work/taken"
+    same images/sort.rom 9 "$work/taken"
     [ -s "$work/expected" ] || fail "line '$line' is told: $(cat "$work/told")"
 done
 echo "firmware: malformed files are told, $malformed lines among them"
 
+# tried STATUS STDERR COMMAND..: nothing is printed, and the status and what is told are these
+tried=0
+tried() {
+    local status=0
+    tried=$((tried + 1))
+    "${@:3}" > "$work/printed" 2> "$work/said" || status=$?
+    [ "$status" = "$1" ] && [ ! -s "$work/printed" ] && [ "$(cat "$work/said")" = "$2" ] || fail "${*:3}: status $status, told: $(cat "$work/said")"
+}
+full_disk() { ./firmware "$@" > /dev/full; }
+closed_output() { ./firmware "$@" >&-; }
+piped_list() { ./firmware images/sort.rom 9 /dev/stdin < <(cat images/sort.events); }
+if [ -n "$proved" ]; then
+    tried 2 'usage: firmware [-t] ROM COUNT [EVENTS]' ./firmware
+    tried 2 'usage: firmware [-t] ROM COUNT [EVENTS]' ./firmware -t images/sort.rom
+    tried 2 'usage: firmware [-t] ROM COUNT [EVENTS]' ./firmware images/sort.rom 1 images/sort.events 1
+    tried 2 "$work/missing: No such file or directory" ./firmware "$work/missing" 1
+    tried 2 "$work: Is a directory" ./firmware "$work" 1
+    tried 2 "$work/missing: No such file or directory" ./firmware -t images/sort.rom 1 "$work/missing"
+    tried 2 "$work: Is a directory" ./firmware images/sort.rom 1 "$work"
+    tried 2 '/dev/stdin: Illegal seek' piped_list
+    tried 2 "$work/short: 24575 bytes, not 24576" ./firmware "$work/short" 1
+    touch "$work/unreadable"
+    chmod 000 "$work/unreadable"
+    [ -r "$work/unreadable" ] || tried 2 "$work/unreadable: Permission denied" ./firmware "$work/unreadable" 1
+    tried 2 'firmware: standard output: No space left on device' full_disk images/sort.rom 9
+    tried 2 'firmware: standard output: No space left on device' full_disk -t images/sort.rom 9 images/sort.events
+    tried 2 'firmware: standard output is closed' closed_output images/sort.rom 9
+    { ./firmware -t images/crc.rom 100000 2> "$work/said" || echo "$?" > "$work/status"; } | head -n 1 > "$work/first"
+    [ "$(cat "$work/status")" = 141 ] && [ ! -s "$work/said" ] || fail "a closed pipe: status $(cat "$work/status"), told: $(cat "$work/said")"
+    echo "firmware: $((tried + 1)) uses of ./firmware that fail are told"
+fi
+
 # the commands of the pages, each with the lines that it prints
-PATH=$(dirname "$model"):$PATH python3 - docs/RECALL.md firmware/README.md <<'PYTHON'
+PATH=$(dirname "$model"):$PATH python3 - docs/RECALL.md images/README.md <<'PYTHON'
 import re, subprocess, sys
 commands = 0
 for page in sys.argv[1:]:
@@ -133,5 +181,5 @@ for page in sys.argv[1:]:
         done = subprocess.run(['bash', '-c', command], capture_output=True, text=True)
         if done.stdout + done.stderr != re.sub(r'^    ', '', expected, flags=re.M):
             sys.exit(f'firmware: {page}: {command}\n{done.stdout}{done.stderr}')
-print(f'firmware: {commands} commands of docs/RECALL.md and firmware/README.md print what the pages say')
+print(f'firmware: {commands} commands of docs/RECALL.md and images/README.md print what the pages say')
 PYTHON

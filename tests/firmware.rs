@@ -418,7 +418,7 @@ fn refusals(seen: &mut Seen) -> usize {
 }
 
 fn file(name: &str) -> Vec<u8> {
-    let path = format!("{}/firmware/{name}", env!("CARGO_MANIFEST_DIR"));
+    let path = format!("{}/images/{name}", env!("CARGO_MANIFEST_DIR"));
     std::fs::read(&path).expect(&path)
 }
 

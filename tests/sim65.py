@@ -3,7 +3,7 @@
 
 Each of so many programs carries out 330 random instructions, each from random registers and memory, and folds A, X, Y, P, S and the
 bytes in memory into a sum. COMMAND, by default the independent model's `model firmware`, runs the program and prints its trace, as
-firmware/README.md says; the sum that it ends with is then put into the program, and sim65 must end with the same one, and after as
+images/README.md says; the sum that it ends with is then put into the program, and sim65 must end with the same one, and after as
 many cycles. It needs cc65 and is not part of the gate.
 
 All documented opcodes are tried but BRK, CLI and TXS. Left out or allowed for is where sim65 of cc65 2.19 does otherwise:
@@ -161,7 +161,7 @@ def test(r, n):
 def assemble(folder, name, sums):
     symbols = [part for key, byte in sums.items() for part in ("-D", f"SUM_{key}=${byte:02X}")]
     subprocess.run(["ca65", "--cpu", "6502", *symbols, "-o", folder / "o", folder / "s"], check=True)
-    subprocess.run(["ld65", "-C", "firmware/nt6861.cfg", "-o", folder / name, folder / "o"], check=True)
+    subprocess.run(["ld65", "-C", "images/nt6861.cfg", "-o", folder / name, folder / "o"], check=True)
     return (folder / name).read_bytes()
 
 

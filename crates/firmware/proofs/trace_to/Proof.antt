@@ -1,0 +1,47 @@
+-- `firmware::trace_to` is safe and ends.
+-- Assumes nothing.
+use Prim.Native.Nat.{_-_}
+use borrow.Author.Needs.{needs}
+use Rattle.firmware.proofs.trace_to.Statement.{statement}
+use Rattle.firmware.proofs.trace_to.Tie as tie
+
+abbrev Inv-loop : tie.InvT-loop
+Inv-loop ram₀ rom to run₀ i₀ ram run i = Unit {0}
+
+abbrev μ-loop : tie.MeasureT-loop
+μ-loop ram₀ rom to run₀ i₀ ram run i = to - i
+
+loop-holds : tie.Need-loop-holds Inv-loop μ-loop
+loop-holds c = search needs
+
+trace-turn-requires : tie.Need-trace-turn-requires Inv-loop μ-loop
+trace-turn-requires c κs = search needs
+
+returns : tie.Need-returns Inv-loop μ-loop
+returns c = search needs
+
+add-i : tie.Need-add-i Inv-loop μ-loop
+add-i c = search needs
+
+loop-less : tie.Need-loop-less Inv-loop μ-loop
+loop-less c = search needs
+
+loop-again : tie.Need-loop-again Inv-loop μ-loop
+loop-again c = search needs
+
+returns-2 : tie.Need-returns-2 Inv-loop μ-loop
+returns-2 c = search needs
+
+pub trace-to-spec : {M : Type 1} → statement M
+trace-to-spec =
+    tie.close
+    (tie.spec
+    Inv-loop
+    μ-loop
+    loop-holds
+    trace-turn-requires
+    returns
+    add-i
+    loop-less
+    loop-again
+    returns-2)

@@ -1,0 +1,122 @@
+// What is printed of a firmware run: registers, instructions and events as text (document 02, Wish 5; images/README.md).
+ghost use mathlib.Core.Path.{_≡_};
+ghost use Prim.Native.Nat.{_/_, _%_};
+ghost use Rattle.hex.specs.Hex.{hexDigit};
+ghost use Rattle.firmware_lines.specs.Lines.{shownP, registerLine, instructionText, idleText};
+use arithmetic::Flags;
+use operations::Cpu;
+
+fn high_digit(n: u8) -> u8
+    ensures { λ r. ⌜ r ≡ hexDigit (n / 16) ⌝ }
+{
+    let d = n / 16;
+    if d < 10 { 48 + d } else { 55 + d }
+}
+
+fn low_digit(n: u8) -> u8
+    ensures { λ r. ⌜ r ≡ hexDigit (n % 16) ⌝ }
+{
+    let d = n % 16;
+    if d < 10 { 48 + d } else { 55 + d }
+}
+
+// P with bits 5 and 4 zero.
+fn shown_p(f: Flags) -> u8
+    ensures { λ r. ⌜ r ≡ shownP f ⌝ }
+{
+    operations::pushed_p(f, false) - 32
+}
+
+// The registers: `A=.. X=.. Y=.. S=.. P=.. PC=.... over=..` and a newline.
+// Wrong answers: X shown for Y; the cycles over shown for S.
+pub fn register_line(c: Cpu) -> [u8; 41]
+    ensures { λ r. ⌜ r ≡ registerLine c ⌝ }
+{
+    let f = c.p;
+    let p = shown_p(f);
+    let h = (c.pc / 256) as u8;
+    let l = (c.pc % 256) as u8;
+    [
+        65,
+        61,
+        high_digit(c.a),
+        low_digit(c.a),
+        32,
+        88,
+        61,
+        high_digit(c.x),
+        low_digit(c.x),
+        32,
+        89,
+        61,
+        high_digit(c.y),
+        low_digit(c.y),
+        32,
+        83,
+        61,
+        high_digit(c.s),
+        low_digit(c.s),
+        32,
+        80,
+        61,
+        high_digit(p),
+        low_digit(p),
+        32,
+        80,
+        67,
+        61,
+        high_digit(h),
+        low_digit(h),
+        high_digit(l),
+        low_digit(l),
+        32,
+        111,
+        118,
+        101,
+        114,
+        61,
+        high_digit(c.over),
+        low_digit(c.over),
+        10,
+    ]
+}
+
+// Where an instruction lay, and its opcode: ` PPPP OO `.
+// Wrong answers: the low digit of the opcode twice; its high digit twice.
+pub fn instruction_text(pc: u16, opcode: u8) -> [u8; 9]
+    ensures { λ r. ⌜ r ≡ instructionText pc opcode ⌝ }
+{
+    let h = (pc / 256) as u8;
+    let l = (pc % 256) as u8;
+    [
+        32,
+        high_digit(h),
+        low_digit(h),
+        high_digit(l),
+        low_digit(l),
+        32,
+        high_digit(opcode),
+        low_digit(opcode),
+        32,
+    ]
+}
+
+// The same while RESET is low, and no opcode is read: ` PPPP -- `.
+// Wrong answers: PC with a digit of its low byte first; with one of its high byte last.
+pub fn idle_text(pc: u16) -> [u8; 9]
+    ensures { λ r. ⌜ r ≡ idleText pc ⌝ }
+{
+    let upper = (pc / 256) as u8;
+    let lower = (pc % 256) as u8;
+    [
+        32,
+        high_digit(upper),
+        low_digit(upper),
+        high_digit(lower),
+        low_digit(lower),
+        32,
+        45,
+        45,
+        32,
+    ]
+}
