@@ -51,7 +51,7 @@ def lists():
     """how many crates; an end where one lists a crate too few or too many"""
     listed = crates()[3]
     for crate, names in listed.items():
-        uses = named(crate, set(listed) | KIT)
+        uses = named(crate, (set(listed) | KIT) - {"std"})
         needed = set(uses)
         for name in uses:
             below(listed, name, needed)
