@@ -1,34 +1,32 @@
 #!/usr/bin/env bash
 # The figures of docs/PERFORMANCE.md: the list call (through its static library) and replay, beside the independent model in
-# the same run. Usage: bench/run.sh [SEED]
+# turn, and the machine instructions a word (scripts/check-instructions.sh). Usage: bench/run.sh [SEED]
 set -euo pipefail
 cd "$(dirname "$0")/.."
 seed=${1:-1}
 work=$(mktemp -d)
 trap 'rm -rf "$work"' EXIT
+bash scripts/check-instructions.sh
 rt check replay > "$work/log" || { cat "$work/log"; exit 1; }
 rt staticlib capi > "$work/log" || { cat "$work/log"; exit 1; }
+! [ -d target/cargo/release/deps ] || find target/cargo/release/deps -name 'bench-*' ! -newer target/staticlib/libcapi.a -delete
 cargo build --offline --quiet --release --features proved --bin bench --bin model
 model=target/cargo/release/model
 target/cargo/release/bench "$seed"
 
-# the best of three runs, in seconds
-seconds() {
-    local best=
-    for _ in 1 2 3; do
-        local start end
-        start=$(date +%s.%N)
-        "$@" < "$work/words" > "$work/out"
-        end=$(date +%s.%N)
-        best=$(echo "$start $end ${best:-1000}" | awk '{ s = $2 - $1; print (s < $3) ? s : $3 }')
-    done
-    echo "$best"
+# once COMMAND..: processor seconds of one run over the words, to a file
+once() {
+    TIMEFORMAT='%U %S'
+    { time "$@" < "$work/words" > "$work/out"; } 2>&1 | awk '{ print $1 + $2 }'
 }
 
-echo "MB of words, replay in s, model in s, ratio of speeds"
+# the best of five runs of each, in turn, and the median of the ratios
+best() { cut -d ' ' -f "$1" "$work/times" | sort -g | head -n 1; }
+echo "MB of words, replay in s of processor time, model in s, median of the ratios of speeds"
 for mb in 1 4 16 64; do
     "$model" words "$seed" $((mb * 262144)) > "$work/words"
-    ours=$(seconds target/bin/replay)
-    theirs=$(seconds "$model" answers)
-    echo "$mb $ours $theirs" | awk '{ printf "%d, %.3f, %.3f, %.2f\n", $1, $2, $3, $3 / $2 }'
+    for _ in 1 2 3 4 5; do
+        echo "$(once target/bin/replay) $(once "$model" answers)"
+    done > "$work/times"
+    echo "$mb, $(best 1), $(best 2), $(awk '{ printf "%.2f\n", $2 / ($1 + 0.0001) }' "$work/times" | sort -g | sed -n 3p)"
 done

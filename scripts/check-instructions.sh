@@ -1,0 +1,52 @@
+#!/usr/bin/env bash
+# Machine instructions a word of the list call, of the step on a state in bytes and of replay, counted by callgrind, which repeats
+# exactly: each under its ceiling. Where valgrind is not installed nothing is counted, and that is said. Nothing here is timed.
+set -euo pipefail
+cd "$(dirname "$0")/.."
+command -v valgrind > /dev/null || { echo "instructions: valgrind is not installed: nothing is counted"; exit 0; }
+work=$(mktemp -d)
+trap 'rm -rf "$work"' EXIT
+words=80000
+
+# Some ten per cent above what docs/PERFORMANCE.md says.
+list_ceiling=100
+step_ceiling=1900
+replay_ceiling=160
+
+rt staticlib capi > "$work/log" 2>&1 || { cat "$work/log"; exit 1; }
+rt check replay > "$work/log" 2>&1 || { cat "$work/log"; exit 1; }
+# cargo does not see that a static library has changed
+! [ -d target/cargo/release/deps ] || find target/cargo/release/deps -name 'bench-*' ! -newer target/staticlib/libcapi.a -delete
+cargo build --offline --quiet --release --features proved --bin bench --bin model
+target/cargo/release/model words 1 "$words" > "$work/words"
+
+# counted FILE COMMAND..: the instructions of a command that reads a file
+counted() {
+    valgrind --tool=callgrind --callgrind-out-file=/dev/null "${@:2}" < "$1" 2> "$work/counted" > /dev/null || { cat "$work/counted"; exit 1; }
+    sed -n 's/.*Collected : *//p' "$work/counted"
+}
+
+bench() { counted /dev/null target/cargo/release/bench instructions "$1" "$words"; }
+
+none=$(bench none)
+list=$((($(bench list) - none) / words))
+step=$((($(bench step) - none) / words))
+model=$((($(bench model) - none) / words))
+replay=$((($(counted "$work/words" target/bin/replay) - $(counted /dev/null target/bin/replay)) / words))
+
+bad=0
+# held NAME COUNT CEILING
+held() {
+    [ "$2" -gt 0 ] && [ "$2" -le "$3" ] && return
+    bad=1
+    echo "instructions: $1 takes $2 a word, and the ceiling is $3. Look at:"
+    echo "  call places: advance_core, and what it calls, is called at one place of a library, or it no longer stands in the loop;"
+    echo "  joins: a struct with an array in it that two branches return, or one part put by a copy of the whole and not by with_*;"
+    echo "  order of fields: fields of 1 or 2 bytes side by side that the compiler moves as one number (sync::LineCounter, bus::Phase);"
+    echo "  tables: a const array is built anew at each use. docs/PERFORMANCE.md tells what each of these has cost."
+}
+held "the list call" "$list" "$list_ceiling"
+held "a step on bytes" "$step" "$step_ceiling"
+held "replay" "$replay" "$replay_ceiling"
+[ "$bad" = 1 ] || echo "instructions: a word takes $list in the list call (the model takes $model), $step by the step on bytes, $replay in replay; the ceilings are $list_ceiling, $step_ceiling and $replay_ceiling"
+exit "$bad"
