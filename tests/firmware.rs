@@ -194,8 +194,8 @@ fn compare(what: &str, case: &Case, seen: &mut Seen) -> (u8, Cpu, [u8; RAM_SIZE]
 }
 
 /// Places from which an instruction runs into another part of memory, beside any of ROM.
-const EDGES: [u16; 14] = [
-    0x0000, 0x0001, 0x0018, 0x0023, 0x0024, 0x0025, 0x0080, 0x017E, 0x017F, 0x01FD, 0x01FE, 0x01FF, 0xFFFE, 0xFFFF,
+const EDGES: [u16; 16] = [
+    0x0000, 0x0001, 0x0018, 0x0023, 0x0024, 0x0025, 0x0080, 0x017E, 0x017F, 0x01FD, 0x01FE, 0x01FF, 0x9FFE, 0x9FFF, 0xFFFE, 0xFFFF,
 ];
 
 /// Every opcode at a place in ROM, RAM or among the registers, with operands of every sort.

@@ -5,6 +5,8 @@ use mathlib.Core.Bool.{Bool, true}
 use mathlib.Core.List.{List, [], _∷_}
 use lib.ListN.{getD, length}
 use Rattle.memory.specs.declared.Loaded.the-variants.{Byte}
+use Rattle.memory.specs.declared.Place.the-variants.{Register, Ram, Rom, Unmapped}
+use Rattle.memory.specs.Memory.{place}
 use Rattle.instruction.specs.Program.{Access, readAt, writeAt}
 use Rattle.machine.specs.Machine.{Machine}
 use Rattle.machine.specs.Run.{runs, firmware}
@@ -15,6 +17,12 @@ use Rattle.firmware_rules.specs.Parts.{renumbered}
 use Rattle.firmware_cases.specs.Firmware.{cpu, ram, startedChip, startedMachine, requestingMachine, stackMachine, indexMachine, over31Machine, over32Cpu, event, polling, pollingRom}
 use Rattle.firmware_cases.proofs.Opened.{opened}
 use Rattle.firmware_cases.proofs.Holds.{rom-length}
+
+-- the first and the last address of each part of the map
+pub map-edges : place 0x0000 ∷ place 0x0025 ∷ place 0x0026 ∷ place 0x007F ∷ place 0x0080 ∷ place 0x017F ∷ place 0x0180 ∷ place 0x01FF ∷ place 0x0200 ∷ place 0x9FFF ∷ place 0xA000 ∷ place 0xFFFF ∷ []
+    ≡ Register 0 ∷ Register 0x25 ∷ Unmapped ∷ Unmapped ∷ Ram 0 ∷ Ram 255 ∷ Ram 0 ∷ Ram 127 ∷ Unmapped ∷ Unmapped ∷ Rom 0 ∷ Rom 24575 ∷ []
+unfolding place
+map-edges = refl
 
 abbrev numberOfRun : List ℕ → ℕ
 numberOfRun rom = runs 1 0 rom [] startedMachine .number

@@ -3,4 +3,5 @@ pub mod Numbers
 pub mod Clocks
 pub mod Parts
 pub mod Interrupts
+pub mod Writes
 pub mod Calls

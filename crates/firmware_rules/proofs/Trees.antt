@@ -95,7 +95,7 @@ below-by : (b : Bool) (s : ℕ) → s < 256 → pick b 255 (s - 1) < 256
 below-by true s h = omega arith
 below-by false s h = omega arith
 
-below-lt : (known : Bool) (s : ℕ) → (known ≡ true → s < 256) → known ≡ true → below s < 256
+pub below-lt : (known : Bool) (s : ℕ) → (known ≡ true → s < 256) → known ≡ true → below s < 256
 below-lt known s h k = below-by (eqb s 0) s (h k)
 
 branched-regular : (known b : Bool) (t : Effective) (n : ℕ) (c : Cpu) → n < 8 → Regular known (c .over) (leaves (branched b t n c))

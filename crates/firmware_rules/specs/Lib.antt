@@ -2,3 +2,4 @@ pub mod Numbers
 pub mod History
 pub mod Parts
 pub mod Interrupts
+pub mod Writes
