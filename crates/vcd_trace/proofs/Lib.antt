@@ -1,3 +1,4 @@
 pub mod Calls
 pub mod Ordering
 pub mod Pieces
+pub mod Worked

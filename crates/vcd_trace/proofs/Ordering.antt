@@ -73,7 +73,7 @@ module _ (scale : ℕ) where
   unfolding clockEvents
   clocks-lead p k zero limit rest r q h a b c f = f r q b c
   clocks-lead p k (suc n) limit rest r q h a b c f =
-      next {r = r} {p = q} {e = event true p ((k + 1) * 8000000) clockWord} (omega arith) c (clocks-lead p (k + 1) n limit rest ((k + 1) * 8000000 * 2 + 0) p (omega arith) (omega arith) (omega arith) (omega arith) f)
+      next {r = r} {p = q} {e = event true p ((k + 1) * 8000000) clockWord} (omega arith) c (clocks-lead p (k + 1) n limit rest (rank (event true p ((k + 1) * 8000000) clockWord)) p (omega arith) (omega arith) (omega arith) (omega arith) f)
 
   pins-lead : (p t : ℕ) (high : Bool) (pins : List ℕ) (rest : List Event) (r q : ℕ) → r ≤ t * 2 + 1 → q ≤ p
       → ((r' q' : ℕ) → r' ≤ t * 2 + 1 → q' ≤ p → Ordered r' q' rest) → Ordered r q (pinEvents p t high pins ++ rest)
