@@ -414,16 +414,21 @@ fn change_word(pin: u64, b: u8) -> u32
     50331648 + (b - 48) as u32 + pin as u32 * 256
 }
 
-// The word of a change to 0 or 1 of a code that stands for one pin; none where it stands for no pin.
-fn write_change(out: &mut [u32], run: Run, list: u64, b: u8, e: usize) -> Run
-    ensures { λ r. ⌜ ((find : List ℕ → Found) (scale : ℕ) (text : List ℕ) (p : ℕ) → NextToken text (run .at) p e → b ≡ getD text p 0 → meant list ≡ find (drop 1 (take (e - p) (drop p text))) → Leads find scale text run (now (out .entry)) r (now (out .exit))) ⌝ }
+// The byte is 0 or 1.
+fn is_level(b: u8) -> bool
+    ensures { λ r. ⌜ (r ≡ true → (47 < b) × (b < 50)) ⌝ }
 {
     if b < 48 {
-        return run;
+        return false;
     }
-    if 49 < b {
-        return run;
-    }
+    b < 50
+}
+
+// The word of a change to 0 or 1 of a code that stands for one pin; none where it stands for no pin.
+fn write_change(out: &mut [u32], run: Run, list: u64, b: u8, e: usize) -> Run
+    requires { ⌜ (47 < b) × (b < 50) ⌝ }
+    ensures { λ r. ⌜ ((find : List ℕ → Found) (scale : ℕ) (text : List ℕ) (p : ℕ) → NextToken text (run .at) p e → b ≡ getD text p 0 → meant list ≡ find (drop 1 (take (e - p) (drop p text))) → Leads find scale text run (now (out .entry)) r (now (out .exit))) ⌝ }
+{
     if 255 < list {
         return run;
     }
@@ -441,6 +446,7 @@ fn write_change(out: &mut [u32], run: Run, list: u64, b: u8, e: usize) -> Run
 // A change of a code of one byte.
 fn single_change(text: &[u8], singles: &[u64], out: &mut [u32], run: Run, p: usize) -> Run
     requires { ⌜ (p + 2 < length (now text)) × (length (now singles) ≡ 256) ⌝ }
+    requires { ⌜ (47 < getD (now text) p 0) × (getD (now text) p 0 < 50) ⌝ }
     ensures { λ r. ⌜ ((find : List ℕ → Found) (scale : ℕ) → NextToken (now (text .entry)) (run .at) p (p + 2) → ((b : ℕ) → b < 256 → meant (getD (now (singles .entry)) b 0) ≡ find (b ∷ [])) → Leads find scale (now (text .entry)) run (now (out .entry)) r (now (out .exit))) ⌝ }
 {
     let b = text[p + 1];
@@ -461,7 +467,7 @@ fn long_change(
     p: usize,
 ) -> Run
     requires { ⌜ Tables (now text) (now places) (now pins) entries (now singles) (now lists) (now guesses) ⌝ }
-    requires { ⌜ p < length (now text) ⌝ }
+    requires { ⌜ (p < length (now text)) × (47 < getD (now text) p 0) × (getD (now text) p 0 < 50) ⌝ }
     ensures { λ r. ⌜ ((scale : ℕ) → p ≡ run .at + whiteLength (drop (run .at) (now (text .entry))) → Leads (find (variables (now (text .entry)) (now (places .entry)) (now (pins .entry)) 0 entries)) scale (now (text .entry)) run (now (out .entry)) r (now (out .exit))) ⌝ }
 {
     let e = vcd_text::word_end(text, p + 1);
@@ -523,6 +529,40 @@ fn short_time(text: &[u8], scale: u64, limit: u64, out: &mut [u32], run: Run, p:
     give_clocks(out, run, d, d.value * scale / 8000000)
 }
 
+// A change to 0 or 1.
+fn short_change(
+    text: &[u8],
+    places: &[usize],
+    pins: &[u8],
+    entries: usize,
+    singles: &[u64],
+    lists: &[u64],
+    guesses: &[usize],
+    out: &mut [u32],
+    run: Run,
+    p: usize,
+) -> Run
+    requires { ⌜ Tables (now text) (now places) (now pins) entries (now singles) (now lists) (now guesses) ⌝ }
+    requires { ⌜ (p < length (now text)) × (47 < getD (now text) p 0) × (getD (now text) p 0 < 50) ⌝ }
+    ensures { λ r. ⌜ ((scale : ℕ) → p ≡ run .at + whiteLength (drop (run .at) (now (text .entry))) → Leads (find (variables (now (text .entry)) (now (places .entry)) (now (pins .entry)) 0 entries)) scale (now (text .entry)) run (now (out .entry)) r (now (out .exit))) ⌝ }
+{
+    if is_single(text, p + 1) {
+        return single_change(text, singles, out, run, p);
+    }
+    long_change(
+        text,
+        places,
+        pins,
+        entries,
+        singles,
+        lists,
+        guesses,
+        out,
+        run,
+        p,
+    )
+}
+
 // A token of the run, or none where the next is another.
 fn run_token(
     text: &[u8],
@@ -547,21 +587,20 @@ fn run_token(
         if text[p] == 35 {
             return short_time(text, scale, limit, out, run, p);
         }
-        if is_single(text, p + 1) {
-            return single_change(text, singles, out, run, p);
+        if is_level(text[p]) {
+            return short_change(
+                text,
+                places,
+                pins,
+                entries,
+                singles,
+                lists,
+                guesses,
+                out,
+                run,
+                p,
+            );
         }
-        return long_change(
-            text,
-            places,
-            pins,
-            entries,
-            singles,
-            lists,
-            guesses,
-            out,
-            run,
-            p,
-        );
     }
     run
 }

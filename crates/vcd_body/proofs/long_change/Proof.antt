@@ -43,7 +43,7 @@ returns : tie.Need-returns
 returns c =
     let a = c .before .before .before .before .before .before .before .before .before .before .before .before .before .before .before .args in
     λ scale from.
-    let h = c .before .before .before .before .before .before .before .before .before .before .before .before .before .before .before .pre .1 in
+    let h = c .before .before .before .before .before .before .before .before .before .before .before .before .before .before .before .pre .1 .0 in
     c .before .before .write-change .ensures (find (variables (a .text .now) (a .places .now) (a .pins .now) 0 (a .entries))) scale (a .text .now) (a .p) (record { from = from; to = c .before .before .before .before .before .before .before .word-end .ensures ∙ after-first (a .text .now) (a .run .at) (a .p) from h; some = h }) refl (c .before .before .before .before .before .found .ensures ∙ ap (find (variables (a .text .now) (a .places .now) (a .pins .now) 0 (a .entries))) (sym (tail-of (a .text .now) (a .p) _ h (omega (arith, c .before .before .before .before .before .before .before .word-end .ensures)))))
 
 pub long-change-spec : {M : Type 1} → statement M

@@ -40,7 +40,7 @@ returns : tie.Need-returns
 returns c =
     let a = c .before .before .before .before .before .before .before .before .before .before .before .args in
     λ find scale n each.
-    c .before .before .write-change .ensures find scale (a .text .now) (a .p) n refl (each _ (c .before .before .before .before .before .wide .ensures .1) ∙ ap (λ (b : ℕ). find (b ∷ [])) (c .before .before .before .before .before .wide .ensures .0) ∙ ap find (sym (single-code (a .text .now) (a .p) (omega (arith, c .before .before .before .before .before .before .before .before .before .before .before .pre .0)))))
+    c .before .before .write-change .ensures find scale (a .text .now) (a .p) n refl (each _ (c .before .before .before .before .before .wide .ensures .1) ∙ ap (λ (b : ℕ). find (b ∷ [])) (c .before .before .before .before .before .wide .ensures .0) ∙ ap find (sym (single-code (a .text .now) (a .p) (c .before .before .before .before .before .before .before .before .before .before .before .pre .0 .0))))
 
 pub single-change-spec : {M : Type 1} → statement M
 single-change-spec =

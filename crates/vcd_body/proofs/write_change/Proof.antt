@@ -9,19 +9,13 @@ use Rattle.vcd_body.proofs.write_change.Tie as tie
 returns : tie.Need-returns
 returns c = search needs
 
-returns-2 : tie.Need-returns-2
-returns-2 c = search needs
-
-returns-3 : tie.Need-returns-3
-returns-3 c = search needs
-
 moved-requires : tie.Need-moved-requires
 moved-requires c κs = search needs
 
-returns-4 : tie.Need-returns-4
-returns-4 c =
-    let a = c .before .before .before .before .before .before .args in
-    λ find scale text p n g f. rw (c .moved .ensures) (leads-silent find scale text (a .run) (a .out .now) p (a .e) (a .b) (a .list) n g (omega (arith, c .before .before .before .before .if1 .left)) (omega (arith, c .before .before .before .if2 .left)) f (c .before .if4 .taken))
+returns-2 : tie.Need-returns-2
+returns-2 c =
+    let a = c .before .before .before .before .args in
+    λ find scale text p n g f. rw (c .moved .ensures) (leads-silent find scale text (a .run) (a .out .now) p (a .e) (a .b) (a .list) n g (c .before .before .before .before .pre .0) (c .before .before .before .before .pre .1) f (c .before .if2 .taken))
 
 change-word-requires : tie.Need-change-word-requires
 change-word-requires c κs = search needs
@@ -41,29 +35,27 @@ moved-requires-2 c κs = search needs
 same-length : tie.Need-same-length
 same-length c = search needs
 
-returns-5 : tie.Need-returns-5
-returns-5 c =
-    let a = c .before .before .before .before .before .before .before .before .args in
+returns-3 : tie.Need-returns-3
+returns-3 c =
+    let a = c .before .before .before .before .before .before .args in
     λ find scale text p n g f.
-    rw (c .moved2 .ensures, c .before .change-word .ensures) (leads-pin find scale text (a .run) (a .out .now) p (a .e) (a .b) (a .list) n g (omega (arith, c .before .before .before .before .before .before .if1 .left)) (omega (arith, c .before .before .before .before .before .if2 .left)) f (omega (arith, c .before .before .before .if4 .left)) (omega (arith, c .before .before .before .before .if3 .left)) (c .before .before .if5 .taken))
+    rw (c .moved2 .ensures, c .before .change-word .ensures) (leads-pin find scale text (a .run) (a .out .now) p (a .e) (a .b) (a .list) n g (c .before .before .before .before .before .before .pre .0) (c .before .before .before .before .before .before .pre .1) f (omega (arith, c .before .before .before .if2 .left)) (omega (arith, c .before .before .before .before .if1 .left)) (c .before .before .if3 .taken))
 
-returns-6 : tie.Need-returns-6
-returns-6 c = search needs
+returns-4 : tie.Need-returns-4
+returns-4 c = search needs
 
 pub write-change-spec : {M : Type 1} → statement M
 write-change-spec =
     tie.close
     (tie.spec
     returns
-    returns-2
-    returns-3
     moved-requires
-    returns-4
+    returns-2
     change-word-requires
     mul-out
     slice-write-out
     add-moved
     moved-requires-2
     same-length
-    returns-5
-    returns-6)
+    returns-3
+    returns-4)
