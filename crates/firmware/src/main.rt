@@ -2,6 +2,7 @@
 // end, with -t a line for each event, interrupt and instruction (images/README.md). What cannot be run is told on standard error, and
 // nothing runs. A list is read twice, so that it may have any length: first every line is checked, then the events are given as they are read.
 ghost use mathlib.Core.Path.{_≡_};
+ghost use Prim.Native.Nat.{_<_};
 ghost use lib.ListN.{length};
 use chip::Chip;
 use event_lines::Meaning;
@@ -572,6 +573,22 @@ fn take_count(at: usize) -> u64 {
     count
 }
 
+// A run with the events of an open list, once every line of it is well formed.
+fn run_list(fd: i32, name: &[u8], rom: &[u8; 24576], asked: Asked) {
+    if check_list(fd, name) {
+        let mut ram = [0u8; 256];
+        let at = take_list(power_up(rom), &mut ram, rom, asked, fd);
+        if at.changed {
+            tell(name);
+            tell(b": not the same when it was read again\n");
+            return;
+        }
+        let run = at.run;
+        finish(run, &mut ram, rom, asked);
+    }
+}
+
+// A run with the list that argument `at` names.
 fn run_listed(at: usize, rom: &[u8; 24576], asked: Asked) {
     let mut name = argument();
     let n = os::arg(at, &mut name);
@@ -580,17 +597,7 @@ fn run_listed(at: usize, rom: &[u8; 24576], asked: Asked) {
         os::fail(&name[..n]);
         return;
     }
-    if check_list(fd, &name[..n]) {
-        let mut ram = [0u8; 256];
-        let at = take_list(power_up(rom), &mut ram, rom, asked, fd);
-        if at.changed {
-            tell(&name[..n]);
-            tell(b": not the same when it was read again\n");
-            return;
-        }
-        let run = at.run;
-        finish(run, &mut ram, rom, asked);
-    }
+    run_list(fd, &name[..n], rom, asked);
 }
 
 fn run_alone(rom: &[u8; 24576], asked: Asked) {
@@ -605,9 +612,10 @@ fn is_trace_asked() -> bool {
     vcd_text::same(&text[..n], b"-t")
 }
 
-fn main() {
-    let traced = is_trace_asked();
-    let first = if traced { 2 } else { 1 };
+// ROM is argument `first`, COUNT the next, and EVENTS the one behind it.
+fn start(first: usize, traced: bool)
+    requires { ⌜ first < 3 ⌝ }
+{
     let arguments = os::arg_count();
     if (arguments < first + 2) | (arguments > first + 3) {
         tell_usage();
@@ -629,5 +637,13 @@ fn main() {
         run_listed(first + 2, &rom, asked);
     } else {
         run_alone(&rom, asked);
+    }
+}
+
+fn main() {
+    if is_trace_asked() {
+        start(2, true);
+    } else {
+        start(1, false);
     }
 }
