@@ -185,7 +185,15 @@ fn main() {
         compare(&mut area, any_word(&mut random), &mut seen);
     }
     for length in 0..400 {
-        assert_eq!(nt6861::fresh(&mut vec![7; length]) == 0, length == 128);
+        // Any other length than 128 is refused with 15, and the area keeps its bytes: also by the step, before a word that is no event.
+        let mut area = vec![7; length];
+        let number = nt6861::fresh(&mut area);
+        assert_eq!(number, if length == state::SIZE { 0 } else { 15 }, "fresh: {length} bytes");
+        if length != state::SIZE {
+            assert!(area.iter().all(|&byte| byte == 7), "fresh: {length} bytes written");
+            assert_eq!(nt6861::step(&mut area, u32::MAX), 0x0F00_0000, "step: {length} bytes");
+            assert!(area.iter().all(|&byte| byte == 7), "step: {length} bytes written");
+        }
     }
     assert!(seen.phases.iter().all(|&n| n > 100), "a phase is seen too seldom: {:?}", seen.phases);
     assert!(seen.outcomes.iter().all(|&n| n > 100), "an outcome is seen too seldom: {:?}", seen.outcomes);
