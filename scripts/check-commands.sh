@@ -28,13 +28,15 @@ closed_input() { "$@" <&-; }
 closed_output() { "$@" >&-; }
 from() { "${@:2}" < "$1"; }
 
-# A command is a file at the top that can be run. Each has a row: what stands before the file, a file to read, the status where something
-# cannot be read, written or proved, and what is said of a full disk.
+# A command is a file at the top that can be run. Each has a row: what stands before the file, a file to read, what stands behind it, and the
+# status where something cannot be read, written or proved. ./firmware takes files of two kinds and reads no standard input:
+# scripts/check-firmware.sh tries its files.
 declare -A before=([addresses]=6E)
+declare -A behind=([firmware]=100)
 declare -A file=(
     [addresses]=tests/addresses/example.bin [counters6862]=crates/counters6862/stdin [edid]=crates/edid/stdin [feed]=crates/edid/stdin
-    [record]=crates/record/stdin [recording]=crates/record/stdout [replay]=crates/record/stdin [vcd]=tests/vcd/start.vcd [why]=crates/why/stdin)
-declare -A failure=([addresses]=2 [edid]=2 [vcd]=2)
+    [firmware]=images/sort.rom [record]=crates/record/stdin [recording]=crates/record/stdout [replay]=crates/record/stdin [vcd]=tests/vcd/start.vcd [why]=crates/why/stdin)
+declare -A failure=([addresses]=2 [edid]=2 [firmware]=2 [vcd]=2)
 mapfile -t commands < <(find . -maxdepth 1 -type f -perm -u+x -printf '%f\n' | sort)
 
 # a tree whose programs are not proved, and a checker that refuses
@@ -71,35 +73,41 @@ for name in "${commands[@]}"; do
     [ -n "${file[$name]:-}" ] || { complain "./$name has no row in this check"; continue; }
     words=(${before[$name]:-})
     good=${file[$name]}
+    whole=("${words[@]}" "$good" ${behind[$name]:-})
     fails=${failure[$name]:-1}
-    tried 0 "usage: ./$name *FILE*
+    tried 0 "usage: ./$name *
 *./$name*" '' "./$name" -h
     ./"$name" --help | cmp -s - "$work/out" || complain "./$name --help is not ./$name -h"
     tried 2 '' "$name: no option -x; ./$name -h says what it takes" "./$name" -x
-    tried 2 '' "$name: one file at most, and 2 are named; ./$name -h says what it takes" "./$name" "${words[@]}" "$good" "$good"
-    tried "$fails" '' "$name: cannot open $missing: No such file or directory" "./$name" "${words[@]}" "$missing"
-    tried "$fails" '' "$name: cannot read $work: Is a directory" "./$name" "${words[@]}" "$work"
-    tried "$fails" '' "$name: *standard input*" from "$work" "./$name" "${words[@]}"
-    tried "$fails" '' "$name: standard input is closed" closed_input "./$name" "${words[@]}"
-    tried "$fails" '' "$name: standard output is closed" closed_output "./$name" "${words[@]}" "$good"
-    tried "$fails" '' "$name: *standard output*" full "./$name" "${words[@]}" "$good"
-    tried "$fails" '' "$name: cannot open $work/locked: Permission denied" locked "./$name" "${words[@]}" "$work/locked"
+    tried "$fails" '' "$name: standard output is closed" closed_output "./$name" "${whole[@]}"
+    tried "$fails" '' "$name: *standard output*" full "./$name" "${whole[@]}"
 
-    # by a link to a link from elsewhere, and from standard input, as by its own name
-    tried 0 '?*' '' "./$name" "${words[@]}" "$good"
+    # by a link to a link from elsewhere as by its own name
+    tried 0 '?*' '' "./$name" "${whole[@]}"
     mv "$work/out" "$work/own"
     ln -s "$PWD/$name" "$work/elsewhere/$name"
     ln -s "elsewhere/$name" "$work/link"
-    tried 0 '?*' '' from "$good" "$work/link" "${words[@]}"
-    cmp -s "$work/own" "$work/out" || complain "./$name prints otherwise by a link or from standard input"
+    tried 0 '?*' '' "$work/link" "${whole[@]}"
+    cmp -s "$work/own" "$work/out" || complain "./$name prints otherwise by a link"
     rm "$work/link"
 
     # a proof that fails: the first error, and where the log is
     cp "$name" "$work/copy"
     log=$work/copy/target/$name.log
     tried "$fails" '' "$name: proving*rt: hex NOT PROVED*Proof.antt:9:1: error: the goal does not follow
-$name: the program is not proved, so it is not run; $log has all that the checker said" unproved "$work/copy/$name" "${words[@]}" "$good"
+$name: the program is not proved, so it is not run; $log has all that the checker said" unproved "$work/copy/$name" "${whole[@]}"
     grep -q 'Proof.antt:12:1: error: another' "$log" || complain "the log of a failed proof of $name is not whole"
+
+    # one file or standard input
+    [ "$name" != firmware ] || continue
+    tried 2 '' "$name: one file at most, and 2 are named; ./$name -h says what it takes" "./$name" "${words[@]}" "$good" "$good"
+    tried "$fails" '' "$name: cannot open $missing: No such file or directory" "./$name" "${words[@]}" "$missing"
+    tried "$fails" '' "$name: cannot read $work: Is a directory" "./$name" "${words[@]}" "$work"
+    tried "$fails" '' "$name: cannot open $work/locked: Permission denied" locked "./$name" "${words[@]}" "$work/locked"
+    tried "$fails" '' "$name: *standard input*" from "$work" "./$name" "${words[@]}"
+    tried "$fails" '' "$name: standard input is closed" closed_input "./$name" "${words[@]}"
+    tried 0 '?*' '' from "$good" "./$name" "${words[@]}"
+    cmp -s "$work/own" "$work/out" || complain "./$name prints otherwise from standard input"
 done
 
 # the argument of ./addresses, and a pipe by name, which is opened once

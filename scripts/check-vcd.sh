@@ -20,9 +20,15 @@ for file in tests/vcd/*.vcd; do
     dumps=$((dumps + 1))
 done
 
-# README.md's example: each command as written, followed by what it writes.
+# The dumps whose trace is computed in a proof are the stored ones; README.md's example: each command as written, followed by what it writes.
 python3 - "$work" <<'PYTHON'
 import re, subprocess, sys
+worked = re.findall(r'^(\w+)Dump =\n((?: .*\n)+)', open('crates/vcd_trace/proofs/Worked.antt').read(), re.M)
+for name, listed in worked:
+    if bytes(map(int, re.findall(r'\d+', listed))) != open(f'tests/vcd/{name}.vcd', 'rb').read():
+        sys.exit(f'vcd: {name}Dump of vcd_trace/proofs/Worked.antt is not tests/vcd/{name}.vcd')
+if len(worked) < 4:
+    sys.exit(f'vcd: {len(worked)} dumps are found in vcd_trace/proofs/Worked.antt')
 text = open('README.md').read()
 part = text.split('## Traces from a logic analyser')[1].split('\n## ')[0]
 runs = re.findall(r'^    \$ (.*)\n((?:    [^$\n].*\n)*)', part, re.M)
@@ -33,6 +39,6 @@ for command, expected in runs:
     done = subprocess.run(['bash', '-c', command], capture_output=True, text=True)
     if done.stdout + done.stderr != expected:
         sys.exit(f'vcd: README.md: {command}\n{done.stdout}{done.stderr}')
-print(f'vcd: {len(runs)} commands of README.md write what it says')
+print(f'vcd: {len(worked)} dumps computed in a proof are the stored ones; {len(runs)} commands of README.md write what it says')
 PYTHON
 echo "vcd: $dumps stored dumps read as expected"

@@ -38,13 +38,13 @@ input() {
     fi
     [ $# = 0 ] || [ ! -d "$1" ] || fail "cannot read $1: Is a directory"
     { : 3<&0; } 2> /dev/null || fail "standard input is closed"
-    { : 3>&1; } 2> /dev/null || fail "standard output is closed"
 }
 
 # made FILE TASK CRATE: `rt TASK CRATE` makes the file, where a source is newer. What the checker says goes to a log; its progress is
-# shown, and at a failure the first error and where the rest stands.
+# shown, and at a failure the first error and where the rest stands. That there is no output to write to is told before anything is proved.
 made() {
     local log=$top/target/$name.log status=0
+    { : 3>&1; } 2> /dev/null || fail "standard output is closed"
     if [ -f "$1" ] && [ -z "$(find "$top/crates" "$top/crates.txt" -newer "$1" -type f -print -quit)" ]; then
         return
     fi
@@ -64,11 +64,11 @@ ready() {
     made "$top/target/bin/$1" check "$1"
 }
 
-# run NAME: it runs on standard input. A program of the language has no exit status: what it says on standard error tells that it failed.
+# run NAME ARGUMENT..: it runs. A program of the language has no exit status: what it says on standard error tells that it failed.
 run() {
     local said status=0
     ready "$1"
-    { said=$("$top/target/bin/$1" 2>&1 >&3 3>&-) || status=$?; } 3>&1
+    { said=$("$top/target/bin/$1" "${@:2}" 2>&1 >&3 3>&-) || status=$?; } 3>&1
     if [ -n "$said" ]; then
         printf '%s\n' "$said" >&2
         [ "$status" != 0 ] || status=$failure

@@ -186,7 +186,7 @@ impl Reached {
         let count = |w: &String| self.words.get(w).copied().unwrap_or(0);
         let least = list.iter().min_by_key(|w| count(w)).expect("a word");
         assert!(count(least) > 0, "no generated file names {least}");
-        println!("{what}: all {} reached, {least} in {} places, the others in more", list.len(), count(least));
+        println!("{what}: all {} reached, {least} least often, in {} places", list.len(), count(least));
     }
 }
 
@@ -194,17 +194,22 @@ impl Reached {
 /// the first that they do not, where the room is too small for the clocks: 44 is told before 43.
 fn each_word(run: &mut dyn FnMut(&[u8], usize, usize)) {
     let mut whole = |text: String| run(text.as_bytes(), 100, 2);
+    // a word as it is, a byte shorter at either end, a byte longer, and in capitals
+    let written = |word: &str| [word.to_string(), word[1..].to_string(), word[..word.len() - 1].to_string(), format!("{word}x"), word.to_uppercase()];
     for sort in SORTS {
         for size in ["1", "01", "2", "10"] {
-            whole(format!("$timescale 1us $end $var {sort} {size} ! SCL $end $var wire 1 ! SDA $end $enddefinitions $end 1! #9 0! b0 !"));
-        }
-        for wrong in [&sort[1..], &sort[..sort.len() - 1], &format!("{sort}x"), &sort.to_uppercase()] {
-            whole(format!("$var {wrong} 1 ! SCL $end $enddefinitions $end 1!"));
+            for word in written(sort) {
+                whole(format!("$timescale 1us $end $var {word} {size} ! SCL $end $var wire 1 ! SDA $end $enddefinitions $end 1! #9 0! b0 !"));
+            }
         }
     }
-    for scope in SCOPES {
-        for word in [scope, &scope[1..], &scope[..scope.len() - 1], &scope.to_uppercase()] {
-            whole(format!("$scope {word} a $end $var wire 1 ! SCL $end $enddefinitions $end 1!"));
+    for word in SCOPES.iter().flat_map(|scope| written(scope)) {
+        whole(format!("$scope {word} a $end $var wire 1 ! SCL $end $enddefinitions $end 1!"));
+    }
+    for word in SECTIONS.iter().flat_map(|section| written(section)) {
+        for inside in ["", "1!", "1 us", "module a", "wire 1 ! SCL"] {
+            whole(format!("$var wire 1 ! SDA $end {word} {inside} $end $enddefinitions $end 1!"));
+            whole(format!("$var wire 1 ! SDA $end $enddefinitions $end 1! {word} {inside} $end 0!"));
         }
     }
     for real in REALS {

@@ -1,4 +1,4 @@
--- The definition of a trace at small dumps, computed from their bytes: tests/vcd/start.vcd, tests/vcd/back.vcd, and a time above 64 bits.
+-- The definition of a trace at small dumps, computed from their bytes: start.vcd, mixed.vcd, back.vcd and over.vcd of tests/vcd.
 -- Assumes nothing.
 use Prim.Native.Nat.{ℕ}
 use mathlib.Core.Bool.{true, false}
@@ -7,9 +7,9 @@ use mathlib.Core.List.{List, [], _∷_}
 use Rattle.vcd_text.specs.Token.{white, wordLength, tokens, sameBytes, graphic, allGraphic, numberOf, grownBy, longerBy, digitsFrom, decimalOf}
 use Rattle.vcd_codes.specs.Codes.{joins, find}
 use Rattle.vcd_items.specs.Items as items
-use Rattle.vcd_steps.specs.Events.{event, clockEvents, pinEvents, words}
+use Rattle.vcd_steps.specs.Events.{event, clockEvents, pinEvents}
 use Rattle.vcd_steps.specs.Steps.{advanced, timeAs, timeOf, changeOf, codeOf, dumpOf, endOf, commentOf, commented, itemStep, endsAs}
-use Rattle.vcd_body.specs.Trace.{Trace, stopped, carried, tokenAs, body}
+use Rattle.vcd_body.specs.Trace.{stopped, carried, tokenAs, body}
 use Rattle.vcd_words.specs.Words as word
 use Rattle.vcd_header.specs.Header.{closedBy, codeStep, countStep, endAs, endingStep, indexStep, isName, keywordStep, lettersStep, nameStep, scopeNameStep, scopeStep, sizeAs, stepAs, textStep, typeAs, unitStep, wholeStep}
 use Rattle.vcd.specs.Header.{taken, declares, settled, header, headerOf}
@@ -17,10 +17,21 @@ use Rattle.vcd.specs.Call.{traceBy, traceOf}
 
 -- a proof that names this on its `unfolding` line computes traces
 unfoldable opened : ℕ
-unfolding white wordLength tokens sameBytes graphic allGraphic numberOf grownBy longerBy digitsFrom decimalOf joins find items.allStates items.fourState items.isDump items.isReal items.isVector items.itemAs items.itemOf items.keywordOf items.kindOf items.letterClass items.realClass items.realNext items.realState items.wholeReal clockEvents pinEvents words advanced timeAs timeOf changeOf codeOf dumpOf endOf commentOf commented itemStep endsAs carried tokenAs body word.countOf word.indexBy word.indexClass word.indexState word.isDiscrete word.isNet word.isScope word.joinedOf word.keywordOf word.lettersOf word.pinOf word.sortOf word.timesUnit closedBy codeStep countStep endAs endingStep indexStep isName keywordStep lettersStep nameStep scopeNameStep scopeStep sizeAs stepAs textStep typeAs unitStep wholeStep taken declares settled header headerOf traceBy traceOf
+unfolding white wordLength tokens sameBytes graphic allGraphic numberOf grownBy longerBy digitsFrom decimalOf joins find items.allStates items.fourState items.isDump items.isReal items.isVector items.itemAs items.itemOf items.keywordOf items.kindOf items.letterClass items.realClass items.realNext items.realState items.wholeReal clockEvents pinEvents advanced timeAs timeOf changeOf codeOf dumpOf endOf commentOf commented itemStep endsAs carried tokenAs body word.countOf word.indexBy word.indexClass word.indexState word.isDiscrete word.isNet word.isScope word.joinedOf word.keywordOf word.lettersOf word.pinOf word.sortOf word.timesUnit closedBy codeStep countStep endAs endingStep indexStep isName keywordStep lettersStep nameStep scopeNameStep scopeStep sizeAs stepAs textStep typeAs unitStep wholeStep taken declares settled header headerOf traceBy traceOf
 opened = 0
 
--- a line of the dump is a line here
+-- a line here for each line of the dump:
+--     $date by hand $end
+--     $timescale 1 us $end
+--     $scope module bus $end
+--     $var wire 1 ! SCL $end
+--     $var wire 1 " SDA $end
+--     $upscope $end
+--     $enddefinitions $end
+--     $dumpvars 1! 1" $end
+--     #4 0"
+--     #8 0!
+--     #20 x"
 abbrev startDump : List ℕ
 startDump =
     36 ∷ 100 ∷ 97 ∷ 116 ∷ 101 ∷ 32 ∷ 98 ∷ 121 ∷ 32 ∷ 104 ∷ 97 ∷ 110 ∷ 100 ∷ 32 ∷ 36 ∷ 101 ∷ 110 ∷ 100 ∷ 10 ∷
@@ -52,6 +63,18 @@ pub start-computed : traceOf startDump ≡ record {
 unfolding opened
 start-computed = refl
 
+--     $timescale 100ns $end
+--     $var reg 1 a SDA $end
+--     $var tri0 1 a VSYNCI $end
+--     $var wire 8 b HSYNCI $end
+--     $var real 64 c SCL $end
+--     $var wire 1 d SCL $end
+--     $var wire 1 e SDA $end
+--     $enddefinitions $end
+--     $dumpoff xa $end
+--     $comment #9 $end
+--     #80 0a b01xz b r-inf c 1d 0e
+--     #239
 abbrev mixedDump : List ℕ
 mixedDump =
     36 ∷ 116 ∷ 105 ∷ 109 ∷ 101 ∷ 115 ∷ 99 ∷ 97 ∷ 108 ∷ 101 ∷ 32 ∷ 49 ∷ 48 ∷ 48 ∷ 110 ∷ 115 ∷ 32 ∷ 36 ∷ 101 ∷ 110 ∷ 100 ∷ 10 ∷
@@ -84,6 +107,7 @@ pub mixed-computed : traceOf mixedDump ≡ record {
 unfolding opened
 mixed-computed = refl
 
+--     $timescale 1 us $end $enddefinitions $end #5 #4
 abbrev backDump : List ℕ
 backDump =
     36 ∷ 116 ∷ 105 ∷ 109 ∷ 101 ∷ 115 ∷ 99 ∷ 97 ∷ 108 ∷ 101 ∷ 32 ∷ 49 ∷ 32 ∷ 117 ∷ 115 ∷ 32 ∷ 36 ∷ 101 ∷ 110 ∷ 100 ∷ 32 ∷ 36 ∷ 101 ∷ 110 ∷ 100 ∷ 100 ∷ 101 ∷ 102 ∷ 105 ∷ 110 ∷ 105 ∷ 116 ∷ 105 ∷ 111 ∷ 110 ∷ 115 ∷ 32 ∷ 36 ∷ 101 ∷ 110 ∷ 100 ∷ 32 ∷ 35 ∷ 53 ∷ 32 ∷ 35 ∷ 52 ∷ []
@@ -93,6 +117,7 @@ pub back-computed : traceOf backDump ≡ stopped 41 45
 unfolding opened
 back-computed = refl
 
+--     $timescale 1 us $end $enddefinitions $end #18446744073710
 abbrev overDump : List ℕ
 overDump =
     36 ∷ 116 ∷ 105 ∷ 109 ∷ 101 ∷ 115 ∷ 99 ∷ 97 ∷ 108 ∷ 101 ∷ 32 ∷ 49 ∷ 32 ∷ 117 ∷ 115 ∷ 32 ∷ 36 ∷ 101 ∷ 110 ∷ 100 ∷ 32 ∷ 36 ∷ 101 ∷ 110 ∷ 100 ∷ 100 ∷ 101 ∷ 102 ∷ 105 ∷ 110 ∷ 105 ∷ 116 ∷ 105 ∷ 111 ∷ 110 ∷ 115 ∷ 32 ∷ 36 ∷ 101 ∷ 110 ∷ 100 ∷ 32 ∷ 35 ∷ 49 ∷ 56 ∷ 52 ∷ 52 ∷ 54 ∷ 55 ∷ 52 ∷ 52 ∷ 48 ∷ 55 ∷ 51 ∷ 55 ∷ 49 ∷ 48 ∷ []
