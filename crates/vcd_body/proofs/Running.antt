@@ -8,30 +8,28 @@ use native.Mathlib.Omega.{arith}
 use native.Mathlib.Numerals.{add-one}
 use lib.ListN.{length, take, drop, getD, set, replicate, length-set, length-take, length-drop}
 use lib.Seq.{drop-cons, getD-take, getD-drop}
-use lib.Dec.{eqb, ltb}
+use lib.Dec.{eqb}
 use borrow.Author.Tests.{eqb-true, eqb-false, lt-ltb, le-ltb, ne-eqb}
-use Rattle.bits.specs.Byte.{pick, num}
+use Rattle.bits.specs.Byte.{num}
 use Rattle.vcd_text.specs.declared.Number.{Number}
 use Rattle.vcd_text.specs.declared.Number.the-variants.{Of}
-use Rattle.vcd_text.specs.Token.{white, whiteLength, wordLength, tokens, numberOf, grownBy, longerBy, digitsFrom, decimalOf}
-use Rattle.vcd_text.proofs.Laws.{word-some, word-more, word-stops, word-ends, some-byte, decimal-some}
+use Rattle.vcd_text.specs.Token.{white, whiteLength, wordLength, numberOf, grownBy, longerBy, digitsFrom, decimalOf}
+use Rattle.vcd_text.proofs.Laws.{word-some, word-more, word-stops, some-byte, decimal-some}
 use Rattle.vcd_room.specs.declared.Put.{Put}
 use Rattle.vcd_room.specs.Room.{Written, put, wrote, clockWord, pinWord, unpacked, pinWords}
 use Rattle.vcd_codes.specs.Codes.{Found, meant}
-use Rattle.vcd_items.specs.declared.Item.{Item}
 use Rattle.vcd_items.specs.declared.Item.the-variants.{Scalar, Time}
 use Rattle.vcd_items.specs.Items.{kindOf, itemAs, itemOf}
 use Rattle.vcd_steps.specs.declared.Mode.{Mode}
 use Rattle.vcd_steps.specs.declared.Mode.the-variants.{Plain}
 use Rattle.vcd_steps.specs.declared.State.{State}
 use Rattle.vcd_steps.specs.Events.{Event, clockEvents, pinEvents, words}
-use Rattle.vcd_steps.specs.Steps.{Effect, proceed, atTime, itemStep, changeOf, timeOf, timeAs, advanced}
+use Rattle.vcd_steps.specs.Steps.{proceed, atTime, itemStep, changeOf, timeOf, timeAs, advanced}
 use Rattle.vcd_steps.proofs.Times.{fits-of}
 use Rattle.vcd_body.specs.declared.Run.{Run}
-use Rattle.vcd_body.specs.declared.Turn.{Turn}
 use Rattle.vcd_body.specs.declared.Turn.the-variants.{On}
 use Rattle.vcd_body.specs.Trace.{tokenAs}
-use Rattle.vcd_body.specs.Pieces.{turned, turnBy, placed, pieces}
+use Rattle.vcd_body.specs.Pieces.{turned, turnBy, placed}
 use Rattle.vcd_body.specs.Runs.{NextToken, Advances, Leads, ran}
 use Rattle.vcd_body.proofs.Placing.{clocks-left, pin-words}
 use Rattle.vcd_body.proofs.Reading.{token-goes-on}

@@ -12,7 +12,7 @@ ghost use Rattle.vcd_steps.specs.declared.State.{State};
 ghost use Rattle.vcd_body.specs.Trace.{tokenAs};
 ghost use Rattle.vcd_body.specs.Pieces.{start as startOf, answer, closed, paused, turned, turnBy, placed, pieces};
 ghost use Rattle.vcd_body.specs.Tables.{Singles, Lists, Tables};
-ghost use Rattle.vcd_body.specs.Runs.{NextToken, Advances, Leads, ran};
+ghost use Rattle.vcd_body.specs.Runs.{NextToken, Advances, Leads};
 use vcd_items::Item;
 use vcd_room::Put;
 use vcd_steps::Mode;

@@ -5,11 +5,9 @@ use borrow.Author.Needs.{needs}
 use Rattle.vcd_body.proofs.is_level.Statement.{statement}
 use Rattle.vcd_body.proofs.is_level.Tie as tie
 
-returns : tie.Need-returns
-returns c = λ e. absurd (never e)
-
-returns-2 : tie.Need-returns-2
-returns-2 c = search needs
-
 pub is-level-spec : {M : Type 1} → statement M
-is-level-spec = tie.close (tie.spec returns returns-2)
+is-level-spec =
+    tie.close
+    (tie.spec
+    (λ c. λ e. absurd (never e))
+    (λ c. search needs))

@@ -1,6 +1,6 @@
 -- `vcd_body::read_tokens` meets its contract. What is left of the tokens, from here, comes to what all of them come to.
 -- Assumes nothing.
-use Prim.Native.Nat.{ℕ, _-_}
+use Prim.Native.Nat.{_-_}
 use mathlib.Core.Bool.{false}
 use lib.ListN.{length, drop}
 use Rattle.vcd_text.specs.Token.{tokens}

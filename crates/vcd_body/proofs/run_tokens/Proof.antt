@@ -1,13 +1,12 @@
 -- `vcd_body::run_tokens` meets its contract.
 -- Assumes nothing.
-use mathlib.Core.Path.{_≡_, refl, sym, ap, _∙_}
+use mathlib.Core.Path.{_≡_, refl, _∙_}
 use Prim.Native.Nat.{_-_}
 use native.Mathlib.Omega.{arith}
 use lib.ListN.{length}
 use Rattle.vcd_codes.specs.Codes.{variables, find}
 use Rattle.vcd_body.specs.Runs.{Leads}
 use Rattle.vcd_body.proofs.Running.{leads-nowhere, leads-on}
-use borrow.Author.Needs.{needs}
 use Rattle.vcd_body.proofs.run_tokens.Statement.{statement}
 use Rattle.vcd_body.proofs.run_tokens.Tie as tie
 
