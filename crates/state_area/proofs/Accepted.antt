@@ -1,13 +1,14 @@
 -- Bytes are accepted exactly where they are those of a well formed state, and writing what was read gives them again.
 -- Assumes nothing.
 use mathlib.Core.Path.{_≡_, refl, sym, ap, ap₂, _∙_}
-use mathlib.Core.Bool.{Bool, true, false, _&&_}
+use mathlib.Core.Bool.{Bool, true, false, _&&_, and-true, and-false, and-assoc}
 use mathlib.Core.List.{List, [], _∷_, _++_, append-nil}
-use Prim.Native.Nat.{ℕ}
+use Prim.Native.Nat.{ℕ, suc, _+_, _<_, _≤_}
+use native.Mathlib.Numerals.{add-one}
 use native.Mathlib.Omega.{arith}
 use lib.Dec.{eqb}
-use lib.ListN.{length, take, drop, drop-of-length-le}
-use lib.Seq.{take-all}
+use lib.ListN.{length, take, drop, getD, drop-of-length-le}
+use lib.Seq.{take-all, take-suc, length-take-le}
 use borrow.Author.Tests.{eq-eqb, eqb-true}
 use Rattle.bits.specs.Byte.{pick}
 use Rattle.bits.proofs.Finite.{both}
@@ -32,14 +33,34 @@ unfolding sameBytes
 same-refl [] = refl
 same-refl (a ∷ s) = rw (eq-eqb a a refl) (same-refl s)
 
--- a Bool that tells whether two lists are the same is the test
-alike : (r s : Bool) → (r ≡ true → s ≡ true) → (s ≡ true → r ≡ true) → r ≡ s
-alike true s f g = sym (f refl)
-alike false true f g = g refl
-alike false false f g = refl
+-- lists of unequal length are not the same
+pub unequal : (s t : List ℕ) → (length s ≡ length t → ⊥) → false ≡ sameBytes s t
+unfolding sameBytes
+unequal [] [] h = absurd (h refl)
+unequal [] (b ∷ t) h = refl
+unequal (a ∷ s) [] h = refl
+unequal (a ∷ s) (b ∷ t) h = sym (and-false (eqb a b)) ∙ ap (λ (r : Bool). eqb a b && r) (unequal s t (λ (e : length s ≡ length t). h (ap suc e)))
 
-pub tells : (r : Bool) (s t : List ℕ) → (r ≡ true → s ≡ t) × (s ≡ t → r ≡ true) → r ≡ sameBytes s t
-tells r s t p = alike r (sameBytes s t) (λ h. rw (p .0 h) (same-refl t)) (λ h. p .1 (same-equal s t h))
+-- one more byte of each is compared
+same-snoc : (s t : List ℕ) (x y : ℕ) → length s ≡ length t → (sameBytes s t && eqb x y) ≡ sameBytes (s ++ (x ∷ [])) (t ++ (y ∷ []))
+unfolding sameBytes
+same-snoc [] [] x y h = sym (and-true (eqb x y))
+same-snoc [] (b ∷ t) x y h = absurd (omega arith)
+same-snoc (a ∷ s) [] x y h = absurd (omega arith)
+same-snoc (a ∷ s) (b ∷ t) x y h = and-assoc (eqb a b) (sameBytes s t) (eqb x y) ∙ ap (λ (r : Bool). eqb a b && r) (same-snoc s t x y (omega arith))
+
+module _ (s t : List ℕ) (h : length s ≡ length t) where
+  pub compared-more : (i : ℕ) → i < length s → (r : Bool) → r ≡ sameBytes (take i s) (take i t)
+      → (r && eqb (getD s i 0) (getD t i 0)) ≡ sameBytes (take (i + 1) s) (take (i + 1) t)
+  compared-more i k r e =
+      let l : i < length t = omega arith in
+      let sizes : length (take i s) ≡ length (take i t) = length-take-le i s (omega arith) ∙ sym (length-take-le i t (omega arith)) in
+      ap (λ (q : Bool). q && eqb (getD s i 0) (getD t i 0)) e
+      ∙ same-snoc (take i s) (take i t) (getD s i 0) (getD t i 0) sizes
+      ∙ rw (add-one, take-suc s i 0 k, take-suc t i 0 l)
+
+  pub compared-all : (i : ℕ) → length s ≤ i → (r : Bool) → r ≡ sameBytes (take i s) (take i t) → r ≡ sameBytes s t
+  compared-all i k r e = e ∙ ap₂ sameBytes (take-all i s k) (take-all i t (omega arith))
 
 -- a whole list copied over one of the same length
 pub copied-over : (s z : List ℕ) → length s ≡ length z → take (length s) s ++ drop (length s) z ≡ s
