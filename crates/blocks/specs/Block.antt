@@ -22,7 +22,7 @@ front number ws = twoBytes number ++ (twoBytes (length ws) ++ wordsBytes (padded
 unfoldable pub blockOf : ℕ → List ℕ → List ℕ
 blockOf number ws = front number ws ++ fourBytes (sum (front number ws))
 
--- the number that the writer gives: 16 for more than 126 words, then 17 for an area that is not of 512 bytes
+-- the number that the writer gives: 16 where there are 127 words or more, next 17 where the area has another length than 512
 unfoldable pub writeNumber : List ℕ → List ℕ → ℕ
 writeNumber ws area = pick (ltb 126 (length ws)) 16 (pick (eqb (length area) 512) 0 17)
 
@@ -52,8 +52,8 @@ blockWords b = take (countOf b) (allWords b)
 abbrev pub unused : List ℕ → List ℕ
 unused b = drop (countOf b) (allWords b)
 
--- 0 for a good block with the number that is due, else what is wrong, in order: 10 short block, 11 wrong sum, 12 wrong number,
--- 13 bad count, 14 unused word not zero
+-- 0 for a good block with the number that is due, else the first fault: fewer than 512 bytes (10), a sum that differs (11), another number
+-- (12), a count of 0 or above 126 (13), a word past the count that is not zero (14)
 unfoldable pub refusal : ℕ → List ℕ → ℕ
 refusal due b =
     pick (ltb (length b) 512) 10

@@ -107,8 +107,8 @@ fn put_front(number: u16, words: &[u32], area: &mut [u8])
     put_words(words, area);
 }
 
-// The writer of a block: 16 for more than 126 words, then 17 for an area that is not of 512 bytes, and nothing written; else 0
-// and the block in the area.
+// The writer of a block: 16 where there are 127 words or more, next 17 where the area has another length than 512, and nothing written;
+// else 0 and the block in the area.
 // Wrong answers: 17 for more than 126 words; the sum over the last word.
 pub fn write_block(number: u16, words: &[u32], area: &mut [u8]) -> u8
     ensures { λ r. ⌜ (r ≡ writeNumber (now (words .entry)) (now (area .entry))) × (now (area .exit) ≡ areaLeft number (now (words .entry)) (now (area .entry))) ⌝ }

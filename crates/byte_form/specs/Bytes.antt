@@ -10,7 +10,7 @@ use Rattle.isolation.specs.Foreign.{Agree}
 use Rattle.state_area.specs.Area.{loaded}
 use Rattle.state_calls.specs.Calls.{stepArea, stepAnswer, runArea, runPlaces}
 
--- bytes that no well formed state is written as
+-- bytes of which no well formed state is the origin
 abbrev pub WrittenAsNone : List ℕ → Type 0
 WrittenAsNone s = (c : Chip) → wellFormed c ≡ true → s ≡ bytesOf c → ⊥
 

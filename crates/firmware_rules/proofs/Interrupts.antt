@@ -40,14 +40,14 @@ turn-by : (rom : List ℕ) (m x : Machine) (r b b′ : Bool) → b ≡ b′
 turn-by rom m x true b b′ h = rw h
 turn-by rom m x false b b′ h = refl
 
--- it is taken exactly where a request stands, I is clear and RESET is high
+-- it is taken at RESET high, I clear and a request, and never otherwise
 pub turn-is : (rom : List ℕ) (m : Machine) → turn rom m ≡ turnOf rom m
 unfolding turn afterInterrupt
 turn-is rom m =
     turn-by rom m (interruptTaken rom m) (m .chip .core .reset) (isInterrupted (isRequesting (m .chip)) (m .cpu)) (not (eqb (requests (m .chip)) 0) && not (m .cpu .p .i)) (wanted m)
     ∙ ap (λ (x : Machine). pick (m .chip .core .reset) (instruct rom (pick (isTaken m) x m)) (turned m 0)) (interrupt-leaves rom m)
 
--- while RESET is low an instruction counts and does nothing
+-- with RESET low an instruction is counted and moves nothing
 pub turn-low : (rom : List ℕ) (m : Machine) → m .chip .core .reset ≡ false → turn rom m ≡ turned m 0
 unfolding turn
 turn-low rom m h = rw h

@@ -11,7 +11,7 @@ use Rattle.operations.specs.Operations.{putI, pushedP}
 use Rattle.memory.specs.Memory.{below, stackPlace, romWord}
 use Rattle.machine.specs.Machine.{Machine, machine, Turned, turned, clockAfter, instruct}
 
--- one is taken before an instruction where a request stands, I is clear and RESET is high
+-- one comes in front of an instruction at RESET high, I clear and a request
 abbrev pub isTaken : Machine → Bool
 isTaken m = m .chip .core .reset && (not (eqb (requests (m .chip)) 0) && not (m .cpu .p .i))
 

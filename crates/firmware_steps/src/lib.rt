@@ -138,7 +138,7 @@ fn clocked_after(n: u16, chip: Chip) -> Chip
     }
 }
 
-// What comes before an instruction: the interrupt, where a request stands, I is clear and RESET is high.
+// What comes before an instruction: the interrupt, at RESET high, I clear and a request.
 // Wrong answers: an interrupt taken with I set; the low byte of PC pushed first.
 pub fn interrupt(cpu: Cpu, chip: Chip, ram: &mut [u8; 256], rom: &[u8]) -> Interrupted
     ensures { λ r. ⌜ (r ≡ interruptedBy (now (rom .entry)) (now (ram .entry)) cpu chip) × (now (ram .exit) ≡ beforeInstruction (now (rom .entry)) (machine cpu (now (ram .entry)) chip) .ram) ⌝ }

@@ -116,7 +116,7 @@ accepted-few due (b ∷ bs) k n e =
     let first = accepted-first due b bs e in
     omega (arith, accepted-few (due + 1) bs (λ j. k (suc j)) (omega (arith, number-small due b (k 0) (first .0))) (first .1))
 
--- every accepted recording is what the writer would make of each block's words
+-- what is accepted could have been written: the writer, given each block's words, makes the same bytes
 pub accepted-written : (bytes : List ℕ) → Bytes bytes → readNumber 0 (blocksOf bytes) ≡ 0
     → (bytes ≡ joined (numbered 0 (map blockWords (blocksOf bytes)))) × (length (blocksOf bytes) ≤ 65536)
 unfolding blocksOf

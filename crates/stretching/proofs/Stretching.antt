@@ -184,7 +184,7 @@ held-since n c (w ∷ ws) l h q =
     (ap (λ (r : Bool). bounded (pick t (heldLonger n) n + periodClocks r ws)) (level-effect c e .reset) ∙ counts-on t n (periodClocks (levelAfter 28 e (c .core .reset)) ws) l)
     (held-since (pick t (heldLonger n) n) (next c e) ws (within t n l) (goes-on n c e h (k .0)) (k .1))
 
--- the state keeps the number of 8 µs clocks since SCL was taken low, stopping at 65,535
+-- the count held is that of the 8 µs clocks from the fall on, and stops at 65,535
 pub held-since-taken : (c : Chip) (w : ℕ) (ws : List ℕ) → takesScl c (decode w) ≡ true → lasts (next c (decode w)) ws ≡ true →
     HeldFor (bounded (periodsGiven (next c (decode w)) ws)) (advanced c (w ∷ ws))
 unfolding advance
