@@ -53,7 +53,7 @@ abbrev pub unused : List ℕ → List ℕ
 unused b = drop (countOf b) (allWords b)
 
 -- 0 for a good block with the number that is due, else the first fault: fewer than 512 bytes (10), a sum that differs (11), another number
--- (12), a count of 0 or above 126 (13), a word past the count that is not zero (14)
+-- (12), a count above 126 (13), a word past the count that is not zero (14)
 unfoldable pub refusal : ℕ → List ℕ → ℕ
 refusal due b =
     pick (ltb (length b) 512) 10
