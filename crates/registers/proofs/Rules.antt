@@ -1,17 +1,19 @@
 -- Rules of the register table: each is a test computed over the 38 rows, and holds at every address.
 -- Assumes nothing.
 use mathlib.Core.Path.{_≡_, refl, ap, sym, _∙_}
-use mathlib.Core.Bool.{Bool, true, false, _||_, Bool·beq, true≢false}
+use mathlib.Core.Bool.{Bool, true, false, _&&_, _||_, Bool·beq, true≢false}
+use mathlib.Core.List.{List, [], _∷_}
 use mathlib.Core.Logic.{⊎-elim}
 use Prim.Native.Nat.{ℕ, _<_, _≤_}
 use native.Mathlib.Omega.{arith}
 use borrow.Author.Tests.{le-ltb, ne-eqb}
 use lib.Dec.{T, eqb, ltb, eqb→eq, ltb→lt}
 use lib.ListN.{length, getD, List·getD-map, List·getD-eq-default}
+use Rattle.bits.specs.Byte.{pick}
 use Rattle.bits.specs.Finite.{allBelow}
-use Rattle.bits.proofs.Finite.{or-right, at-each, lt-or-le, beq-eq}
+use Rattle.bits.proofs.Finite.{and-left, and-right, or-right, at-each, lt-or-le, beq-eq}
 use Rattle.registers.specs.declared.Row.{Row}
-use Rattle.registers.specs.Table.{table, none, rowOf, resetValue, writeMask, readMask, isWritable, isReadable, isRegister, resets, maskChoice, readChoice, writableChoice, readableChoice}
+use Rattle.registers.specs.Table.{table, none, rowOf, resetValue, writeMask, readMask, isWritable, isReadable, isRegister, resets, chosen, writeMasks, readMasks, readOnly, writeOnly, maskChoice, readChoice, writableChoice, readableChoice}
 
 -- the table has 38 rows
 pub table-length : length table ≡ 38
@@ -46,101 +48,37 @@ as-column column choice same equal t p a =
     ⊎-elim (λ (h : a < 38). equal (column (rowOf a)) (choice a) (at-each (λ a. same (column (rowOf a)) (choice a)) 38 t a h))
     (λ (h : 38 ≤ a). ap column (row-past a h) ∙ sym (p a h)) (lt-or-le a 38)
 
-past : (a k : ℕ) → 38 ≤ a → k < 38 → eqb a k ≡ false
-past a k h l = ne-eqb a k (λ e. absurd (omega arith))
+-- the addresses of a choice are registers
+abbrev ofRegisters : {A : Type 0} → List (ℕ × A) → Bool
+ofRegisters [] = true
+ofRegisters (x ∷ xs) = ltb (x .0) 38 && ofRegisters xs
 
--- above 25H no line of a choice is met
+-- so above 25H no line of it is met
+chosen-past : {A : Type 0} (xs : List (ℕ × A)) (other : A) (a : ℕ) → 38 ≤ a → T (ofRegisters xs) → chosen xs other a ≡ other
+chosen-past [] other a h t = refl
+chosen-past (x ∷ xs) other a h t =
+    let l : x .0 < 38 = ltb→lt (x .0) 38 (and-left (ltb (x .0) 38) (ofRegisters xs) t) in
+    rw (ne-eqb a (x .0) (λ e. absurd (omega arith))) (chosen-past xs other a h (and-right (ltb (x .0) 38) (ofRegisters xs) t))
+
 module _ (a : ℕ) (h : 38 ≤ a) where
+  none-past : _≡_ {A = ℕ} (pick (ltb a 38) 0xff 0) 0
+  none-past = rw (le-ltb a 38 h)
+
   mask-past : maskChoice a ≡ 0
   unfolding maskChoice
-  mask-past =
-      simp (
-        le-ltb a 38 h,
-        past a 0 h (omega arith),
-        past a 1 h (omega arith),
-        past a 2 h (omega arith),
-        past a 3 h (omega arith),
-        past a 4 h (omega arith),
-        past a 5 h (omega arith),
-        past a 6 h (omega arith),
-        past a 7 h (omega arith),
-        past a 8 h (omega arith),
-        past a 9 h (omega arith),
-        past a 10 h (omega arith),
-        past a 11 h (omega arith),
-        past a 12 h (omega arith),
-        past a 13 h (omega arith),
-        past a 14 h (omega arith),
-        past a 15 h (omega arith),
-        past a 16 h (omega arith),
-        past a 17 h (omega arith),
-        past a 18 h (omega arith),
-        past a 19 h (omega arith),
-        past a 20 h (omega arith),
-        past a 21 h (omega arith),
-        past a 22 h (omega arith),
-        past a 23 h (omega arith),
-      )
+  mask-past = chosen-past writeMasks _ a h tt ∙ none-past
 
   read-past : readChoice a ≡ 0
   unfolding readChoice
-  read-past =
-      simp (
-        le-ltb a 38 h,
-        past a 0 h (omega arith),
-        past a 1 h (omega arith),
-        past a 2 h (omega arith),
-        past a 3 h (omega arith),
-        past a 4 h (omega arith),
-        past a 5 h (omega arith),
-        past a 6 h (omega arith),
-        past a 7 h (omega arith),
-        past a 8 h (omega arith),
-        past a 9 h (omega arith),
-        past a 10 h (omega arith),
-        past a 11 h (omega arith),
-        past a 12 h (omega arith),
-        past a 13 h (omega arith),
-        past a 14 h (omega arith),
-        past a 15 h (omega arith),
-        past a 16 h (omega arith),
-        past a 17 h (omega arith),
-        past a 18 h (omega arith),
-        past a 19 h (omega arith),
-        past a 20 h (omega arith),
-        past a 21 h (omega arith),
-        past a 22 h (omega arith),
-        past a 23 h (omega arith),
-      )
+  read-past = chosen-past readMasks _ a h tt ∙ none-past
 
   writable-past : writableChoice a ≡ false
   unfolding writableChoice isRegister
-  writable-past =
-      simp (
-        le-ltb a 38 h,
-        past a 7 h (omega arith),
-        past a 8 h (omega arith),
-        past a 9 h (omega arith),
-        past a 10 h (omega arith),
-        past a 14 h (omega arith),
-        past a 16 h (omega arith),
-      )
+  writable-past = chosen-past readOnly _ a h tt ∙ le-ltb a 38 h
 
   readable-past : readableChoice a ≡ false
   unfolding readableChoice isRegister
-  readable-past =
-      simp (
-        le-ltb a 38 h,
-        past a 2 h (omega arith),
-        past a 11 h (omega arith),
-        past a 12 h (omega arith),
-        past a 15 h (omega arith),
-        past a 17 h (omega arith),
-        past a 18 h (omega arith),
-        past a 19 h (omega arith),
-        past a 22 h (omega arith),
-        past a 23 h (omega arith),
-      )
+  readable-past = chosen-past writeOnly _ a h tt ∙ le-ltb a 38 h
 
 -- each choice is the table's column at each address
 pub mask-choice : (a : ℕ) → writeMask a ≡ maskChoice a

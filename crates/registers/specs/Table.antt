@@ -77,36 +77,22 @@ resetValue a = rowOf a .reset
 unfoldable pub writeMask : ℕ → ℕ
 writeMask a = rowOf a .write
 
--- the same column as a choice over the register, in the order of the sheet; `Rules.mask-choice` says that the two are equal at
--- every address
+-- a choice by the address: what stands beside it, or else another
+abbrev pub chosen : {A : Type 0} → List (ℕ × A) → A → ℕ → A
+chosen [] other a = other
+chosen (x ∷ xs) other a = pick (eqb a (x .0)) (x .1) (chosen xs other a)
+
+-- the same column as a choice, in the order of the sheet, with DACH0 to DACH13 behind the others; `Rules.mask-choice` says that the
+-- two are equal at every address
+abbrev pub writeMasks : List (ℕ × ℕ)
+writeMasks =
+    (PT0, 0xff) ∷ (PT1, 0x3f) ∷ (PT2DIR, 0xff) ∷ (PT2, 0xff) ∷ (PT3, 0x03) ∷ (MDCON, 0x0f)
+    ∷ (HVCON, 0x03) ∷ (HCNTL, 0x00) ∷ (HCNTH, 0x00) ∷ (VCNTL, 0x00) ∷ (VCNTH, 0x00) ∷ (SYNCON, 0xdf)
+    ∷ (ENDAC, 0xff) ∷ (AD0, 0x00) ∷ (AD1, 0x00) ∷ (IEX, 0x3f) ∷ (IRQX, 0x00) ∷ (CLRFLG, 0x00)
+    ∷ (CLRWDT, 0x00) ∷ (IIADR, 0xfe) ∷ (IIDAT, 0xff) ∷ (IISTS, 0x0d) ∷ (BT, 0xff) ∷ (BTCON, 0x03) ∷ []
+
 unfoldable pub maskChoice : ℕ → ℕ
-maskChoice a =
-    pick (eqb a PT0) 0xff
-    (pick (eqb a PT1) 0x3f
-    (pick (eqb a PT2DIR) 0xff
-    (pick (eqb a PT2) 0xff
-    (pick (eqb a PT3) 0x03
-    (pick (eqb a MDCON) 0x0f
-    (pick (eqb a HVCON) 0x03
-    (pick (eqb a HCNTL) 0x00
-    (pick (eqb a HCNTH) 0x00
-    (pick (eqb a VCNTL) 0x00
-    (pick (eqb a VCNTH) 0x00
-    (pick (eqb a SYNCON) 0xdf
-    (pick (eqb a ENDAC) 0xff
-    (pick (eqb a AD0) 0x00
-    (pick (eqb a AD1) 0x00
-    (pick (eqb a IEX) 0x3f
-    (pick (eqb a IRQX) 0x00
-    (pick (eqb a CLRFLG) 0x00
-    (pick (eqb a CLRWDT) 0x00
-    (pick (eqb a IIADR) 0xfe
-    (pick (eqb a IIDAT) 0xff
-    (pick (eqb a IISTS) 0x0d
-    (pick (eqb a BT) 0xff
-    (pick (eqb a BTCON) 0x03
-    (pick (ltb a 0x26) 0xff  -- DACH0 to DACH13
-    0x00))))))))))))))))))))))))
+maskChoice a = chosen writeMasks (pick (ltb a 0x26) 0xff 0x00) a
 
 -- the byte that a write leaves: the bits of the write mask from the byte written, the others as they were
 abbrev pub updated : ℕ → ℕ → ℕ → ℕ
@@ -126,59 +112,31 @@ isReadable a = rowOf a .readable
 
 -- these three columns as choices too, equal to the table's at every address by `Rules.read-choice`, `writable-choice` and
 -- `readable-choice`
+abbrev pub readMasks : List (ℕ × ℕ)
+readMasks =
+    (PT0, 0xff) ∷ (PT1, 0x7f) ∷ (PT2DIR, 0x00) ∷ (PT2, 0xff) ∷ (PT3, 0x03) ∷ (MDCON, 0x03)
+    ∷ (HVCON, 0xfc) ∷ (HCNTL, 0xff) ∷ (HCNTH, 0x0f) ∷ (VCNTL, 0xff) ∷ (VCNTH, 0x0f) ∷ (SYNCON, 0x00)
+    ∷ (ENDAC, 0x00) ∷ (AD0, 0xc0) ∷ (AD1, 0x00) ∷ (IEX, 0x00) ∷ (IRQX, 0x3f) ∷ (CLRFLG, 0x00)
+    ∷ (CLRWDT, 0x00) ∷ (IIADR, 0x00) ∷ (IIDAT, 0xff) ∷ (IISTS, 0x3e) ∷ (BT, 0x00) ∷ (BTCON, 0x00) ∷ []
+
 unfoldable pub readChoice : ℕ → ℕ
-readChoice a =
-    pick (eqb a PT0) 0xff
-    (pick (eqb a PT1) 0x7f
-    (pick (eqb a PT2DIR) 0x00
-    (pick (eqb a PT2) 0xff
-    (pick (eqb a PT3) 0x03
-    (pick (eqb a MDCON) 0x03
-    (pick (eqb a HVCON) 0xfc
-    (pick (eqb a HCNTL) 0xff
-    (pick (eqb a HCNTH) 0x0f
-    (pick (eqb a VCNTL) 0xff
-    (pick (eqb a VCNTH) 0x0f
-    (pick (eqb a SYNCON) 0x00
-    (pick (eqb a ENDAC) 0x00
-    (pick (eqb a AD0) 0xc0
-    (pick (eqb a AD1) 0x00
-    (pick (eqb a IEX) 0x00
-    (pick (eqb a IRQX) 0x3f
-    (pick (eqb a CLRFLG) 0x00
-    (pick (eqb a CLRWDT) 0x00
-    (pick (eqb a IIADR) 0x00
-    (pick (eqb a IIDAT) 0xff
-    (pick (eqb a IISTS) 0x3e
-    (pick (eqb a BT) 0x00
-    (pick (eqb a BTCON) 0x00
-    (pick (ltb a 0x26) 0xff  -- DACH0 to DACH13
-    0x00))))))))))))))))))))))))
+readChoice a = chosen readMasks (pick (ltb a 0x26) 0xff 0x00) a
 
--- every register but six takes writes
+-- every register but these takes writes
+abbrev pub readOnly : List (ℕ × Bool)
+readOnly =
+    (HCNTL, false) ∷ (HCNTH, false) ∷ (VCNTL, false) ∷ (VCNTH, false) ∷ (AD1, false) ∷ (IRQX, false) ∷ []
+
 unfoldable pub writableChoice : ℕ → Bool
-writableChoice a =
-    pick (eqb a HCNTL) false
-    (pick (eqb a HCNTH) false
-    (pick (eqb a VCNTL) false
-    (pick (eqb a VCNTH) false
-    (pick (eqb a AD1) false
-    (pick (eqb a IRQX) false
-    (isRegister a))))))
+writableChoice a = chosen readOnly (isRegister a) a
 
--- every register but nine takes reads
+-- every register but these takes reads
+abbrev pub writeOnly : List (ℕ × Bool)
+writeOnly =
+    (PT2DIR, false) ∷ (SYNCON, false) ∷ (ENDAC, false) ∷ (IEX, false) ∷ (CLRFLG, false) ∷ (CLRWDT, false) ∷ (IIADR, false) ∷ (BT, false) ∷ (BTCON, false) ∷ []
+
 unfoldable pub readableChoice : ℕ → Bool
-readableChoice a =
-    pick (eqb a PT2DIR) false
-    (pick (eqb a SYNCON) false
-    (pick (eqb a ENDAC) false
-    (pick (eqb a IEX) false
-    (pick (eqb a CLRFLG) false
-    (pick (eqb a CLRWDT) false
-    (pick (eqb a IIADR) false
-    (pick (eqb a BT) false
-    (pick (eqb a BTCON) false
-    (isRegister a)))))))))
+readableChoice a = chosen writeOnly (isRegister a) a
 
 -- the reset values of all registers, in order
 unfoldable pub resets : List ℕ
