@@ -41,9 +41,11 @@ for line in open('tests/addresses/cases.txt'):
         sys.exit(f'addresses: {name}: {run([own], changes(list_))}')
     cases += 1
 # what the program itself refuses: half a change, and an argument that is no byte
+program = './addresses'
 for arguments, given in ((['6E'], b'\x18'), (['1FF'], b''), ([], b'')):
     status, printed, said = run(arguments, given)
     if status != 2 or printed or not said.startswith('addresses: '):
         sys.exit(f'addresses: {arguments} {given}: {status} {printed} {said}')
 print(f'addresses: {cases} worked cases as expected')
 PYTHON
+bash scripts/check-commands.sh addresses

@@ -1,6 +1,8 @@
 #!/usr/bin/env bash
 # Tries every command at the top of the repository in what they have in common (scripts/program.sh): usage, options, more files than one,
 # files that cannot be read, links, outputs that cannot be written, and a proof that fails. What a command does is tried by its own check.
+# Usage: check-commands.sh [COMMAND ..]. Without a name all are tried but ./addresses and ./vcd: scripts/check-addresses.sh and
+# scripts/check-vcd.sh make their libraries, and name them here.
 set -euo pipefail
 cd "$(dirname "$0")/.."
 work=$(mktemp -d)
@@ -37,7 +39,8 @@ declare -A file=(
     [addresses]=tests/addresses/example.bin [counters6862]=crates/counters6862/stdin [edid]=crates/edid/stdin [feed]=crates/edid/stdin
     [firmware]=images/sort.rom [record]=crates/record/stdin [recording]=crates/record/stdout [replay]=crates/record/stdin [vcd]=tests/vcd/start.vcd [why]=crates/why/stdin)
 declare -A failure=([addresses]=2 [edid]=2 [firmware]=2 [vcd]=2)
-mapfile -t commands < <(find . -maxdepth 1 -type f -perm -u+x -printf '%f\n' | sort)
+commands=("$@")
+[ $# -gt 0 ] || mapfile -t commands < <(find . -maxdepth 1 -type f -perm -u+x ! -name addresses ! -name vcd -printf '%f\n' | sort)
 
 # a tree whose programs are not proved, and a checker that refuses
 mkdir -p "$work/copy/crates" "$work/copy/scripts" "$work/bin" "$work/elsewhere"
@@ -110,16 +113,16 @@ $name: the program is not proved, so it is not run; $log has all that the checke
     cmp -s "$work/own" "$work/out" || complain "./$name prints otherwise from standard input"
 done
 
-# the argument of ./addresses, and a pipe by name, which is opened once
-tried 2 '' 'addresses: the byte in II ADR is missing;*' ./addresses
-tried 2 '' 'addresses: II ADR is a byte of two hex digits, and not 1FF;*' ./addresses 1FF tests/addresses/example.bin
-mkfifo "$work/pipe"
-for _ in 1 2 3; do
-    timeout 20 bash -c 'cat "$1" > "$2" || echo "the writer ends with $?" >> "$3"' _ crates/record/stdin "$work/pipe" "$work/writer" 2> /dev/null &
-    tried 0 "$(cat crates/record/stdin | target/bin/replay)" '' timeout 20 ./replay "$work/pipe"
-    wait $! || true
-done
-[ ! -e "$work/writer" ] || complain "a pipe by name: $(cat "$work/writer")"
+# a pipe by name is opened once
+if [ $# = 0 ]; then
+    mkfifo "$work/pipe"
+    for _ in 1 2 3; do
+        timeout 20 bash -c 'cat "$1" > "$2" || echo "the writer ends with $?" >> "$3"' _ crates/record/stdin "$work/pipe" "$work/writer" 2> /dev/null &
+        tried 0 "$(target/bin/replay < crates/record/stdin)" '' timeout 20 ./replay "$work/pipe"
+        wait $! || true
+    done
+    [ ! -e "$work/writer" ] || complain "a pipe by name: $(cat "$work/writer")"
+fi
 
-[ "$bad" = 0 ] && echo "commands: $tried uses of ${#commands[@]} commands behave as said: usage, arguments, files, links, failed reads and writes, failed proofs"
+[ "$bad" = 0 ] && echo "commands: $tried uses of ${*:-${#commands[@]} commands} behave as said: usage, arguments, files, links, failed reads and writes, failed proofs"
 exit "$bad"

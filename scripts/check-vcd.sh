@@ -42,3 +42,4 @@ for command, expected in runs:
 print(f'vcd: {len(worked)} dumps computed in a proof are the stored ones; {len(runs)} commands of README.md write what it says')
 PYTHON
 echo "vcd: $dumps stored dumps read as expected"
+bash scripts/check-commands.sh vcd
