@@ -8,7 +8,6 @@ use native.Mathlib.Numerals.{add-one}
 use lib.ListN.{length, drop, getD}
 use lib.Seq.{drop-cons, drop-length}
 use Rattle.events.specs.Word.{decode}
-use Rattle.events.specs.declared.Decoded.{Decoded}
 use Rattle.chip.specs.declared.Core.{Core}
 use Rattle.chip.specs.State.{chipOf, modeOf}
 use Rattle.bus.specs.declared.Mode.{Mode}
@@ -28,18 +27,18 @@ pub record Done (ws : List ℕ) (f now : Followed) (i : ℕ) : Type 0 where
   pub rest : followed now (drop i ws) ≡ followed f ws
 
 module _ (ws : List ℕ) (f : Followed) (registers : List ℕ) (core : Core) (place : ℕ) (last : LastSet) (i : ℕ) (d : Done ws f (at registers core place last) i) where
-  pub more : i < length ws → (e : Decoded) → e ≡ decode (getD ws i 0)
-      → (r : CoreStepped) → r ≡ coreOf (advance (chipOf registers core) e)
-      → (stored : List ℕ) → stored ≡ advance (chipOf registers core) e .chip .registers
+  pub more : i < length ws
+      → (r : CoreStepped) → r ≡ coreOf (advance (chipOf registers core) (decode (getD ws i 0)))
+      → (stored : List ℕ) → stored ≡ advance (chipOf registers core) (decode (getD ws i 0)) .chip .registers
       → (mode : Mode) → mode ≡ modeOf core
       → (noted : LastSet) → noted ≡ allNoted place (core .irqx) mode (r .core) last
       → (next : ℕ) → next ≡ nextPlace place
       → Done ws f (at stored (r .core) next noted) (i + 1)
   unfolding followedBy
-  more h e p r q stored l mode m noted n next o =
+  more h r q stored l mode m noted n next o =
       record {
         within = omega arith;
-        rest = rw (add-one, o, n, m, q, l, p) (rw (drop-cons ws i 0 h) at (d .rest));
+        rest = rw (add-one, o, n, m, q, l) (rw (drop-cons ws i 0 h) at (d .rest));
       }
 
   pub all : length ws ≤ i → at registers core place last ≡ followed f ws

@@ -45,7 +45,8 @@ fn core_moved(registers: &[u8; 38], c: Core) -> CoreStepped
 
 // The step over an event word, without the test of the state. The commonest events go straight to what they move; for every word the
 // step over what it decodes to gives the same.
-fn advance_word(registers: &mut [u8; 38], c: Core, word: u32) -> CoreStepped
+// Wrong answers: a rise of HSYNCI taken for a fall; the watchdog's clock for that of 8 µs.
+pub fn advance_word(registers: &mut [u8; 38], c: Core, word: u32) -> CoreStepped
     ensures { λ r. ⌜ (r ≡ coreOf (advance (chipOf (now (registers .entry)) c) (decodeOf word))) × (now (registers .exit) ≡ advance (chipOf (now (registers .entry)) c) (decodeOf word) .chip .registers) ⌝ }
 {
     match word {

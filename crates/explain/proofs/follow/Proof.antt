@@ -21,17 +21,14 @@ loop-holds c = record { within = search needs; rest = refl }
 mode-of-requires : tie.Need-mode-of-requires Inv-loop μ-loop
 mode-of-requires c κs = search needs
 
-mul-decode : tie.Need-mul-decode Inv-loop μ-loop
-mul-decode c = search needs
+mul-advance-word : tie.Need-mul-advance-word Inv-loop μ-loop
+mul-advance-word c = search needs
 
-shared-slice-read-decode : tie.Need-shared-slice-read-decode Inv-loop μ-loop
-shared-slice-read-decode c = search needs
+shared-slice-read-advance-word : tie.Need-shared-slice-read-advance-word Inv-loop μ-loop
+shared-slice-read-advance-word c = search needs
 
-decode-requires : tie.Need-decode-requires Inv-loop μ-loop
-decode-requires c κs = search needs
-
-advance-core-requires : tie.Need-advance-core-requires Inv-loop μ-loop
-advance-core-requires c κs = search needs
+advance-word-requires : tie.Need-advance-word-requires Inv-loop μ-loop
+advance-word-requires c κs = search needs
 
 noted-requires : tie.Need-noted-requires Inv-loop μ-loop
 noted-requires c κs = search needs
@@ -41,20 +38,20 @@ next-place-requires c κs = search needs
 
 add-i : tie.Need-add-i Inv-loop μ-loop
 add-i c =
-    let test = c .before .before .before .before .before .before .before .before in
+    let test = c .before .before .before .before .before .before .before in
     let entry = test .before .before .before .before .before .before .before in
     omega (arith, test .loop-test .taken, entry .good .1 .0 .0)
 
 loop-less : tie.Need-loop-less Inv-loop μ-loop
-loop-less c = omega (arith, c .before .before .before .before .before .before .before .before .loop-test .taken)
+loop-less c = omega (arith, c .before .before .before .before .before .before .before .loop-test .taken)
 
 loop-again : tie.Need-loop-again Inv-loop μ-loop
 loop-again c =
     let stepped = c .before .before .before in
-    let test = stepped .before .before .before .before .before in
-    let done = stepped .advance-core .ensures in
-    more _ _ _ _ _ _ _ (test .before .loop .inv) (test .loop-test .taken) _ (stepped .before .decode .ensures .0) _ (done .0) _ (done .1)
-    _ (stepped .before .before .before .before .mode-of .ensures) _ (c .before .noted .ensures) _ (c .next-place .ensures)
+    let test = stepped .before .before .before .before in
+    let done = stepped .advance-word .ensures in
+    more _ _ _ _ _ _ _ (test .before .loop .inv) (test .loop-test .taken) _ (done .0) _ (done .1)
+    _ (stepped .before .before .before .mode-of .ensures) _ (c .before .noted .ensures) _ (c .next-place .ensures)
 
 returns : tie.Need-returns Inv-loop μ-loop
 returns c = all _ _ _ _ _ _ _ (c .before .loop .inv) (c .loop-test .left)
@@ -67,10 +64,9 @@ follow-spec =
     μ-loop
     loop-holds
     mode-of-requires
-    mul-decode
-    shared-slice-read-decode
-    decode-requires
-    advance-core-requires
+    mul-advance-word
+    shared-slice-read-advance-word
+    advance-word-requires
     noted-requires
     next-place-requires
     add-i
