@@ -1,6 +1,6 @@
--- Instructions one after the other for as long as the chip is not needed (document 02, Wish 5): no register is written, none is read of which
--- nothing is known, no 8 µs clock is due, and no interrupt is to be taken.
-use Prim.Native.Nat.{ℕ, zero, suc, _+_, _%_}
+-- An instruction without the chip (document 02, Wish 5): what it reads of the registers is what is known of them; a register that it writes, a
+-- clock of 8 µs that is due and an interrupt that comes first are told.
+use Prim.Native.Nat.{ℕ, _+_, _%_}
 use mathlib.Core.Bool.{Bool, true, false}
 use mathlib.Core.List.{List}
 use lib.Dec.{ltb}
@@ -20,9 +20,6 @@ use Rattle.execution.specs.declared.Executed.{Executed}
 use Rattle.execution.specs.declared.Executed.the-variants as executed
 use Rattle.batch.specs.declared.Turn.{Turn}
 use Rattle.batch.specs.declared.Turn.the-variants as turn
-use Rattle.batch.specs.declared.Reason.{Reason}
-use Rattle.batch.specs.declared.Reason.the-variants as reason
-use Rattle.batch.specs.declared.Pause.{Pause}
 
 -- ---- cycles
 
@@ -65,26 +62,3 @@ turnOf table seen rom request c ram =
 unfoldable pub ramAfter : List ℕ → List ℕ → List ℕ → Bool → Cpu → List ℕ → List ℕ
 ramAfter table seen rom request c ram =
     pick (isInterrupted request c) ram (ramWith (perform (memory seen ram rom) (instructionBy table c)) ram)
-
--- ---- instructions one after the other, at most n, the first having the number i
-
-pub record Batch : Type 0 where
-  pub pause : Pause
-  pub ram : List ℕ
-
-abbrev pub paused : Cpu → ℕ → Reason → List ℕ → Batch
-paused c i w ram = record { pause = record { cpu = c; number = i; reason = w }; ram = ram }
-
--- after an instruction: go on, or pause. The CPU of a pause is that before the instruction which is not done, or behind the last that is.
-abbrev pub onTurn : Turn → Cpu → ℕ → List ℕ → (Cpu → Batch) → Batch
-onTurn (turn.On d) c i ram k = k d
-onTurn (turn.Clock d) c i ram k = paused d (i + 1) reason.Clock ram
-onTurn turn.Interrupt c i ram k = paused c i reason.Interrupt ram
-onTurn (turn.Write q n r b) c i ram k = paused c i (reason.Write q n r b) ram
-onTurn (turn.Refused n) c i ram k = paused c i (reason.Refused n) ram
-
-unfoldable pub batch : ℕ → List ℕ → List ℕ → List ℕ → Bool → ℕ → Cpu → List ℕ → Batch
-batch zero table seen rom request i c ram = paused c i reason.Count ram
-batch (suc n) table seen rom request i c ram =
-    onTurn (turnOf table seen rom request c ram) c i (ramAfter table seen rom request c ram)
-    (λ (d : Cpu). batch n table seen rom request (i + 1) d (ramAfter table seen rom request c ram))

@@ -1,7 +1,6 @@
-// Instructions one after the other for as long as the chip is not needed (document 02, Wish 5).
+// An instruction without the chip: what it reads of the registers is what is known of them (document 02, Wish 5).
 ghost use mathlib.Core.Path.{_≡_};
-ghost use Prim.Native.Nat.{_-_};
-ghost use Rattle.batch.specs.Batch.{turnFrom, isInterrupted, turnOf, ramAfter, batch as batchOf};
+ghost use Rattle.batch.specs.Batch.{turnFrom, isInterrupted, turnOf, ramAfter};
 use execution::Executed;
 use operations::Cpu;
 
@@ -13,22 +12,6 @@ pub enum Turn {
     Interrupt,
     Write(Cpu, u8, u8, u8),
     Refused(u8),
-}
-
-// Why instructions pause: all were done, or as in Turn.
-pub enum Reason {
-    Count,
-    Clock,
-    Interrupt,
-    Write(Cpu, u8, u8, u8),
-    Refused(u8),
-}
-
-// Where instructions pause: the CPU, the number of the next instruction, and why.
-pub struct Pause {
-    pub cpu: Cpu,
-    pub number: u32,
-    pub reason: Reason,
 }
 
 fn turn_from(x: Executed) -> Turn
@@ -56,7 +39,9 @@ fn is_interrupted(request: bool, c: Cpu) -> bool
     }
 }
 
-fn turn_of(
+// The instruction at PC, with its store in RAM, unless an interrupt comes first.
+// Wrong answers: a clock at 33 cycles; an interrupt taken with I set.
+pub fn turn_of(
     table: &[u32; 256],
     seen: &[u16; 38],
     ram: &mut [u8; 256],
@@ -71,65 +56,5 @@ fn turn_of(
     } else {
         let x = execution::instruction_at(c, table, seen, ram, rom);
         turn_from(x)
-    }
-}
-
-// The instructions from number `from` to before number `to`, until the chip is needed; none where `to` is not above.
-// Wrong answers: a clock at 33 cycles; an interrupt taken with I set.
-pub fn batch(
-    table: &[u32; 256],
-    seen: &[u16; 38],
-    ram: &mut [u8; 256],
-    rom: &[u8],
-    request: bool,
-    cpu: Cpu,
-    from: u32,
-    to: u32,
-) -> Pause
-    ensures { λ r. ⌜ (r ≡ batchOf (to - from) (now (table .entry)) (now (seen .entry)) (now (rom .entry)) request from cpu (now (ram .entry)) .pause) × (now (ram .exit) ≡ batchOf (to - from) (now (table .entry)) (now (seen .entry)) (now (rom .entry)) request from cpu (now (ram .entry)) .ram) ⌝ }
-{
-    let mut c = cpu;
-    let mut i = from;
-    while i < to {
-        let t = turn_of(table, seen, ram, rom, request, c);
-        match t {
-            Turn::On(d) => {
-                c = d;
-                i += 1;
-            },
-            Turn::Clock(d) => {
-                return Pause {
-                    cpu: d,
-                    number: i + 1,
-                    reason: Reason::Clock,
-                };
-            },
-            Turn::Interrupt => {
-                return Pause {
-                    cpu: c,
-                    number: i,
-                    reason: Reason::Interrupt,
-                };
-            },
-            Turn::Write(q, n, r, b) => {
-                return Pause {
-                    cpu: c,
-                    number: i,
-                    reason: Reason::Write(q, n, r, b),
-                };
-            },
-            Turn::Refused(n) => {
-                return Pause {
-                    cpu: c,
-                    number: i,
-                    reason: Reason::Refused(n),
-                };
-            },
-        }
-    }
-    Pause {
-        cpu: c,
-        number: i,
-        reason: Reason::Count,
     }
 }

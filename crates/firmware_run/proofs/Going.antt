@@ -1,6 +1,6 @@
 -- The loop of a firmware run: what is left to do comes to the whole run.
-use Prim.Native.Nat.{ℕ, zero, suc, _+_, _-_, _*_, _<_, _≤_}
-use mathlib.Core.Path.{_≡_, refl, ap, ap₂, sym, subst, _∙_}
+use Prim.Native.Nat.{ℕ, zero, suc, _+_, _-_, _<_, _≤_}
+use mathlib.Core.Path.{_≡_, refl, ap, ap₂, sym, _∙_}
 use mathlib.Core.Bool.{Bool, true, false, true≢false}
 use mathlib.Core.List.{List, [], _∷_, _++_, append-assoc, append-nil}
 use native.Mathlib.Omega.{arith}
@@ -8,7 +8,7 @@ use native.Mathlib.Numerals.{add-one}
 use lib.Dec.{eqb, ltb}
 use lib.ListN.{length, take, drop, getD, set, length-set, length-take, take-append-drop}
 use lib.Seq.{drop-cons, take-suc-set, drop-set-lt, drop-drop, drop-nil}
-use borrow.Author.Tests.{lt-ltb, le-ltb, ltb-true, ltb-false}
+use borrow.Author.Tests.{le-ltb, ltb-true, ltb-false}
 use Rattle.bits.specs.Byte.{pick}
 use Rattle.events.specs.Word.{decode}
 use Rattle.chip.specs.declared.Core.{Core}
@@ -16,18 +16,14 @@ use Rattle.chip.specs.declared.Chip.{Chip}
 use Rattle.chip.specs.State.{chipOf}
 use Rattle.outcome.specs.Outcome.{next}
 use Rattle.step.specs.Step.{answered}
-use Rattle.opcodes.specs.Table.{opcodes}
 use Rattle.operations.specs.declared.Cpu.{Cpu}
-use Rattle.machine.specs.Machine.{Machine, machine, turn}
+use Rattle.machine.specs.Machine.{Machine, machine, Turned, turn}
 use Rattle.machine.specs.Run.{numberOf, wordOf, occurred, fed, answersBefore, left, Ended, ended, prepended, onTurned, runs, Called, called}
-use Rattle.machine.specs.Seen.{Knows}
-use Rattle.machine.proofs.Pauses.{Later, none, next-at, clear, clear-le, work}
+use Rattle.machine.proofs.Turns.{Later, none, next-at, onEnded, split, runs-next}
 use Rattle.firmware_run.specs.declared.FirmwareResult.{FirmwareResult}
 use Rattle.firmware_run.specs.declared.Occurred.{Occurred}
 use Rattle.firmware_run.specs.declared.Settled.{Settled}
-use Rattle.firmware_run.specs.Firmware.{resultOf, occurredWith, until, noneSeen, Kept, kept, proceeded}
-use Rattle.firmware_run.proofs.Registers.{knows-none, unseenOf, unseen-le}
-use Rattle.firmware_run.proofs.Proceeds.{stateOf, onward, Proceeds, proceeds}
+use Rattle.firmware_run.specs.Firmware.{resultOf, occurredWith, until, settledEnd}
 
 -- ---- the next event
 
@@ -100,22 +96,19 @@ runs-event n i rom e es m h g =
 -- ---- the loop
 
 -- before instruction i, with `given` events given
-pub record Going (n : ℕ) (rom es places : List ℕ) (whole : Ended) (answers ram seen registers : List ℕ) (core : Core) (c : Cpu) (i given : ℕ) : Type 0 where
+pub record Going (n : ℕ) (rom es places : List ℕ) (whole : Ended) (answers ram registers : List ℕ) (core : Core) (c : Cpu) (i given : ℕ) : Type 0 where
   pub within : i ≤ n
-  pub small : n < 4294967296
   pub listed : given ≤ length es
   pub same : length answers ≡ length places
   pub total : whole ≡ prepended (take given answers) (runs (n - i) i rom (drop given es) (machine c ram (chipOf registers core)))
   pub rest : drop given answers ≡ drop given places
-  pub knows : Knows seen (chipOf registers core)
-  pub size : length seen ≡ 38
 
 -- what is left to do
-abbrev pub measure : ℕ → List ℕ → ℕ → ℕ → Cpu → List ℕ → ℕ
-measure n es i given c seen = (length es - given) * 80 + (work n i c + unseenOf seen)
+abbrev pub measure : ℕ → List ℕ → ℕ → ℕ → ℕ
+measure n es i given = (length es - given) + (n - i)
 
-module _ (n : ℕ) (rom es places : List ℕ) (whole : Ended) (answers ram seen registers : List ℕ) (core : Core) (c : Cpu) (i given : ℕ)
-    (room : length es ≤ length places) (h : Going n rom es places whole answers ram seen registers core c i given) (more : i < n) where
+module _ (n : ℕ) (rom es places : List ℕ) (whole : Ended) (answers ram registers : List ℕ) (core : Core) (c : Cpu) (i given : ℕ)
+    (room : length es ≤ length places) (h : Going n rom es places whole answers ram registers core c i given) (more : i < n) where
   -- an event was given
   module _ (to : ℕ) (at : to ≡ until n (drop given es)) (reached : to ≤ i) where
     due : until n (drop given es) ≤ i
@@ -124,23 +117,20 @@ module _ (n : ℕ) (rom es places : List ℕ) (whole : Ended) (answers ram seen 
     pub some : given < length es
     some = until-some n i es given more due
 
-    pub fed-less : (d : Cpu) (s : List ℕ) → s ≡ noneSeen → measure n es i (given + 1) d s < measure n es i given c seen
-    fed-less d s u =
-        let l : length s ≤ 38 = rw u (omega arith) in
-        omega (arith, some, clear-le d, unseen-le s, l)
+    pub fed-less : measure n es i (given + 1) < measure n es i given
+    fed-less = omega (arith, some)
 
-    goes-set : (w : ℕ) → w ≡ wordOf (getD es given 0) → (o : Occurred) (r s : List ℕ) → o ≡ occurredWith rom c (chipOf registers core) w
-        → r ≡ next (chipOf registers core) (decode w) .registers → s ≡ noneSeen
-        → Going n rom es places whole (set answers given (o .answer)) ram s r (o .core) (o .cpu) i (given + 1)
+    goes-set : (w : ℕ) → w ≡ wordOf (getD es given 0) → (o : Occurred) (r : List ℕ) → o ≡ occurredWith rom c (chipOf registers core) w
+        → r ≡ next (chipOf registers core) (decode w) .registers
+        → Going n rom es places whole (set answers given (o .answer)) ram r (o .core) (o .cpu) i (given + 1)
     unfolding occurred occurredWith
-    goes-set w e o r s p q u =
+    goes-set w e o r p q =
         let m = machine c ram (chipOf registers core) in
         let a : given < length answers = omega (arith, some, h .same) in
         let z : drop given es ≡ getD es given 0 ∷ drop (suc given) es = drop-cons es given 0 some in
         let d : numberOf (getD es given 0) ≤ i = until-due n i (getD es given 0) (drop (suc given) es) more (rw z at due) in
         record {
           within = h .within;
-          small = h .small;
           listed = omega (arith, some);
           same = length-set answers given (o .answer) ∙ h .same;
           total =
@@ -148,58 +138,57 @@ module _ (n : ℕ) (rom es places : List ℕ) (whole : Ended) (answers ram seen 
               (h .total ∙ ap (prepended (take given answers)) (ap (λ (l : List ℕ). runs (n - i) i rom l m) z ∙ runs-event n i rom (getD es given 0) (drop (suc given) es) m more d)
               ∙ prepended-twice (take given answers) (answered (chipOf registers core) (decode (wordOf (getD es given 0))) ∷ []) _);
           rest = drop-set-lt (given + 1) answers given (o .answer) (omega arith) ∙ sym (drop-drop 1 given answers) ∙ ap (drop 1) (h .rest) ∙ drop-drop 1 given places;
-          knows = rw u (knows-none (chipOf r (o .core)));
-          size = rw u refl;
         }
 
-    pub fed-goes : (v : ℕ) → v ≡ getD es given 0 → (w : ℕ) → w ≡ wordOf v → (o : Occurred) (r s a : List ℕ) → o ≡ occurredWith rom c (chipOf registers core) w
-        → r ≡ next (chipOf registers core) (decode w) .registers → s ≡ noneSeen → a ≡ set answers given (o .answer)
-        → Going n rom es places whole a ram s r (o .core) (o .cpu) i (given + 1)
-    fed-goes v x w e o r s a p q u y = rw y (goes-set w (e ∙ ap wordOf x) o r s p q u)
+    pub fed-goes : (v : ℕ) → v ≡ getD es given 0 → (w : ℕ) → w ≡ wordOf v → (o : Occurred) (r a : List ℕ) → o ≡ occurredWith rom c (chipOf registers core) w
+        → r ≡ next (chipOf registers core) (decode w) .registers → a ≡ set answers given (o .answer)
+        → Going n rom es places whole a ram r (o .core) (o .cpu) i (given + 1)
+    fed-goes v x w e o r a p q y = rw y (goes-set w (e ∙ ap wordOf x) o r p q)
 
   -- instructions were done
-  module _ (to : ℕ) (at : to ≡ until n (drop given es)) (later : i < to) (table : List ℕ) (tabled : table ≡ opcodes) (s : Settled) (r : List ℕ) (v : List ℕ) (ram′ : List ℕ)
-      (e : s ≡ proceeded table seen registers rom core c i to ram .settled) (e₁ : r ≡ proceeded table seen registers rom core c i to ram .registers)
-      (e₂ : v ≡ proceeded table seen registers rom core c i to ram .seen) (e₃ : ram′ ≡ proceeded table seen registers rom core c i to ram .ram) where
-    on : Proceeds n rom (drop given es) i c seen (runs (n - i) i rom (drop given es) (machine c ram (chipOf registers core))) (kept s r v ram′)
+  module _ (to : ℕ) (at : to ≡ until n (drop given es)) (later : i < to) (s : Settled) (r ram′ : List ℕ)
+      (e : settledEnd s ram′ r ≡ runs (to - i) i rom [] (machine c ram (chipOf registers core))) where
+    most : to ≤ n
+    most = rw at (until-le n (drop given es))
+
+    on : runs (n - i) i rom (drop given es) (machine c ram (chipOf registers core)) ≡ onEnded (settledEnd s ram′ r) (λ (j : ℕ) (t : Machine). runs (n - j) j rom (drop given es) t)
     on =
-        let l : to ≤ n = rw at (until-le n (drop given es)) in
-        rw (e, e₁, e₂, e₃, tabled)
-        (proceeds n i to seen registers rom (drop given es) core c ram (h .small) later l (h .knows) (h .size) (rw at (until-later n (drop given es))))
+        split n i to rom (drop given es) (machine c ram (chipOf registers core)) (omega (arith, later)) most (rw at (until-later n (drop given es)))
+        ∙ ap (λ (x : Ended). onEnded x (λ (j : ℕ) (t : Machine). runs (n - j) j rom (drop given es) t)) (sym e)
 
-    pub on-less : eqb (s .refusal) 0 ≡ true → measure n es (s .number) given (s .cpu) v < measure n es i given c seen
-    on-less z = omega (arith, on .less z)
+    reaches : eqb (s .refusal) 0 ≡ true → s .number ≡ to
+    reaches z =
+        let y : eqb (runs (to - i) i rom [] (machine c ram (chipOf registers core)) .number) 0 ≡ true = ap (λ (x : Ended). eqb (x .number) 0) (sym e) ∙ z in
+        let w : i + (to - i) ≡ to = omega (arith, later) in
+        ap (λ (x : Ended). x .next) e ∙ runs-next (to - i) i rom (machine c ram (chipOf registers core)) y ∙ w
 
-    pub on-goes : eqb (s .refusal) 0 ≡ true → Going n rom es places whole answers ram′ v r (s .core) (s .cpu) (s .number) given
+    pub on-less : eqb (s .refusal) 0 ≡ true → measure n es (s .number) given < measure n es i given
+    on-less z = rw (reaches z) (omega (arith, later, most))
+
+    pub on-goes : eqb (s .refusal) 0 ≡ true → Going n rom es places whole answers ram′ r (s .core) (s .cpu) (s .number) given
     on-goes z =
         record {
-          within = on .within;
-          small = h .small;
+          within = rw (reaches z) most;
           listed = h .listed;
           same = h .same;
-          total = h .total ∙ ap (prepended (take given answers)) (on .goes-on ∙ (rw z));
+          total = h .total ∙ ap (prepended (take given answers)) (on ∙ (rw z));
           rest = h .rest;
-          knows = on .knows;
-          size = on .size;
         }
 
     pub on-ends : eqb (s .refusal) 0 ≡ false → whole ≡ prepended (take given answers) (ended (machine (s .cpu) ram′ (chipOf r (s .core))) (s .refusal) (s .number) [])
-    on-ends z = h .total ∙ ap (prepended (take given answers)) (on .goes-on ∙ (rw z))
+    on-ends z = h .total ∙ ap (prepended (take given answers)) (on ∙ (rw z))
 
 -- ---- the end
 
-pub first : (n : ℕ) (rom es places : List ℕ) (c : Cpu) (ram registers : List ℕ) (core : Core) (seen : List ℕ) → n < 4294967296 → seen ≡ noneSeen
-    → Going n rom es places (runs n 0 rom es (machine c ram (chipOf registers core))) places ram seen registers core c 0 0
-first n rom es places c ram registers core seen l u =
+pub first : (n : ℕ) (rom es places : List ℕ) (c : Cpu) (ram registers : List ℕ) (core : Core)
+    → Going n rom es places (runs n 0 rom es (machine c ram (chipOf registers core))) places ram registers core c 0 0
+first n rom es places c ram registers core =
     record {
       within = omega arith;
-      small = l;
       listed = omega arith;
       same = refl;
       total = ap (λ (x : ℕ). runs x 0 rom es (machine c ram (chipOf registers core))) (let z : n ≡ n - 0 = omega arith in z);
       rest = refl;
-      knows = rw u (knows-none (chipOf registers core));
-      size = rw u refl;
     }
 
 abbrev pub outcome : ℕ → Cpu → Chip → ℕ → ℕ → FirmwareResult
@@ -225,16 +214,16 @@ runs-done n i rom es m h g =
     let z : n - i ≡ 0 = omega arith in
     rw z
 
-pub finish : (n : ℕ) (rom es places : List ℕ) (whole : Ended) (answers ram seen registers : List ℕ) (core : Core) (c : Cpu) (i given : ℕ)
-    → length es ≤ length places → Going n rom es places whole answers ram seen registers core c i given → n ≤ i
+pub finish : (n : ℕ) (rom es places : List ℕ) (whole : Ended) (answers ram registers : List ℕ) (core : Core) (c : Cpu) (i given : ℕ)
+    → length es ≤ length places → Going n rom es places whole answers ram registers core c i given → n ≤ i
     → (outcome 0 c (chipOf registers core) i given ≡ resultOf (called whole places)) × (answers ≡ called whole places .answers) × (ram ≡ called whole places .ram)
-finish n rom es places whole answers ram seen registers core c i given room h l =
+finish n rom es places whole answers ram registers core c i given room h l =
     ends es places whole answers given room (h .listed) (h .same) (h .rest) c ram (chipOf registers core) 0 i
     (h .total ∙ ap (prepended (take given answers)) (runs-done n i rom (drop given es) (machine c ram (chipOf registers core)) l (h .within)))
 
-pub stop : (n : ℕ) (rom es places : List ℕ) (whole : Ended) (answers ram seen registers : List ℕ) (core : Core) (c : Cpu) (i given : ℕ)
-    → length es ≤ length places → Going n rom es places whole answers ram seen registers core c i given
+pub stop : (n : ℕ) (rom es places : List ℕ) (whole : Ended) (answers ram registers : List ℕ) (core : Core) (c : Cpu) (i given : ℕ)
+    → length es ≤ length places → Going n rom es places whole answers ram registers core c i given
     → (d : Cpu) (ram′ : List ℕ) (k : Chip) (x j : ℕ) → whole ≡ prepended (take given answers) (ended (machine d ram′ k) x j [])
     → (outcome x d k j given ≡ resultOf (called whole places)) × (answers ≡ called whole places .answers) × (ram′ ≡ called whole places .ram)
-stop n rom es places whole answers ram seen registers core c i given room h d ram′ k x j e =
+stop n rom es places whole answers ram registers core c i given room h d ram′ k x j e =
     ends es places whole answers given room (h .listed) (h .same) (h .rest) d ram′ k x j e

@@ -1,4 +1,5 @@
 pub mod Registers
-pub mod Proceeds
+pub mod Chips
+pub mod Running
 pub mod Going
 pub mod Parts

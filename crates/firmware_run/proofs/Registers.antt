@@ -5,18 +5,21 @@ use mathlib.Core.Bool.{Bool, true, false}
 use mathlib.Core.List.{List, [], _∷_}
 use native.Mathlib.Omega.{arith}
 use lib.Dec.{eqb}
-use lib.ListN.{length, getD, set}
+use lib.ListN.{length, getD, set, length-set}
 use lib.Seq.{getD-set-same, getD-set-other}
 use borrow.Author.Tests.{eq-eqb, ne-eqb, eqb-true, eqb-false}
 use Rattle.bits.specs.Byte.{pick}
+use Rattle.registers.specs.Names.{PT0, PT1, PT2, PT3}
+use Rattle.chip.specs.declared.Core.{Core}
 use Rattle.chip.specs.declared.Chip.{Chip}
+use Rattle.chip.specs.State.{chipOf}
 use Rattle.reads.specs.declared.Reading.{Reading}
-use Rattle.reads.specs.Reads.{reading}
+use Rattle.reads.specs.Reads.{shown, reading}
 use Rattle.reads.proofs.Bytes.{reading-byte-lt}
 use Rattle.memory.specs.Memory.{notSeen}
 use Rattle.machine.specs.Seen.{knownReading, Known, unseen, read, Knows}
 use Rattle.machine.proofs.Loads.{reading-number-lt}
-use Rattle.firmware_run.specs.Firmware.{counting, noneSeen}
+use Rattle.firmware_run.specs.Firmware.{counting, noneSeen, forgotten, portsForgotten}
 
 counting-at : (n v r : ℕ) → r < n → getD (counting n v) r 0 ≡ v + r
 counting-at zero v r h = absurd (omega arith)
@@ -35,6 +38,73 @@ knows-set-by false seen k r l h q g e = rw (getD-set-other seen r q (knownReadin
 
 pub knows-set : (seen : List ℕ) (k : Chip) (r : ℕ) → length seen ≡ 38 → Knows seen k → Knows (set seen r (knownReading (reading k r))) k
 knows-set seen k r l h q g = knows-set-by (eqb q r) seen k r l h q g refl
+
+known-as : (k l : Chip) (r v : ℕ) → reading l r ≡ reading k r → Known k r v → Known l r v
+known-as k l r v e (unseen u) = unseen u
+known-as k l r v e (read u) = read (u ∙ ap knownReading (sym e))
+
+-- where all that is read is as before, what was known is known
+pub knows-as : (seen : List ℕ) (k l : Chip) → ((r : ℕ) → reading l r ≡ reading k r) → Knows seen k → Knows seen l
+knows-as seen k l e h r g = known-as k l r (getD seen r 0) (e r) (h r g)
+
+-- ---- after a store in the array
+
+-- the reads of all registers but the ports look at no other register of the array
+abbrev Plain : ℕ → Type 0
+Plain r = (eqb r PT0 ≡ false) × (eqb r PT1 ≡ false) × (eqb r PT2 ≡ false) × (eqb r PT3 ≡ false)
+
+stored-other : (registers : List ℕ) (core : Core) (a v r : ℕ) → Plain r → eqb r a ≡ false → reading (chipOf (set registers a v) core) r ≡ reading (chipOf registers core) r
+unfolding reading shown
+stored-other registers core a v r p n = rw (p .0, p .1, p .2, p .3, getD-set-other registers a r v 0 (eqb-false r a n))
+
+module _ (registers : List ℕ) (core : Core) (a v : ℕ) where
+  abbrev stored : Chip
+  stored = chipOf (set registers a v) core
+
+  -- one more forgotten
+  forgets-by : (b : Bool) (p : ℕ) (seen : List ℕ) → length seen ≡ 38 → (q : ℕ) → q < 38 → eqb q p ≡ b
+      → (b ≡ false → Known stored q (getD seen q 0)) → Known stored q (getD (set seen p (notSeen p)) q 0)
+  forgets-by true p seen l q g e h =
+      let z : q ≡ p = eqb-true q p e in
+      rw z (unseen (getD-set-same seen p (notSeen p) 0 (omega arith)))
+  forgets-by false p seen l q g e h = rw (getD-set-other seen p q (notSeen p) 0 (eqb-false q p e)) (h refl)
+
+  forgets : (p : ℕ) (seen : List ℕ) → length seen ≡ 38 → (q : ℕ) → q < 38 → (eqb q p ≡ false → Known stored q (getD seen q 0)) → Known stored q (getD (set seen p (notSeen p)) q 0)
+  forgets p seen l q g h = forgets-by (eqb q p) p seen l q g refl h
+
+  forgotten-length : (p : ℕ) (seen : List ℕ) → length seen ≡ 38 → length (forgotten p seen) ≡ 38
+  forgotten-length p seen l = length-set seen p (notSeen p) ∙ l
+
+  ports-known : (seen : List ℕ) → length seen ≡ 38 → Knows seen (chipOf registers core) → (q : ℕ) → q < 38 → eqb q a ≡ false → Known stored q (getD (portsForgotten seen) q 0)
+  ports-known seen l h q g n =
+      let s₀ : List ℕ = forgotten PT0 seen in
+      let s₁ : List ℕ = forgotten PT1 s₀ in
+      let s₂ : List ℕ = forgotten PT2 s₁ in
+      let l₀ : length s₀ ≡ 38 = forgotten-length PT0 seen l in
+      let l₁ : length s₁ ≡ 38 = forgotten-length PT1 s₀ l₀ in
+      let l₂ : length s₂ ≡ 38 = forgotten-length PT2 s₁ l₁ in
+      forgets PT3 s₂ l₂ q g (λ e₃. forgets PT2 s₁ l₁ q g (λ e₂. forgets PT1 s₀ l₀ q g (λ e₁. forgets PT0 seen l q g
+      (λ e₀. known-as (chipOf registers core) stored q (getD seen q 0) (stored-other registers core a v q (e₀, e₁, e₂, e₃) n) (h q g)))))
+
+  ports-length : (seen : List ℕ) → length seen ≡ 38 → length (portsForgotten seen) ≡ 38
+  ports-length seen l =
+      forgotten-length PT3 (forgotten PT2 (forgotten PT1 (forgotten PT0 seen))) (forgotten-length PT2 (forgotten PT1 (forgotten PT0 seen))
+      (forgotten-length PT1 (forgotten PT0 seen) (forgotten-length PT0 seen l)))
+
+  stored-by : (b : Bool) (seen : List ℕ) (x : ℕ) → length seen ≡ 38 → a < 38 → Knows seen (chipOf registers core) → Known stored a x → (q : ℕ) → q < 38 → eqb q a ≡ b
+      → Known stored q (getD (set (portsForgotten seen) a x) q 0)
+  stored-by true seen x l m h y q g e =
+      let z : q ≡ a = eqb-true q a e in
+      let s : length (portsForgotten seen) ≡ 38 = ports-length seen l in
+      rw (z, getD-set-same (portsForgotten seen) a x 0 (omega (arith, s, m))) y
+  stored-by false seen x l m h y q g e = rw (getD-set-other (portsForgotten seen) a q x 0 (eqb-false q a e)) (ports-known seen l h q g e)
+
+  -- a byte stored in the array: the ports and the register itself are known anew
+  pub knows-stored : (seen : List ℕ) (x : ℕ) → length seen ≡ 38 → a < 38 → Knows seen (chipOf registers core) → Known stored a x → Knows (set (portsForgotten seen) a x) stored
+  knows-stored seen x l m h y q g = stored-by (eqb q a) seen x l m h y q g refl
+
+  pub stored-length : (seen : List ℕ) (x : ℕ) → length seen ≡ 38 → length (set (portsForgotten seen) a x) ≡ 38
+  stored-length seen x l = length-set (portsForgotten seen) a x ∙ ports-length seen l
 
 -- ---- how many registers nothing is known of
 

@@ -1,33 +1,33 @@
--- The parts that a firmware call is made of, as the code has them: the chip is its array of stored registers and its core, and between two
--- changes of the chip what is known of its registers is kept. What the call comes to is in the crate machine.
-use Prim.Native.Nat.{ℕ, zero, suc, _+_, _-_, _%_}
-use mathlib.Core.Bool.{Bool}
+-- The parts that a firmware call is made of, as the code has them: the chip is its array of stored registers and its core, and what is known of
+-- its registers is kept for as long as it holds. What the call comes to is in the crate machine.
+use Prim.Native.Nat.{ℕ, zero, suc, _+_}
+use mathlib.Core.Bool.{Bool, true, false, not}
 use mathlib.Core.List.{List, [], _∷_}
+use lib.Bits.{bitAnd}
 use lib.Dec.{eqb, ltb}
 use lib.ListN.{set}
 use Rattle.bits.specs.Byte.{pick}
+use Rattle.registers.specs.Names.{PT0, PT1, PT2, PT3}
 use Rattle.events.specs.Clocks as clock
 use Rattle.events.specs.Word.{decode}
+use Rattle.sync.specs.declared.Sync.{Sync}
 use Rattle.chip.specs.declared.Core.{Core}
 use Rattle.chip.specs.declared.Chip.{Chip}
-use Rattle.chip.specs.State.{chipOf, keep}
-use Rattle.reads.specs.Reads.{reading}
-use Rattle.writes.specs.Writes.{writeNumber, written, storedBy}
+use Rattle.chip.specs.State.{chipOf, registerAt}
+use Rattle.writes.specs.declared.Target.{Target}
+use Rattle.writes.specs.declared.Target.the-variants as to
+use Rattle.writes.specs.Writes.{target}
 use Rattle.clocks.specs.Clocks.{clocked}
 use Rattle.outcome.specs.Outcome.{next, wasReset}
 use Rattle.step.specs.Step.{answered}
-use Rattle.opcodes.specs.Table.{opcodes}
 use Rattle.operations.specs.declared.Cpu.{Cpu}
-use Rattle.operations.specs.Operations.{setOver}
+use Rattle.memory.specs.Memory.{notSeen}
 use Rattle.instruction.specs.Instruction.{interrupted, resetCpu}
-use Rattle.batch.specs.declared.Reason.{Reason}
-use Rattle.batch.specs.declared.Reason.the-variants.{Count, Clock, Interrupt, Write, Refused}
-use Rattle.execution.specs.Execution.{stored}
-use Rattle.batch.specs.Batch.{cyclesWith, counted, Batch, batch}
-use Rattle.machine.specs.Machine.{isRequesting}
-use Rattle.machine.specs.Run.{numberOf, Ended, Called}
-use Rattle.machine.specs.Seen.{knownReading}
+use Rattle.batch.specs.Batch.{cyclesWith, counted}
+use Rattle.machine.specs.Machine.{machine}
+use Rattle.machine.specs.Run.{numberOf, Ended, ended, Called}
 use Rattle.firmware_run.specs.declared.FirmwareResult.{FirmwareResult}
+use Rattle.firmware_run.specs.declared.Interrupted.{Interrupted}
 use Rattle.firmware_run.specs.declared.Occurred.{Occurred}
 use Rattle.firmware_run.specs.declared.Settled.{Settled}
 
@@ -56,64 +56,71 @@ counting (suc n) v = v ∷ counting n (v + 1)
 abbrev pub noneSeen : List ℕ
 noneSeen = counting 38 320
 
--- the number behind that of an instruction; no instruction has the largest of 32 bits
-unfoldable pub following : ℕ → ℕ
-following i = pick (ltb i 4294967295) (i + 1) i
+-- ---- what is known of the registers, after a change of the chip
+
+abbrev pub forgotten : ℕ → List ℕ → List ℕ
+forgotten r seen = set seen r (notSeen r)
+
+-- the ports show other registers too: a store may move what they read
+abbrev pub portsForgotten : List ℕ → List ℕ
+portsForgotten seen = forgotten PT3 (forgotten PT2 (forgotten PT1 (forgotten PT0 seen)))
+
+-- the register stands in the array
+unfoldable pub isStored : Target → Bool
+isStored to.Stored = true
+isStored to.Mdcon = false
+isStored to.Hvcon = false
+isStored to.Clrflg = false
+isStored to.Clrwdt = false
+isStored to.Iiadr = false
+isStored to.Iidat = false
+isStored to.Iists = false
+isStored to.Bt = false
+
+-- a stored register moves itself and the ports; any other write may move all that is read
+abbrev pub seenAfterWrite : List ℕ → ℕ → List ℕ
+seenAfterWrite seen a = pick (isStored (target a)) (forgotten a (portsForgotten seen)) noneSeen
+
+abbrev pub sameBool : Bool → Bool → Bool
+sameBool true b = b
+sameBool false b = not b
+
+-- DACH0 to DACH13 read as they are stored
+unfoldable pub isDac : ℕ → Bool
+isDac a = pick (ltb a 24) false (ltb a 38)
+
+abbrev pub seenAfterDac : List ℕ → List ℕ → ℕ → List ℕ
+seenAfterDac seen registers a = set (portsForgotten seen) a (bitAnd (registerAt registers a) 255)
+
+-- the registers show the same of both counters
+unfoldable pub sameCounts : Sync → Sync → Bool
+sameCounts s t =
+    pick (sameBool (s .lines .overflow) (t .lines .overflow))
+    (pick (sameBool (s .periods .overflow) (t .periods .overflow))
+    (pick (eqb (s .lines .latch .0) (t .lines .latch .0)) (eqb (s .periods .latch .0) (t .periods .latch .0)) false)
+    false)
+    false
+
+-- the core after a clock of 8 µs
+abbrev pub ticked : Core → Core
+ticked c = clocked 0 c clock.period
+
+unfoldable pub seenAfterClock : List ℕ → Core → List ℕ
+seenAfterClock seen c = pick (sameCounts (c .sync) (ticked c .sync)) seen noneSeen
+
+-- ---- parts of the chip's rules, as the code has them
+
+-- CLRWDT: 55H clears the watchdog
+unfoldable pub watchdogAfter : ℕ → ℕ → ℕ
+watchdogAfter count b = pick (eqb b 0x55) 0 count
 
 -- the core after n cycles: a clock where they are 32
 unfoldable pub coreAfterCycles : ℕ → Core → Core
-coreAfterCycles n c = pick (ltb n 32) c (clocked 0 c clock.period)
+coreAfterCycles n c = pick (ltb n 32) c (ticked c)
 
--- ---- where the run goes on, with what is lent
+abbrev pub afterInterrupted : List ℕ → Core → Cpu → Interrupted
+afterInterrupted rom core c = record { cpu = counted (interrupted rom c); core = coreAfterCycles (cyclesWith (interrupted rom c)) core }
 
-pub record Kept : Type 0 where
-  pub settled : Settled
-  pub registers : List ℕ
-  pub seen : List ℕ
-  pub ram : List ℕ
-
-abbrev pub settledAs : Cpu → Core → ℕ → ℕ → Settled
-settledAs c core i n = record { cpu = c; core = core; number = i; refusal = n }
-
-abbrev pub kept : Settled → List ℕ → List ℕ → List ℕ → Kept
-kept s registers seen ram = record { settled = s; registers = registers; seen = seen; ram = ram }
-
--- the interrupt
-abbrev pub afterInterrupted : List ℕ → Core → Cpu → ℕ → Settled
-afterInterrupted rom core c i = settledAs (counted (interrupted rom c)) (coreAfterCycles (cyclesWith (interrupted rom c)) core) i 0
-
--- an instruction that writes a register: refused as the chip refuses the write, else done
-unfoldable pub afterWrite : Core → Cpu → ℕ → Cpu → ℕ → ℕ → ℕ → Settled
-afterWrite core c i q x r b =
-    pick (eqb (writeNumber (core .reset) r) 0)
-    (settledAs (setOver ((q .over + x) % 32) q) (coreAfterCycles (q .over + x) (written core r b)) (following i) 0)
-    (settledAs c core i (writeNumber (core .reset) r))
-
-unfoldable pub registersWritten : List ℕ → Core → ℕ → ℕ → List ℕ
-registersWritten registers core r b = pick (eqb (writeNumber (core .reset) r) 0) (keep (storedBy registers r b) registers) registers
-
--- a refusal; from 64 on a register is looked at, and the instruction tried again
-unfoldable pub afterRefusal : Core → Cpu → ℕ → ℕ → Settled
-afterRefusal core c i x = pick (ltb x 64) (settledAs c core i x) (settledAs c core i 0)
-
-unfoldable pub seenAfter : List ℕ → List ℕ → Core → ℕ → List ℕ
-seenAfter seen registers core x = pick (ltb x 64) seen (set seen (x - 64) (knownReading (reading (chipOf registers core) (x - 64))))
-
--- by why the instructions paused, at which CPU, number and RAM
-unfoldable pub settledBy : List ℕ → List ℕ → List ℕ → Core → Reason → Cpu → ℕ → List ℕ → Kept
-settledBy seen registers rom core Count c i ram = kept (settledAs c core i 0) registers seen ram
-settledBy seen registers rom core Clock c i ram = kept (settledAs c (clocked 0 core clock.period) i 0) registers noneSeen ram
-settledBy seen registers rom core Interrupt c i ram = kept (afterInterrupted rom core c i) registers noneSeen (stored ram (interrupted rom c .store))
-settledBy seen registers rom core (Write q x r b) c i ram = kept (afterWrite core c i q x r b) (registersWritten registers core r b) noneSeen ram
-settledBy seen registers rom core (Refused x) c i ram = kept (afterRefusal core c i x) registers (seenAfter seen registers core x) ram
-
-abbrev pub settledWith : List ℕ → List ℕ → List ℕ → Core → Batch → Kept
-settledWith seen registers rom core b = settledBy seen registers rom core (b .pause .reason) (b .pause .cpu) (b .pause .number) (b .ram)
-
--- the instructions from number i to before number `to`, until the chip is needed, and what is then done with the chip; while RESET is low one
--- instruction, which does nothing
-unfoldable pub proceeded : List ℕ → List ℕ → List ℕ → List ℕ → Core → Cpu → ℕ → ℕ → List ℕ → Kept
-proceeded table seen registers rom core c i to ram =
-    pick (core .reset)
-    (settledWith seen registers rom core (batch (to - i) table seen rom (isRequesting (chipOf registers core)) i c ram))
-    (kept (settledAs c core (following i) 0) registers seen ram)
+-- where instructions end, as the end of a run
+abbrev pub settledEnd : Settled → List ℕ → List ℕ → Ended
+settledEnd s ram registers = ended (machine (s .cpu) ram (chipOf registers (s .core))) (s .refusal) (s .number) []

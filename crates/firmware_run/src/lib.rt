@@ -1,27 +1,43 @@
 // Firmware run against the chip (document 02, Wish 5).
 ghost use mathlib.Core.Path.{_≡_};
-ghost use Prim.Native.Nat.{_≤_};
+ghost use mathlib.Core.Bool.{true};
+ghost use mathlib.Core.List.{[]};
+ghost use Prim.Native.Nat.{_+_, _-_, _<_, _≤_};
 ghost use lib.ListN.{length, drop, getD, set};
-ghost use Rattle.chip.specs.State.{chipOf};
+ghost use lib.Bits.{bitAnd};
+ghost use lib.Dec.{ltb};
+ghost use Rattle.bits.specs.Byte.{pick};
+ghost use Rattle.registers.specs.Table.{updated as updatedOf};
 ghost use Rattle.events.specs.Word.{decode};
+ghost use Rattle.chip.specs.State.{chipOf, keep as keepOf, registerAt};
+ghost use Rattle.writes.specs.Writes.{written as writtenOf, storedBy};
 ghost use Rattle.outcome.specs.Outcome.{next as nextOf, wasReset};
+ghost use Rattle.opcodes.specs.Table.{opcodes};
+ghost use Rattle.instruction.specs.Instruction.{interrupted};
+ghost use Rattle.execution.specs.Execution.{stored};
 ghost use Rattle.machine.specs.Machine.{machine, isRequesting};
 ghost use Rattle.machine.specs.Run.{wordOf, called, runs, isWellFormed, firmware as firmwareOf};
 ghost use Rattle.machine.specs.Seen.{knownReading};
-ghost use Rattle.execution.specs.Execution.{stored};
-ghost use Rattle.instruction.specs.Instruction.{interrupted};
-ghost use Rattle.firmware_run.specs.Firmware.{resultOf, refusedResult, occurredWith, until as untilOf, noneSeen, following as followingOf, coreAfterCycles, afterInterrupted, afterWrite, registersWritten, afterRefusal, seenAfter, settledBy, proceeded};
-use batch::Pause;
-use batch::Reason;
+ghost use Rattle.firmware_run.specs.Firmware.{resultOf, refusedResult, occurredWith, until as untilOf, noneSeen, portsForgotten, isStored, seenAfterWrite, sameBool, sameCounts, ticked, seenAfterClock, watchdogAfter, isDac, seenAfterDac, coreAfterCycles, afterInterrupted, settledEnd};
+use batch::Turn;
 use chip::Chip;
 use chip::Core;
+use chip::Kept;
 use events::Decoded;
 use events::PERIOD;
 use events::RESET;
 use events::WATCHDOG;
 use operations::Cpu;
 use reads::Reading;
+use registers::CLRWDT;
+use registers::DACH0;
 use registers::IEX;
+use registers::PT0;
+use registers::PT1;
+use registers::PT2;
+use registers::PT3;
+use sync::Sync;
+use writes::Target;
 
 // What a firmware call gives back: 0 or the number of the refusal, CPU and chip, how many instructions were counted, and how many of the
 // listed events were given.
@@ -40,7 +56,13 @@ pub struct Occurred {
     pub answer: u32,
 }
 
-// CPU and core where a run goes on, the number of the next instruction, and 0 or the number of a refusal.
+// CPU and core after an interrupt.
+pub struct Interrupted {
+    pub cpu: Cpu,
+    pub core: Core,
+}
+
+// CPU and core where instructions end, the number of the next one, and 0 or the number of a refusal.
 pub struct Settled {
     pub cpu: Cpu,
     pub core: Core,
@@ -189,7 +211,69 @@ fn note(seen: &mut [u16], r: u8, v: u16)
     }
 }
 
-// ---- what is done with the chip where instructions pause
+// Ports show other registers too.
+fn forget_ports(seen: &mut [u16; 38])
+    ensures { λ _. ⌜ now (seen .exit) ≡ portsForgotten (now (seen .entry)) ⌝ }
+{
+    note(seen, PT0, 320);
+    note(seen, PT1, 321);
+    note(seen, PT2, 323);
+    note(seen, PT3, 324);
+}
+
+fn forget_written(seen: &mut [u16; 38], a: u8)
+    ensures { λ _. ⌜ now (seen .exit) ≡ seenAfterWrite (now (seen .entry)) a ⌝ }
+{
+    if is_stored(writes::target_of(a)) {
+        forget_ports(seen);
+        note(seen, a, 320 + (a as u16));
+    } else {
+        forget(seen);
+    }
+}
+
+fn is_stored(t: Target) -> bool
+    ensures { λ r. ⌜ r ≡ isStored t ⌝ }
+{
+    match t {
+        Target::Stored => true,
+        Target::Mdcon => false,
+        Target::Hvcon => false,
+        Target::Clrflg => false,
+        Target::Clrwdt => false,
+        Target::Iiadr => false,
+        Target::Iidat => false,
+        Target::Iists => false,
+        Target::Bt => false,
+    }
+}
+
+fn same_bool(a: bool, b: bool) -> bool
+    ensures { λ r. ⌜ r ≡ sameBool a b ⌝ }
+{
+    if a { b } else { !b }
+}
+
+// The registers show the same of both counters.
+fn same_counts(s: Sync, t: Sync) -> bool
+    ensures { λ r. ⌜ r ≡ sameCounts s t ⌝ }
+{
+    if same_bool(s.lines.overflow, t.lines.overflow) {
+        if same_bool(s.periods.overflow, t.periods.overflow) {
+            if s.lines.latch.0 == t.lines.latch.0 {
+                s.periods.latch.0 == t.periods.latch.0
+            } else {
+                false
+            }
+        } else {
+            false
+        }
+    } else {
+        false
+    }
+}
+
+// ---- what is done with the chip
 
 fn is_requesting(registers: &[u8; 38], core: Core) -> bool
     ensures { λ r. ⌜ r ≡ isRequesting (chipOf (now (registers .entry)) core) ⌝ }
@@ -198,10 +282,63 @@ fn is_requesting(registers: &[u8; 38], core: Core) -> bool
     !(n == 0)
 }
 
-fn following(i: u32) -> u32
-    ensures { λ r. ⌜ r ≡ followingOf i ⌝ }
+// A clock of 8 µs.
+fn clock(seen: &mut [u16; 38], core: Core) -> Core
+    ensures { λ r. ⌜ (r ≡ ticked core) × (now (seen .exit) ≡ seenAfterClock (now (seen .entry)) core) ⌝ }
 {
-    if i < 4294967295 { i + 1 } else { i }
+    let before = core.sync;
+    let k = clocks::clocked(0, core, PERIOD);
+    let after = k.sync;
+    if same_counts(before, after) {
+        k
+    } else {
+        forget(seen);
+        k
+    }
+}
+
+fn shown(registers: &[u8; 38], a: u8) -> u8
+    ensures { λ r. ⌜ r ≡ bitAnd (registerAt (now (registers .entry)) a) 255 ⌝ }
+{
+    chip::register_at(registers, a) & 255
+}
+
+fn is_dac(a: u8) -> bool
+    ensures { λ r. ⌜ r ≡ isDac a ⌝ }
+{
+    if a < DACH0 { false } else { a < 38 }
+}
+
+// A DAC is written: it reads as it is stored.
+fn write_dac(seen: &mut [u16; 38], registers: &mut [u8; 38], a: u8, b: u8)
+    ensures { λ _. ⌜ (now (registers .exit) ≡ set (now (registers .entry)) a (updatedOf a (registerAt (now (registers .entry)) a) b))
+        × (now (seen .exit) ≡ seenAfterDac (now (seen .entry)) (now (registers .exit)) a) ⌝ }
+{
+    let v = registers::updated(a, chip::register_at(registers, a), b);
+    chip::keep(registers, Kept::Stored(a, v));
+    forget_ports(seen);
+    note(seen, a, shown(registers, a) as u16);
+}
+
+fn write_register(
+    seen: &mut [u16; 38],
+    registers: &mut [u8; 38],
+    core: Core,
+    a: u8,
+    b: u8,
+) -> Core
+    ensures { λ r. ⌜ (r ≡ writtenOf core a b) × (now (registers .exit) ≡ keepOf (storedBy (now (registers .entry)) a b) (now (registers .entry))) × (now (seen .exit) ≡ seenAfterWrite (now (seen .entry)) a) ⌝ }
+{
+    let kept = writes::stored(registers, a, b);
+    chip::keep(registers, kept);
+    forget_written(seen, a);
+    writes::written(core, a, b)
+}
+
+fn watchdog_after(count: u8, b: u8) -> u8
+    ensures { λ r. ⌜ r ≡ watchdogAfter count b ⌝ }
+{
+    if b == 0x55 { 0 } else { count }
 }
 
 fn core_after_cycles(n: u16, core: Core) -> Core
@@ -214,161 +351,169 @@ fn core_after_cycles(n: u16, core: Core) -> Core
     }
 }
 
-fn settle_interrupt(ram: &mut [u8; 256], rom: &[u8], core: Core, c: Cpu, i: u32) -> Settled
-    ensures { λ r. ⌜ (r ≡ afterInterrupted (now (rom .entry)) core c i) × (now (ram .exit) ≡ stored (now (ram .entry)) (interrupted (now (rom .entry)) c .store)) ⌝ }
+fn interrupt(ram: &mut [u8; 256], rom: &[u8], core: Core, c: Cpu) -> Interrupted
+    ensures { λ r. ⌜ (r ≡ afterInterrupted (now (rom .entry)) core c) × (now (ram .exit) ≡ stored (now (ram .entry)) (interrupted (now (rom .entry)) c .store)) ⌝ }
 {
     let e = instruction::interrupt(c, rom);
     let t = e.store;
     execution::commit(ram, t);
     let q = e.cpu;
     let n = (q.over as u16) + (e.cycles as u16);
-    Settled {
+    Interrupted {
         cpu: operations::set_over((n % 32) as u8, q),
         core: core_after_cycles(n, core),
-        number: i,
-        refusal: 0,
     }
 }
 
-fn settle_write(
-    registers: &mut [u8; 38],
-    core: Core,
-    c: Cpu,
-    i: u32,
-    q: Cpu,
-    x: u8,
-    a: u8,
-    b: u8,
-) -> Settled
-    ensures { λ r. ⌜ (r ≡ afterWrite core c i q x a b) × (now (registers .exit) ≡ registersWritten (now (registers .entry)) core a b) ⌝ }
+// The cycles over and those of an instruction; below 32 no clock is due.
+fn cycles(q: Cpu, n: u8) -> u16
+    ensures { λ r. ⌜ r ≡ q .over + n ⌝ }
 {
-    let n = writes::write_number(core.reset, a);
-    if n == 0 {
-        let kept = writes::stored(registers, a, b);
-        chip::keep(registers, kept);
-        let t = (q.over as u16) + (x as u16);
-        Settled {
-            cpu: operations::set_over((t % 32) as u8, q),
-            core: core_after_cycles(t, writes::written(core, a, b)),
-            number: following(i),
-            refusal: 0,
-        }
-    } else {
-        Settled {
-            cpu: c,
-            core: core,
-            number: i,
-            refusal: n,
-        }
-    }
+    (q.over as u16) + (n as u16)
 }
 
-fn settle_refusal(
-    seen: &mut [u16; 38],
-    registers: &[u8; 38],
-    core: Core,
-    c: Cpu,
-    i: u32,
-    x: u8,
-) -> Settled
-    ensures { λ r. ⌜ (r ≡ afterRefusal core c i x) × (now (seen .exit) ≡ seenAfter (now (seen .entry)) (now (registers .entry)) core x) ⌝ }
+fn are_few(n: u16) -> bool
+    ensures { λ r. ⌜ r ≡ ltb n 32 ⌝ }
 {
-    if x < 64 {
-        Settled {
-            cpu: c,
-            core: core,
-            number: i,
-            refusal: x,
-        }
-    } else {
-        let a = x - 64;
-        let read = reads::read_register(registers, core, a);
-        note(seen, a, known_reading(read));
-        Settled {
-            cpu: c,
-            core: core,
-            number: i,
-            refusal: 0,
-        }
-    }
+    n < 32
 }
 
-fn settle(
-    seen: &mut [u16; 38],
-    registers: &mut [u8; 38],
-    ram: &mut [u8; 256],
-    rom: &[u8],
-    core: Core,
-    pause: Pause,
-) -> Settled
-    ensures { λ r. ⌜ (r ≡ settledBy (now (seen .entry)) (now (registers .entry)) (now (rom .entry)) core (pause .reason) (pause .cpu) (pause .number) (now (ram .entry)) .settled)
-        × (now (registers .exit) ≡ settledBy (now (seen .entry)) (now (registers .entry)) (now (rom .entry)) core (pause .reason) (pause .cpu) (pause .number) (now (ram .entry)) .registers)
-        × (now (seen .exit) ≡ settledBy (now (seen .entry)) (now (registers .entry)) (now (rom .entry)) core (pause .reason) (pause .cpu) (pause .number) (now (ram .entry)) .seen)
-        × (now (ram .exit) ≡ settledBy (now (seen .entry)) (now (registers .entry)) (now (rom .entry)) core (pause .reason) (pause .cpu) (pause .number) (now (ram .entry)) .ram) ⌝ }
+// The next instruction, where this one is done.
+fn number_after(i: u32, done: bool) -> u32
+    requires { ⌜ i < 4294967295 ⌝ }
+    ensures { λ r. ⌜ r ≡ pick done (i + 1) i ⌝ }
 {
-    let c = pause.cpu;
-    let i = pause.number;
-    let w = pause.reason;
-    match w {
-        Reason::Count => Settled {
-            cpu: c,
-            core: core,
-            number: i,
-            refusal: 0,
-        },
-        Reason::Clock => {
-            forget(seen);
-            Settled {
-                cpu: c,
-                core: clocks::clocked(0, core, PERIOD),
-                number: i,
-                refusal: 0,
-            }
-        },
-        Reason::Interrupt => {
-            forget(seen);
-            settle_interrupt(ram, rom, core, c, i)
-        },
-        Reason::Write(q, x, a, b) => {
-            forget(seen);
-            settle_write(registers, core, c, i, q, x, a, b)
-        },
-        Reason::Refused(x) => settle_refusal(seen, registers, core, c, i, x),
-    }
+    if done { i + 1 } else { i }
 }
 
-// ---- the run
+// ---- instructions one after the other
 
-// Instructions from number i to before number `to`, until the chip is needed, and what is then done with the chip.
-fn proceed(
+// Instructions from number `from` to before number `to`, with RESET high and no events between them. While `even` is false instruction i
+// is done but for an 8 µs clock. What the registers read is kept in `seen` for as long as it holds.
+fn advance(
     table: &[u32; 256],
-    seen: &mut [u16; 38],
     registers: &mut [u8; 38],
     ram: &mut [u8; 256],
     rom: &[u8],
     core: Core,
     cpu: Cpu,
-    i: u32,
+    from: u32,
     to: u32,
 ) -> Settled
-    ensures { λ r. ⌜ (r ≡ proceeded (now (table .entry)) (now (seen .entry)) (now (registers .entry)) (now (rom .entry)) core cpu i to (now (ram .entry)) .settled)
-        × (now (registers .exit) ≡ proceeded (now (table .entry)) (now (seen .entry)) (now (registers .entry)) (now (rom .entry)) core cpu i to (now (ram .entry)) .registers)
-        × (now (seen .exit) ≡ proceeded (now (table .entry)) (now (seen .entry)) (now (registers .entry)) (now (rom .entry)) core cpu i to (now (ram .entry)) .seen)
-        × (now (ram .exit) ≡ proceeded (now (table .entry)) (now (seen .entry)) (now (registers .entry)) (now (rom .entry)) core cpu i to (now (ram .entry)) .ram) ⌝ }
+    requires { ⌜ (now table ≡ opcodes) × (core .reset ≡ true) ⌝ }
+    ensures { λ r. ⌜ settledEnd r (now (ram .exit)) (now (registers .exit)) ≡ runs (to - from) from (now (rom .entry)) [] (machine cpu (now (ram .entry)) (chipOf (now (registers .entry)) core)) ⌝ }
+{
+    let mut seen = NONE_SEEN;
+    let mut k = core;
+    let mut c = cpu;
+    let mut i = from;
+    let mut even = true;
+    let mut request = is_requesting(registers, core);
+    while i < to {
+        if even {
+            let t = batch::turn_of(table, &seen, ram, rom, request, c);
+            match t {
+                Turn::On(d) => {
+                    c = d;
+                    i += 1;
+                },
+                Turn::Clock(d) => {
+                    c = d;
+                    even = false;
+                },
+                Turn::Interrupt => {
+                    let e = interrupt(ram, rom, k, c);
+                    c = e.cpu;
+                    k = e.core;
+                    forget(&mut seen);
+                    request = is_requesting(registers, k);
+                },
+                Turn::Write(q, n, r, b) => {
+                    let x = cycles(q, n);
+                    let d = operations::set_over((x % 32) as u8, q);
+                    let few = are_few(x);
+                    let j = number_after(i, few);
+                    if r == CLRWDT {
+                        k.watchdog = watchdog_after(k.watchdog, b);
+                        c = d;
+                        i = j;
+                        even = few;
+                    } else if is_dac(r) {
+                        write_dac(&mut seen, registers, r, b);
+                        c = d;
+                        i = j;
+                        even = few;
+                    } else {
+                        let w = writes::write_number(true, r);
+                        if w != 0 {
+                            return Settled {
+                                cpu: c,
+                                core: k,
+                                number: i,
+                                refusal: w,
+                            };
+                        }
+                        k = write_register(&mut seen, registers, k, r, b);
+                        request = is_requesting(registers, k);
+                        c = d;
+                        i = j;
+                        even = few;
+                    }
+                },
+                Turn::Refused(n) => {
+                    if n < 64 {
+                        return Settled {
+                            cpu: c,
+                            core: k,
+                            number: i,
+                            refusal: n,
+                        };
+                    }
+                    let read = reads::read_register(registers, k, n - 64);
+                    note(&mut seen, n - 64, known_reading(read));
+                },
+            }
+        } else {
+            k = clock(&mut seen, k);
+            even = true;
+            i += 1;
+        }
+    }
+    Settled {
+        cpu: c,
+        core: k,
+        number: i,
+        refusal: 0,
+    }
+}
+
+// While RESET is low instructions do nothing.
+fn proceed(
+    table: &[u32; 256],
+    registers: &mut [u8; 38],
+    ram: &mut [u8; 256],
+    rom: &[u8],
+    core: Core,
+    cpu: Cpu,
+    from: u32,
+    to: u32,
+) -> Settled
+    requires { ⌜ (now table ≡ opcodes) × (from < to) ⌝ }
+    ensures { λ r. ⌜ settledEnd r (now (ram .exit)) (now (registers .exit)) ≡ runs (to - from) from (now (rom .entry)) [] (machine cpu (now (ram .entry)) (chipOf (now (registers .entry)) core)) ⌝ }
 {
     if core.reset {
-        let request = is_requesting(registers, core);
-        let pause = batch::batch(table, seen, ram, rom, request, cpu, i, to);
-        settle(seen, registers, ram, rom, core, pause)
+        advance(table, registers, ram, rom, core, cpu, from, to)
     } else {
         Settled {
             cpu: cpu,
             core: core,
-            number: following(i),
+            number: to,
             refusal: 0,
         }
     }
 }
+
+// ---- the run
 
 // The run, once it may begin. One turn of the loop gives an event, or brings the instructions on to where the chip is needed.
 fn run_all(
@@ -386,7 +531,6 @@ fn run_all(
         × (now (ram .exit) ≡ called (runs instructions 0 (now (rom .entry)) (now (events .entry)) (machine cpu (now (ram .entry)) chip)) (now (answers .entry)) .ram) ⌝ }
 {
     let table = opcodes::table();
-    let mut seen = NONE_SEEN;
     let mut registers = chip.registers;
     let mut core = chip.core;
     let mut c = cpu;
@@ -406,9 +550,8 @@ fn run_all(
             core = o.core;
             c = o.cpu;
             given += 1;
-            forget(&mut seen);
         } else {
-            let s = proceed(&table, &mut seen, &mut registers, ram, rom, core, c, i, to);
+            let s = proceed(&table, &mut registers, ram, rom, core, c, i, to);
             core = s.core;
             c = s.cpu;
             i = s.number;

@@ -1,4 +1,4 @@
 pub mod Loads
 pub mod Instructions
 pub mod Interrupts
-pub mod Pauses
+pub mod Turns

@@ -1,19 +1,12 @@
-use mathlib.Core.Path.{refl}
-use Rattle.firmware_run.specs.Firmware.{proceeded}
-use Rattle.firmware_run.proofs.Parts.{proceeds-on}
-use borrow.Author.Needs.{needs}
+use mathlib.Core.Path.{sym}
+use Rattle.machine.proofs.Turns.{runs-low}
 use Rattle.firmware_run.proofs.proceed.Statement.{statement}
 use Rattle.firmware_run.proofs.proceed.Tie as tie
 
 pub proceed-spec : {M : Type 1} → statement M
-unfolding proceeded
 proceed-spec =
     tie.close
     (tie.spec
-    (λ c κs. search needs)
-    (λ c κs. search needs)
-    (λ c κs. search needs)
-    (λ c κs. search needs)
-    (λ c. let s = c .settle .ensures in let p = c .before .before .before .before .batch .ensures in
-    proceeds-on _ _ _ _ _ _ _ _ _ (c .before .before .before .before .before .before .before .before .before .if1 .taken) _ (c .before .before .before .before .before .before .before .is-requesting .ensures) _ (p .0) _ (p .1) _ _ _ _ (s .0) (s .1) (s .2) (s .3))
-    (λ c. simp (c .following .ensures, c .before .if1 .left) (refl, refl, refl, refl)))
+    (λ c κs. (c .before .before .before .before .pre .0, c .before .before .if1 .taken))
+    (λ c. c .advance .ensures)
+    (λ c. sym (runs-low _ _ _ _ (c .before .before .pre .1) (c .if1 .left))))

@@ -1,10 +1,10 @@
 use mathlib.Core.Path.{refl}
 use borrow.Author.Needs.{needs}
-use Rattle.firmware_run.proofs.settle_interrupt.Statement.{statement}
-use Rattle.firmware_run.proofs.settle_interrupt.Tie as tie
+use Rattle.firmware_run.proofs.interrupt.Statement.{statement}
+use Rattle.firmware_run.proofs.interrupt.Tie as tie
 
-pub settle-interrupt-spec : {M : Type 1} → statement M
-settle-interrupt-spec =
+pub interrupt-spec : {M : Type 1} → statement M
+interrupt-spec =
     tie.close
     (tie.spec
     (λ c κs. search needs)
