@@ -10,6 +10,24 @@ mod nt6861;
 use nt6861_model::{chip, state, traffic};
 use std::time::Instant;
 
+#[repr(C)]
+struct Time {
+    seconds: i64,
+    nanoseconds: i64,
+}
+
+extern "C" {
+    fn clock_gettime(clock: i32, time: *mut Time) -> i32;
+}
+
+/// Processor seconds of this thread; other work beside it does not count.
+fn processor_seconds() -> f64 {
+    let mut time = Time { seconds: 0, nanoseconds: 0 };
+    // 3 is CLOCK_THREAD_CPUTIME_ID
+    assert_eq!(unsafe { clock_gettime(3, &mut time) }, 0);
+    time.seconds as f64 + time.nanoseconds as f64 / 1e9
+}
+
 fn model(words: &[u32], answers: &mut [u32]) {
     let mut chip = chip::Chip::fresh();
     for (answer, word) in answers.iter_mut().zip(words) {
@@ -24,9 +42,9 @@ fn seconds(mut run: impl FnMut()) -> f64 {
     let mut best = f64::MAX;
     let mut runs = 0;
     while runs < 5 || begin.elapsed().as_secs_f64() < 0.5 {
-        let start = Instant::now();
+        let start = processor_seconds();
         run();
-        best = best.min(start.elapsed().as_secs_f64());
+        best = best.min(processor_seconds() - start);
         runs += 1;
     }
     best
@@ -38,11 +56,11 @@ fn in_turn(mut ours: impl FnMut(), mut theirs: impl FnMut()) -> (f64, f64, f64) 
     let (mut a, mut b) = (f64::MAX, f64::MAX);
     let mut ratios = Vec::new();
     while ratios.len() < 21 || begin.elapsed().as_secs_f64() < 1.0 {
-        let start = Instant::now();
+        let start = processor_seconds();
         ours();
-        let middle = Instant::now();
+        let middle = processor_seconds();
         theirs();
-        let (x, y) = ((middle - start).as_secs_f64(), middle.elapsed().as_secs_f64());
+        let (x, y) = (middle - start, processor_seconds() - middle);
         (a, b) = (a.min(x), b.min(y));
         ratios.push(y / x);
     }

@@ -10,7 +10,7 @@ words=80000
 
 # Some ten per cent above what docs/PERFORMANCE.md says.
 list_ceiling=100
-step_ceiling=1900
+step_ceiling=930
 replay_ceiling=160
 
 rt staticlib capi > "$work/log" 2>&1 || { cat "$work/log"; exit 1; }
