@@ -191,15 +191,17 @@ class Driver:
         # standard error is shown whole where standard output is not the expected one
         said = ran(root, libs, ["--stdin", str(words)], written(work / "copies/expected", "nothing\n"))
         wrote = re.search(r"^what the run said:\nthe program exited with status 0\n(.*?)^(?=FAIL: |\Z)", said, re.M | re.S)
-        found = wrote[1].strip("\n").split("=") if wrote else []
+        found = [part.strip() for part in wrote[1].split("=")] if wrote else []
         return found[:-1] if len(found) == len(texts) + 1 else None
 
     def tell(self, crate, texts, work):
         """for each code of the crate, the driver's name where it writes something else than with the right one, or None"""
         right = source(crate).read_text()
-        parts = self.parts(crate, [right, *texts], work)
+        parts = self.parts(crate, [right, *texts, right], work)
         if parts:
-            return [self.name if part != parts[0] else None for part in parts[1:]]
+            if parts[0] != parts[-1]:
+                sys.exit(f"wrong answers: {self.name} does not write the same twice with the right {crate}")
+            return [self.name if part != parts[0] else None for part in parts[1:-1]]
         right_alone = self.parts(crate, [right], work) or sys.exit(f"wrong answers: {self.name} does not come to its end")
         return [self.name if self.parts(crate, [text], work) != right_alone else None for text in texts]
 
@@ -276,9 +278,9 @@ def main(arguments):
                 failed += by is None
                 rows[rows.index(answer)] = (*answer.row(), by or "NOTHING: it is to be replaced")
                 print(f"{answer.title()}: {by or 'NOTHING TELLS IT APART: ' + answer.words}", flush=True)
+            if out:
+                out.write_text(report([row for row in rows if isinstance(row, tuple)], skipped))
     print(f"wrong answers: {len(rows)} that edit code are run, {failed} of them now told apart by nothing; {skipped} edit a contract alone")
-    if out:
-        out.write_text(report(rows, skipped))
     sys.exit(1 if failed else 0)
 
 
