@@ -19,7 +19,7 @@ use Rattle.isolation.specs.Foreign.{Trace, since, observerOf, OneTransfer, Seve
 use Rattle.isolation.proofs.Theorems.{several-transfers, one-transfer, several-transfers-called, one-transfer-called}
 use Rattle.state_area.specs.Area.{loaded}
 use Rattle.state_calls.specs.Calls.{holdsState, stepArea, stepAnswer, runNumber}
-use Rattle.byte_form.specs.Bytes.{bytesAfter, bytesAnswers, BytesRunsAgree, BytesCallsAgree}
+use Rattle.byte_form.specs.Bytes.{BytesRunsAgree, BytesCallsAgree}
 use Rattle.byte_form.proofs.Stays.{well, stepped-holds, after-holds, answers-given, call-number, call-places, call-state}
 
 -- ---- demand 2: whatever holds of every step of a well formed state holds of every step of its bytes, the state being what the area

@@ -12,7 +12,7 @@ use Rattle.instruction.specs.Program.{readAt, writeAt}
 use Rattle.machine.specs.Run.{runs, firmware}
 use Rattle.firmware_isolation.specs.Trace.{trace, accessesOf}
 use Rattle.firmware_isolation.specs.Transfers.{RunsAgree, CallsAgree}
-use Rattle.firmware_isolation.proofs.Runs.{firmware-runs-listed, firmware-runs, firmware-calls-listed}
+use Rattle.firmware_isolation.proofs.Runs.{firmware-runs-listed, firmware-runs, foreign-of, firmware-calls-listed}
 use Rattle.firmware_cases.specs.Firmware.{cpu, ram, startedChip, startedMachine, idleMachine, lowMachine, clockBit, event, transfer, whole, sdaPut, times, polling, pollingRom}
 use Rattle.firmware_cases.specs.Tests.{tests}
 use Rattle.firmware_cases.proofs.Opened.{opened}
@@ -29,6 +29,11 @@ unfolding opened pollingRom
 transfers-agree =
     firmware-calls-listed cpu ram pollingRom startedChip 4 refl rom-length refl start-seen (transfer 0 0xa2) (transfer 0 0x54) (replicate 28 0) (replicate 28 0) refl refl
     (record { events = refl; left = refl; right = refl; sda = refl; unread = refl })
+
+-- SDA is left alone in them while SCL is high
+pub one-transfer-agrees : RunsAgree (runs 4 0 polling (transfer 0 0xa2) startedMachine) (runs 4 0 polling (transfer 0 0x54) startedMachine) (trace 4 0 polling (transfer 0 0xa2) startedMachine) (trace 4 0 polling (transfer 0 0x54) startedMachine)
+unfolding opened
+one-transfer-agrees = firmware-runs-listed 4 polling startedMachine refl refl start-seen (transfer 0 0xa2) (transfer 0 0x54) (foreign-of (record { events = refl; left = refl; right = refl; sda = refl; unread = refl }))
 
 -- the accesses of both
 pub accesses-made : accessesOf (trace 4 0 polling (transfer 0 0xa2) startedMachine)

@@ -234,8 +234,9 @@ untouched-equal o p (given e x ∷ s) (made b ∷ t) h =
     untouched-equal (observe o (decode (wordOf e))) (observe p (happening (made b))) s t (both-true (untouched o (decode (wordOf e))) _ h .1)
 untouched-equal o p (made a ∷ s) (y ∷ t) h = untouched-equal (observe o (happening (made a))) (observe p (happening y)) s t h
 
-pub foreign-of : {o p : Observer} {s t : List Entry} → OneForeignTransfer o p s t → ForeignRuns o p s t
-foreign-of {o} {p} {s} {t} q = record { events = q .events; left = q .left; right = q .right; sda = untouched-equal o p s t (q .sda); unread = q .unread }
+pub foreign-of : {n : ℕ} {es fs : List ℕ} {o p : Observer} {s t : List Entry} → OneForeignTransfer n es fs o p s t → ForeignLists n es fs o p s t
+foreign-of {o = o} {p = p} {s = s} {t = t} q =
+    record { events = q .events; left = q .left; right = q .right; sda = untouched-equal o p s t (q .sda); unread = q .unread }
 
 -- ---- the firmware call
 

@@ -96,8 +96,8 @@ abbrev pub leavesSda : Observer → Entry → Bool
 leavesSda o (given e x) = untouched o (decode (wordOf e))
 leavesSda o (made a) = true
 
-pub record OneForeignTransfer (o p : Observer) (s t : List Entry) : Type 0 where
-  pub events : alikeEvents (eventsOf s) (eventsOf t) ≡ true
+pub record OneForeignTransfer (n : ℕ) (es fs : List ℕ) (o p : Observer) (s t : List Entry) : Type 0 where
+  pub events : alikeEvents (within n es) (within n fs) ≡ true
   pub left : throughout mayHappen o s ≡ true
   pub right : throughout mayBeListed p t ≡ true
   pub sda : throughout leavesSda o s ≡ true

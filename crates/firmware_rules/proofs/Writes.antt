@@ -1,5 +1,5 @@
 -- The writes among the accesses of an instruction are those that RAM shows: pushes and the store, in order.
-use Prim.Native.Nat.{ℕ, _+_, _-_, _*_, _/_, _%_, _<_}
+use Prim.Native.Nat.{ℕ, _+_, _-_, _/_, _%_, _<_}
 use mathlib.Core.Path.{_≡_, refl, ap, sym, _∙_}
 use mathlib.Core.Bool.{Bool, true, false, true≢false}
 use mathlib.Core.List.{List, [], _∷_}
@@ -10,7 +10,6 @@ use borrow.Author.Tests.{lt-ltb, le-ltb, ltb-true, ltb-false}
 use Rattle.bits.specs.Byte.{pick}
 use Rattle.chip.specs.declared.Chip.{Chip}
 use Rattle.writes.specs.Writes.{writeNumber}
-use Rattle.opcodes.specs.Opcodes.{entryOf}
 use Rattle.opcodes.specs.declared.Operation.{Operation}
 use Rattle.opcodes.specs.declared.Operation.the-variants.{Read, Store, Modify, ModifyA, Implied, Branch, Jmp, Jsr, Rts, Rti, Brk, Pha, Php, Pla, Plp, Undocumented}
 use Rattle.operations.specs.declared.Cpu.{Cpu}
@@ -26,9 +25,9 @@ use Rattle.memory.specs.Reads.{Reads, done, undocumented, read, Result, gives, 
 use Rattle.addressing.specs.declared.Effective.{Effective}
 use Rattle.instruction.specs.declared.Effect.{Effect}
 use Rattle.instruction.specs.Program.{Instruction, leaves, rejected, reads, pushes, andThen, perform, Access, readAt, writeAt, lastAccess, behindByte, accesses}
-use Rattle.instruction.specs.Instruction.{branched, trap, execute, addressed, instructionOf, instructionBy, instruction, interrupt}
+use Rattle.instruction.specs.Instruction.{branched, trap, execute, instructionOf, instructionBy, instruction, interrupt}
 use Rattle.execution.specs.Execution.{destinationAt, destination, storedAt, stored}
-use Rattle.machine.specs.Machine.{Machine, Turned, turned, load, finished, storedTo, completed, instruct, interruptTaken}
+use Rattle.machine.specs.Machine.{Machine, turned, load, finished, storedTo, completed, instruct, interruptTaken}
 use Rattle.machine.proofs.Loads.{LowResult, low}
 use Rattle.firmware_rules.specs.Numbers.{madeBy}
 use Rattle.firmware_rules.specs.Writes.{ramBy}
