@@ -320,13 +320,7 @@ fn write_dac(seen: &mut [u16; 38], registers: &mut [u8; 38], a: u8, b: u8)
     note(seen, a, shown(registers, a) as u16);
 }
 
-fn write_register(
-    seen: &mut [u16; 38],
-    registers: &mut [u8; 38],
-    core: Core,
-    a: u8,
-    b: u8,
-) -> Core
+fn write_register(seen: &mut [u16; 38], registers: &mut [u8; 38], core: Core, a: u8, b: u8) -> Core
     ensures { λ r. ⌜ (r ≡ writtenOf core a b) × (now (registers .exit) ≡ keepOf (storedBy (now (registers .entry)) a b) (now (registers .entry))) × (now (seen .exit) ≡ seenAfterWrite (now (seen .entry)) a) ⌝ }
 {
     let kept = writes::stored(registers, a, b);
