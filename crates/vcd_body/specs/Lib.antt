@@ -1,3 +1,4 @@
 pub mod Trace
 pub mod Pieces
 pub mod Tables
+pub mod Runs

@@ -1,16 +1,18 @@
 // The body of a value change dump, token by token, into event words.
 ghost use mathlib.Core.Path.{_≡_};
-ghost use mathlib.Core.Bool.{false};
-ghost use Prim.Native.Nat.{ℕ, _<_, _-_};
+ghost use mathlib.Core.Bool.{true, false};
+ghost use Prim.Native.Nat.{ℕ, _<_, _≤_, _+_, _-_, _*_, _/_};
 ghost use mathlib.Core.List.{List, [], _∷_};
-ghost use lib.ListN.{length, drop};
-ghost use Rattle.vcd_text.specs.Token.{tokens};
-ghost use Rattle.vcd_codes.specs.Codes.{variables, find, meant};
-ghost use Rattle.vcd_steps.specs.Steps.{itemStep, endsAs, meaning};
+ghost use lib.ListN.{length, take, drop, getD};
+ghost use Rattle.vcd_text.specs.declared.Number.the-variants.{Of};
+ghost use Rattle.vcd_text.specs.Token.{tokens, whiteLength, wordLength, decimalOf};
+ghost use Rattle.vcd_codes.specs.Codes.{Found, variables, find, meant};
+ghost use Rattle.vcd_steps.specs.Steps.{itemStep, endsAs, meaning, atTime};
 ghost use Rattle.vcd_steps.specs.declared.State.{State};
 ghost use Rattle.vcd_body.specs.Trace.{tokenAs};
 ghost use Rattle.vcd_body.specs.Pieces.{start as startOf, answer, closed, paused, turned, turnBy, placed, pieces};
 ghost use Rattle.vcd_body.specs.Tables.{Singles, Lists, Tables};
+ghost use Rattle.vcd_body.specs.Runs.{NextToken, Advances, Leads};
 use vcd_items::Item;
 use vcd_room::Put;
 use vcd_steps::Mode;
@@ -300,6 +302,484 @@ fn token(
     }
 }
 
+// ---- runs of changes of one pin and of times
+//
+// They are most of a file. A run of them is read with few tests and moves four numbers only; what is not simple is left to the
+// reader of any token.
+
+// Where a run stands: at a place of the file, after so many words, at a time with so many clocks due up to it.
+pub struct Run {
+    pub at: usize,
+    pub count: usize,
+    pub time: u64,
+    pub clocks: u64,
+}
+
+// A number and where it ends; it ends where it begins if it is none, or is not clearly below 2^64.
+pub struct Digits {
+    pub end: usize,
+    pub value: u64,
+}
+
+fn long(b: u8) -> u64
+    ensures { λ r. ⌜ r ≡ b ⌝ }
+{
+    b as u64
+}
+
+// The number that a word is, looked at once.
+fn read_digits(text: &[u8], from: usize) -> Digits
+    requires { ⌜ from ≤ length (now text) ⌝ }
+    ensures { λ r. ⌜ (from ≤ r .end) × (from < r .end → (r .end ≡ from + wordLength (drop from (now (text .entry)))) × (decimalOf (take (r .end - from) (drop from (now (text .entry)))) ≡ Of (r .value))) ⌝ }
+{
+    let mut i = from;
+    let mut v: u64 = 0;
+    while i < text.len() {
+        let b = text[i];
+        if vcd_text::white(b) {
+            return Digits { end: i, value: v };
+        }
+        if is_plain_digit(b, v) {
+            v = v * 10 + long(b - 48);
+            i += 1;
+        } else {
+            return Digits {
+                end: from,
+                value: 0,
+            };
+        }
+    }
+    Digits { end: i, value: v }
+}
+
+// A digit after a number that is so small that no digit makes it 2^64.
+fn is_plain_digit(b: u8, v: u64) -> bool
+    ensures { λ r. ⌜ (r ≡ true → (47 < b) × (b < 58) × (v < 1844674407370955161)) ⌝ }
+{
+    if b < 48 {
+        return false;
+    }
+    if 57 < b {
+        return false;
+    }
+    v < 1844674407370955161
+}
+
+// The place of the next token. Most often one white byte stands before it.
+fn token_from(text: &[u8], from: usize) -> usize
+    requires { ⌜ from ≤ length (now text) ⌝ }
+    ensures { λ r. ⌜ r ≡ from + whiteLength (drop from (now (text .entry))) ⌝ }
+{
+    if text.len() - from < 2 {
+        return vcd_text::skip_white(text, from);
+    }
+    if vcd_text::white(text[from]) {
+        if vcd_text::white(text[from + 1]) {
+            return vcd_text::skip_white(text, from);
+        }
+        return from + 1;
+    }
+    from
+}
+
+// One byte stands before white space.
+fn is_single(text: &[u8], from: usize) -> bool
+    requires { ⌜ from ≤ length (now text) ⌝ }
+    ensures { λ r. ⌜ (r ≡ true → (from + 1 < length (now (text .entry))) × (from + 1 ≡ from + wordLength (drop from (now (text .entry))))) ⌝ }
+{
+    if text.len() - from < 2 {
+        return false;
+    }
+    if vcd_text::white(text[from]) {
+        return false;
+    }
+    vcd_text::white(text[from + 1])
+}
+
+fn moved(run: Run, at: usize, count: usize) -> Run
+    ensures { λ r. ⌜ r ≡ record { at = at; count = count; time = run .time; clocks = run .clocks } ⌝ }
+{
+    Run {
+        at: at,
+        count: count,
+        time: run.time,
+        clocks: run.clocks,
+    }
+}
+
+fn change_word(pin: u64, b: u8) -> u32
+    requires { ⌜ (pin < 256) × (47 < b) × (b < 50) ⌝ }
+    ensures { λ r. ⌜ r ≡ 50331648 + (b - 48) + pin * 256 ⌝ }
+{
+    50331648 + (b - 48) as u32 + pin as u32 * 256
+}
+
+// The byte is 0 or 1.
+fn is_level(b: u8) -> bool
+    ensures { λ r. ⌜ (r ≡ true → (47 < b) × (b < 50)) ⌝ }
+{
+    if b < 48 {
+        return false;
+    }
+    b < 50
+}
+
+// The word of a change to 0 or 1 of a code that stands for one pin; none where it stands for no pin.
+fn write_change(out: &mut [u32], run: Run, list: u64, b: u8, e: usize) -> Run
+    requires { ⌜ (47 < b) × (b < 50) ⌝ }
+    ensures { λ r. ⌜ ((find : List ℕ → Found) (scale : ℕ) (text : List ℕ) (p : ℕ) → NextToken text (run .at) p e → b ≡ getD text p 0 → meant list ≡ find (drop 1 (take (e - p) (drop p text))) → Leads find scale text run (now (out .entry)) r (now (out .exit))) ⌝ }
+{
+    if 255 < list {
+        return run;
+    }
+    if list == 0 {
+        return moved(run, e, run.count);
+    }
+    let n = run.count;
+    if n < out.len() {
+        out[n] = change_word(list, b);
+        return moved(run, e, n + 1);
+    }
+    run
+}
+
+// A change of a code of one byte.
+fn single_change(text: &[u8], singles: &[u64], out: &mut [u32], run: Run, p: usize) -> Run
+    requires { ⌜ (p + 2 < length (now text)) × (length (now singles) ≡ 256) ⌝ }
+    requires { ⌜ (47 < getD (now text) p 0) × (getD (now text) p 0 < 50) ⌝ }
+    ensures { λ r. ⌜ ((find : List ℕ → Found) (scale : ℕ) → NextToken (now (text .entry)) (run .at) p (p + 2) → ((b : ℕ) → b < 256 → meant (getD (now (singles .entry)) b 0) ≡ find (b ∷ [])) → Leads find scale (now (text .entry)) run (now (out .entry)) r (now (out .exit))) ⌝ }
+{
+    let b = text[p + 1];
+    write_change(out, run, singles[wide(b)], text[p], p + 2)
+}
+
+// A change of any other code.
+fn long_change(
+    text: &[u8],
+    places: &[usize],
+    pins: &[u8],
+    entries: usize,
+    singles: &[u64],
+    lists: &[u64],
+    guesses: &[usize],
+    out: &mut [u32],
+    run: Run,
+    p: usize,
+) -> Run
+    requires { ⌜ Tables (now text) (now places) (now pins) entries (now singles) (now lists) (now guesses) ⌝ }
+    requires { ⌜ (p < length (now text)) × (47 < getD (now text) p 0) × (getD (now text) p 0 < 50) ⌝ }
+    ensures { λ r. ⌜ ((scale : ℕ) → p ≡ run .at + whiteLength (drop (run .at) (now (text .entry))) → Leads (find (variables (now (text .entry)) (now (places .entry)) (now (pins .entry)) 0 entries)) scale (now (text .entry)) run (now (out .entry)) r (now (out .exit))) ⌝ }
+{
+    let e = vcd_text::word_end(text, p + 1);
+    let list = found(
+        text,
+        places,
+        pins,
+        entries,
+        singles,
+        lists,
+        guesses,
+        &text[p + 1..e],
+    );
+    write_change(out, run, list, text[p], e)
+}
+
+fn has_room(room: usize, count: usize, n: u64) -> bool
+    ensures { λ r. ⌜ (r ≡ true → 0 < n → count + n ≤ room) ⌝ }
+{
+    if count < room {
+        return n <= (room - count) as u64;
+    }
+    n == 0
+}
+
+// The clocks of a time, where there is a place for each.
+fn give_clocks(out: &mut [u32], run: Run, d: Digits, due: u64) -> Run
+    ensures { λ r. ⌜ ((find : List ℕ → Found) (scale : ℕ) (text : List ℕ) (p : ℕ) → Advances find scale text run p (d .end) (d .value) due → Leads find scale text run (now (out .entry)) r (now (out .exit))) ⌝ }
+{
+    let n = later(due, run.clocks);
+    if has_room(out.len(), run.count, n) {
+        let put = vcd_room::clocks(out, run.count, n, 0);
+        return Run {
+            at: d.end,
+            count: put.count,
+            time: d.value,
+            clocks: due,
+        };
+    }
+    run
+}
+
+// A time that does not go back and is not above 64 bits in ps.
+fn short_time(text: &[u8], scale: u64, limit: u64, out: &mut [u32], run: Run, p: usize) -> Run
+    requires { ⌜ (p < length (now text)) × (getD (now text) p 0 ≡ 35) ⌝ }
+    requires { ⌜ (0 < scale) × (limit ≡ 18446744073709551615 / scale) ⌝ }
+    ensures { λ r. ⌜ ((find : List ℕ → Found) → p ≡ run .at + whiteLength (drop (run .at) (now (text .entry))) → Leads find scale (now (text .entry)) run (now (out .entry)) r (now (out .exit))) ⌝ }
+{
+    let d = read_digits(text, p + 1);
+    if d.end == p + 1 {
+        return run;
+    }
+    if d.value < run.time {
+        return run;
+    }
+    if limit < d.value {
+        return run;
+    }
+    give_clocks(out, run, d, d.value * scale / 8000000)
+}
+
+// A change to 0 or 1.
+fn short_change(
+    text: &[u8],
+    places: &[usize],
+    pins: &[u8],
+    entries: usize,
+    singles: &[u64],
+    lists: &[u64],
+    guesses: &[usize],
+    out: &mut [u32],
+    run: Run,
+    p: usize,
+) -> Run
+    requires { ⌜ Tables (now text) (now places) (now pins) entries (now singles) (now lists) (now guesses) ⌝ }
+    requires { ⌜ (p < length (now text)) × (47 < getD (now text) p 0) × (getD (now text) p 0 < 50) ⌝ }
+    ensures { λ r. ⌜ ((scale : ℕ) → p ≡ run .at + whiteLength (drop (run .at) (now (text .entry))) → Leads (find (variables (now (text .entry)) (now (places .entry)) (now (pins .entry)) 0 entries)) scale (now (text .entry)) run (now (out .entry)) r (now (out .exit))) ⌝ }
+{
+    if is_single(text, p + 1) {
+        return single_change(text, singles, out, run, p);
+    }
+    long_change(
+        text,
+        places,
+        pins,
+        entries,
+        singles,
+        lists,
+        guesses,
+        out,
+        run,
+        p,
+    )
+}
+
+// A token of the run, or none where the next is another.
+fn run_token(
+    text: &[u8],
+    places: &[usize],
+    pins: &[u8],
+    entries: usize,
+    singles: &[u64],
+    lists: &[u64],
+    guesses: &[usize],
+    scale: u64,
+    limit: u64,
+    out: &mut [u32],
+    run: Run,
+) -> Run
+    requires { ⌜ Tables (now text) (now places) (now pins) entries (now singles) (now lists) (now guesses) ⌝ }
+    requires { ⌜ (0 < scale) × (limit ≡ 18446744073709551615 / scale) ⌝ }
+    requires { ⌜ run .at ≤ length (now text) ⌝ }
+    ensures { λ r. ⌜ Leads (find (variables (now (text .entry)) (now (places .entry)) (now (pins .entry)) 0 entries)) scale (now (text .entry)) run (now (out .entry)) r (now (out .exit)) ⌝ }
+{
+    let p = token_from(text, run.at);
+    if p < text.len() {
+        if text[p] == 35 {
+            return short_time(text, scale, limit, out, run, p);
+        }
+        if is_level(text[p]) {
+            return short_change(
+                text,
+                places,
+                pins,
+                entries,
+                singles,
+                lists,
+                guesses,
+                out,
+                run,
+                p,
+            );
+        }
+    }
+    run
+}
+
+// As many tokens as go on with the run.
+fn run_tokens(
+    text: &[u8],
+    places: &[usize],
+    pins: &[u8],
+    entries: usize,
+    singles: &[u64],
+    lists: &[u64],
+    guesses: &[usize],
+    scale: u64,
+    limit: u64,
+    out: &mut [u32],
+    from: Run,
+) -> Run
+    requires { ⌜ Tables (now text) (now places) (now pins) entries (now singles) (now lists) (now guesses) ⌝ }
+    requires { ⌜ (0 < scale) × (limit ≡ 18446744073709551615 / scale) ⌝ }
+    ensures { λ r. ⌜ Leads (find (variables (now (text .entry)) (now (places .entry)) (now (pins .entry)) 0 entries)) scale (now (text .entry)) from (now (out .entry)) r (now (out .exit)) ⌝ }
+{
+    let mut run = from;
+    while run.at < text.len() {
+        let next = run_token(
+            text,
+            places,
+            pins,
+            entries,
+            singles,
+            lists,
+            guesses,
+            scale,
+            limit,
+            out,
+            run,
+        );
+        if next.at == run.at {
+            return next;
+        }
+        run = next;
+    }
+    run
+}
+
+// Where the reader stands before a token: at a place of the file, after so many words, in a state.
+pub struct Position {
+    pub at: usize,
+    pub count: usize,
+    pub state: State,
+}
+
+fn is_plain(s: State) -> bool
+    ensures { λ r. ⌜ (r ≡ true → (s .mode ≡ Mode.Plain) × (s .inside ≡ false)) ⌝ }
+{
+    if s.inside {
+        return false;
+    }
+    let mode = s.mode;
+    match mode {
+        Mode::Plain => true,
+        Mode::Code => false,
+        Mode::Comment => false,
+    }
+}
+
+fn at_time(s: State, time: u64, clocks: u64) -> State
+    ensures { λ r. ⌜ r ≡ atTime s time clocks ⌝ }
+{
+    let mode = s.mode;
+    State {
+        mark: s.mark,
+        opened: s.opened,
+        time: time,
+        clocks: clocks,
+        mode: mode,
+        inside: s.inside,
+    }
+}
+
+fn run_from(
+    text: &[u8],
+    places: &[usize],
+    pins: &[u8],
+    entries: usize,
+    singles: &[u64],
+    lists: &[u64],
+    guesses: &[usize],
+    scale: u64,
+    limit: u64,
+    out: &mut [u32],
+    from: Position,
+) -> Position
+    requires { ⌜ Tables (now text) (now places) (now pins) entries (now singles) (now lists) (now guesses) ⌝ }
+    requires { ⌜ (0 < scale) × (limit ≡ 18446744073709551615 / scale) ⌝ }
+    requires { ⌜ (from .state .mode ≡ Mode.Plain) × (from .state .inside ≡ false) ⌝ }
+    ensures { λ r. ⌜ (from .at ≤ r .at) × (pieces (find (variables (now (text .entry)) (now (places .entry)) (now (pins .entry)) 0 entries)) scale (r .state) 0 (r .count) (now (out .exit)) (tokens false (r .at) (drop (r .at) (now (text .entry)))) ≡ pieces (find (variables (now (text .entry)) (now (places .entry)) (now (pins .entry)) 0 entries)) scale (from .state) 0 (from .count) (now (out .entry)) (tokens false (from .at) (drop (from .at) (now (text .entry))))) ⌝ }
+{
+    let s = from.state;
+    let start = Run {
+        at: from.at,
+        count: from.count,
+        time: s.time,
+        clocks: s.clocks,
+    };
+    let run = run_tokens(
+        text,
+        places,
+        pins,
+        entries,
+        singles,
+        lists,
+        guesses,
+        scale,
+        limit,
+        out,
+        start,
+    );
+    let next = at_time(s, run.time, run.clocks);
+    Position {
+        at: run.at,
+        count: run.count,
+        state: next,
+    }
+}
+
+// The run of a position, where it may have one.
+fn pass_run(
+    text: &[u8],
+    places: &[usize],
+    pins: &[u8],
+    entries: usize,
+    singles: &[u64],
+    lists: &[u64],
+    guesses: &[usize],
+    scale: u64,
+    limit: u64,
+    done: u64,
+    out: &mut [u32],
+    from: Position,
+) -> Position
+    requires { ⌜ Tables (now text) (now places) (now pins) entries (now singles) (now lists) (now guesses) ⌝ }
+    requires { ⌜ (0 < scale → limit ≡ 18446744073709551615 / scale) ⌝ }
+    ensures { λ r. ⌜ (from .at ≤ r .at) × (pieces (find (variables (now (text .entry)) (now (places .entry)) (now (pins .entry)) 0 entries)) scale (r .state) done (r .count) (now (out .exit)) (tokens false (r .at) (drop (r .at) (now (text .entry)))) ≡ pieces (find (variables (now (text .entry)) (now (places .entry)) (now (pins .entry)) 0 entries)) scale (from .state) done (from .count) (now (out .entry)) (tokens false (from .at) (drop (from .at) (now (text .entry))))) ⌝ }
+{
+    if 0 < done {
+        return from;
+    }
+    if scale == 0 {
+        return from;
+    }
+    if is_plain(from.state) {
+        return run_from(
+            text,
+            places,
+            pins,
+            entries,
+            singles,
+            lists,
+            guesses,
+            scale,
+            limit,
+            out,
+            from,
+        );
+    }
+    from
+}
+
+// The greatest time in units that 64 bits hold in ps.
+fn limit_of(scale: u64) -> u64
+    ensures { λ r. ⌜ (0 < scale → r ≡ 18446744073709551615 / scale) ⌝ }
+{
+    if scale == 0 {
+        return 0;
+    }
+    u64::MAX / scale
+}
+
 // ---- the tokens one after the other
 
 fn close(count: usize, number: u8, place: usize) -> Piece
@@ -356,8 +836,30 @@ fn read_tokens(
     let mut done = from.done;
     let mut count = 0;
     let mut at = from.at;
+    let limit = limit_of(scale);
     while at < text.len() {
-        let p = vcd_text::skip_white(text, at);
+        let position = Position {
+            at: at,
+            count: count,
+            state: s,
+        };
+        let after = pass_run(
+            text,
+            places,
+            pins,
+            entries,
+            singles,
+            lists,
+            guesses,
+            scale,
+            limit,
+            done,
+            out,
+            position,
+        );
+        s = after.state;
+        count = after.count;
+        let p = vcd_text::skip_white(text, after.at);
         if p < text.len() {
             let e = vcd_text::word_end(text, p);
             let mode = s.mode;

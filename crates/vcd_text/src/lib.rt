@@ -4,8 +4,9 @@ ghost use Prim.Native.Nat.{_+_, _*_, _<_};
 ghost use lib.ListN.{drop};
 ghost use Rattle.vcd_text.specs.Token.{white as whiteOf, whiteLength, wordLength, sameBytes, graphic as graphicOf, allGraphic, endWord, numberOf, grownBy, longerBy, decimalOf};
 
-// Most bytes are above 32: that is tested first.
-fn white(b: u8) -> bool
+// The byte is white space. Most bytes are above 32: that is tested first.
+// Wrong answers: a tab taken for a byte of a word; a blank taken for one.
+pub fn white(b: u8) -> bool
     ensures { λ r. ⌜ r ≡ whiteOf b ⌝ }
 {
     if 32 < b {
