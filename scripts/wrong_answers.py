@@ -260,13 +260,14 @@ def main(arguments):
     out = pathlib.Path(arguments.pop(arguments.index("--write") + 1)) if "--write" in arguments else None
     wanted = [word for word in arguments if word != "--write"]
     kept = rows_of(out) if out and wanted else {}
-    rows, skipped, failed, now = [], 0, 0, {}
+    rows, skipped, failed, left, now = [], 0, 0, 0, {}
     for answer in answers():
         text = answer.edited()
         if text is None:
             skipped += 1
         elif wanted and answer.crate not in wanted and answer.title() not in wanted:
             rows += [kept[answer.row()]] if answer.row() in kept else []
+            left += answer.row() not in kept
         else:
             rows.append(answer)
             now.setdefault(answer.crate, []).append((answer, text))
@@ -279,7 +280,8 @@ def main(arguments):
                 rows[rows.index(answer)] = (*answer.row(), by or "NOTHING: it is to be replaced")
                 print(f"{answer.title()}: {by or 'NOTHING TELLS IT APART: ' + answer.words}", flush=True)
             if out:
-                out.write_text(report([row for row in rows if isinstance(row, tuple)], skipped))
+                done = [row for row in rows if isinstance(row, tuple)]
+                out.write_text(report(done, skipped, left + len(rows) - len(done)))
     print(f"wrong answers: {len(rows)} that edit code are run, {failed} of them now told apart by nothing; {skipped} edit a contract alone")
     sys.exit(1 if failed else 0)
 
@@ -291,8 +293,9 @@ def rows_of(page):
     return {(row[0], row[1]): tuple(row) for row in cells if len(row) == 3}
 
 
-def report(rows, skipped):
+def report(rows, skipped, left):
     told = sum(not by.startswith("NOTHING") for _, _, by in rows)
+    unrun = f" {left} were not run yet, and have no row." if left else ""
     lines = [
         "# Wrong answers that were run",
         "",
@@ -301,7 +304,7 @@ def report(rows, skipped):
         "`driver NAME` is `tests/drivers/NAME.txt`, `listings` are those of `crates/vectors/data` and one of generated words with the",
         "independent model's answers (generated.txt), and another name is the program `crates/NAME` over its file `stdin`.",
         "",
-        f"{told} of {len(rows)} differ. {skipped} more edit a contract alone, and have no code to run. Edits of definitions are not run: there a",
+        f"{told} of {len(rows)} differ.{unrun} {skipped} more edit a contract alone, and have no code to run. Edits of definitions are not run: there a",
         "theorem about the definition fails.",
         "",
         "| wrong answer | what it does | the run that differs |",
