@@ -93,7 +93,7 @@ if grep -q '^firmware_capi:' crates.txt; then
     target/cargo/release/firmware_compare
     rt staticlib capi > "$work/log" 2>&1 || { cat "$work/log"; exit 1; }
     cc -Wall -Wextra -Werror -Iinclude tests/firmware.c -o "$work/c" target/staticlib/libfirmware_capi.a target/staticlib/libcapi.a
-    "$work/c" < firmware/sort.rom
+    "$work/c" < images/sort.rom
 fi
 
 # what a host reads, as lines of sixteen bytes

@@ -10,8 +10,8 @@ words=80000
 
 # Some ten per cent above what docs/PERFORMANCE.md says.
 list_ceiling=100
-step_ceiling=930
-replay_ceiling=160
+step_ceiling=1010
+replay_ceiling=150
 
 rt staticlib capi > "$work/log" 2>&1 || { cat "$work/log"; exit 1; }
 rt check replay > "$work/log" 2>&1 || { cat "$work/log"; exit 1; }
