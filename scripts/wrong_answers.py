@@ -234,7 +234,7 @@ def runs(work):
     found.append(listings(work))
     for path in sorted(ROOT.glob("crates/*/src/main.rt")):
         crate = path.parent.parent
-        if crate.name != "vectors":
+        if crate.name != "vectors" and (crate / "stdin").is_file():
             found.append(Program(crate.name, crate.name, ["--stdin", str(crate / "stdin")], crate / "stdout"))
     return found
 
