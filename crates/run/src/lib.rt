@@ -82,7 +82,7 @@ fn run_all(c: Chip, words: &[u32], answers: &mut [u32]) -> Chip
 }
 
 // The list call at a state that is known to be well formed: it is not tested.
-// Wrong answers: 6 where there are fewer answer places than words; the chip as it was.
+// Wrong answers: 6 where there are fewer answer places than words; the first word alone carried out.
 pub fn advance_all(c: Chip, words: &[u32], answers: &mut [u32]) -> RunResult
     ensures { λ r. ⌜ (r ≡ advanceAll c (now (words .entry)) (now (answers .entry))) × (now (answers .exit) ≡ advanceAllAnswers c (now (words .entry)) (now (answers .entry))) ⌝ }
 {

@@ -49,7 +49,7 @@ pub fn advance_core(registers: &mut [u8; 38], c: Core, event: Decoded) -> CoreSt
 }
 
 // The same over a chip by value.
-// Wrong answers: the array of stored registers as it was; the core as it was.
+// Wrong answers: the core as it was; the state kept unmoved.
 pub fn advance(c: Chip, event: Decoded) -> Stepped
     ensures { λ r. ⌜ r ≡ advanceOf c event ⌝ }
 {
@@ -67,7 +67,7 @@ pub fn advance(c: Chip, event: Decoded) -> Stepped
 }
 
 // The step: the next chip and the answer word, for every state and word.
-// Wrong answers: an ill formed state answered 7; the word carried out at an ill formed state.
+// Wrong answers: an ill formed state answered 7; every event refused with 1, the state kept.
 pub fn step(c: Chip, word: u32) -> Stepped
     ensures { λ r. ⌜ r ≡ stepOf c word ⌝ }
 {
