@@ -81,7 +81,7 @@ pub fn follow(f: Followed, words: &[u32]) -> Followed
     while i < words.len() {
         let irqx = core.irqx;
         let mode = chip::mode_of(core);
-        let done = run::advance_word(&mut registers, core, words[i]);
+        let done = step::advance_word(&mut registers, core, words[i]);
         core = done.core;
         last = last_set::noted(last, place, irqx, mode, core);
         place = next_place(place);

@@ -1,18 +1,12 @@
 -- A list of words given to the chip (document 01, "Numbers given back" and "How tight each statement is").
 use Prim.Native.Nat.{ℕ}
 use mathlib.Core.List.{List, [], _∷_, _++_}
-use mathlib.Core.Bool.{false}
 use lib.Dec.{ltb}
 use lib.ListN.{length, drop}
 use Rattle.bits.specs.Byte.{pick}
 use Rattle.events.specs.Word.{decode}
-use Rattle.answers.specs.Answer.{answerWord}
-use Rattle.registers.specs.Names.{IEX}
-use Rattle.chip.specs.declared.Core.{Core}
 use Rattle.chip.specs.declared.Chip.{Chip}
-use Rattle.chip.specs.State.{registerAt, requested}
 use Rattle.well_formed.specs.WellFormed.{wellFormed}
-use Rattle.step.specs.declared.CoreStepped.{CoreStepped}
 use Rattle.step.specs.Step.{step, advance}
 use Rattle.run.specs.declared.RunResult.{RunResult}
 
@@ -35,11 +29,6 @@ advanced c (w ∷ ws) = advanced (advance c (decode w) .chip) ws
 abbrev pub advancedAnswers : Chip → List ℕ → List ℕ
 advancedAnswers c [] = []
 advancedAnswers c (w ∷ ws) = advance c (decode w) .answer ∷ advancedAnswers (advance c (decode w) .chip) ws
-
--- ---- a word that moves the core alone, and is answered with the request lines
-
-abbrev pub coreMoved : List ℕ → Core → CoreStepped
-coreMoved registers c = record { core = c; answer = answerWord 0 false (requested (c .irqx) (registerAt registers IEX)) 0 }
 
 -- ---- the list call
 

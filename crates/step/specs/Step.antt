@@ -1,11 +1,15 @@
 -- The step: the next chip and the answer to each event word (document 01, "Event words" and "Numbers given back").
 use Prim.Native.Nat.{ℕ}
+use mathlib.Core.List.{List}
+use mathlib.Core.Bool.{false}
 use Rattle.bits.specs.Byte.{pick}
 use Rattle.events.specs.declared.Decoded.{Decoded}
 use Rattle.events.specs.Word.{decode}
 use Rattle.answers.specs.Answer.{answerWord}
+use Rattle.registers.specs.Names.{IEX}
+use Rattle.chip.specs.declared.Core.{Core}
 use Rattle.chip.specs.declared.Chip.{Chip}
-use Rattle.chip.specs.State.{requests}
+use Rattle.chip.specs.State.{registerAt, requested, requests}
 use Rattle.well_formed.specs.WellFormed.{wellFormed}
 use Rattle.outcome.specs.Outcome.{next, numberGiven, byteGiven, watchdogReset}
 use Rattle.step.specs.declared.Stepped.{Stepped}
@@ -22,6 +26,10 @@ advance c e = record { chip = next c e; answer = answered c e }
 -- a step's result without the array of stored registers
 abbrev pub coreOf : Stepped → CoreStepped
 coreOf s = record { core = s .chip .core; answer = s .answer }
+
+-- what a word leaves that moves the core alone, and is answered with the request lines
+abbrev pub coreMoved : List ℕ → Core → CoreStepped
+coreMoved registers c = record { core = c; answer = answerWord 0 false (requested (c .irqx) (registerAt registers IEX)) 0 }
 
 -- the step, for every state and word: an ill formed state is told before anything else about the word
 unfoldable pub step : Chip → ℕ → Stepped

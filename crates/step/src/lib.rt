@@ -1,12 +1,23 @@
 // The step: the next chip and the answer to an event word.
 ghost use mathlib.Core.Path.{_≡_};
 ghost use Rattle.registers.specs.Names.{IEX};
+ghost use Rattle.events.specs.Word.{decode as decodeOf};
 ghost use Rattle.chip.specs.State.{chipOf, registerAt};
-ghost use Rattle.step.specs.Step.{advance as advanceOf, coreOf, step as stepOf};
+ghost use Rattle.step.specs.Step.{advance as advanceOf, coreOf, coreMoved, step as stepOf};
 use chip::Chip;
 use chip::Core;
 use events::Decoded;
+use events::HSYNCI;
+use events::PERIOD;
+use registers::BTCON;
 use registers::IEX;
+
+// The words of the commonest events: the levels of HSYNCI, and the clock of 8 µs.
+const HSYNCI_LOW: u32 = 0x0300_1a00;
+
+const HSYNCI_HIGH: u32 = 0x0300_1a01;
+
+const PERIOD_CLOCK: u32 = 0x0400_0000;
 
 // The chip after a word, and the answer word.
 pub struct Stepped {
@@ -48,7 +59,34 @@ pub fn advance_core(registers: &mut [u8; 38], c: Core, event: Decoded) -> CoreSt
     }
 }
 
-// The same over a chip by value.
+// What a word leaves that moves the core alone.
+fn core_moved(registers: &[u8; 38], c: Core) -> CoreStepped
+    ensures { λ r. ⌜ r ≡ coreMoved (now (registers .entry)) c ⌝ }
+{
+    CoreStepped {
+        core: c,
+        answer: answers::answer(0, false, chip::requested(c.irqx, enables(registers)), 0),
+    }
+}
+
+// The step over an event word, without the test of the state. The commonest events go straight to what they move; for every word the
+// step over what it decodes to gives the same.
+// Wrong answers: a rise of HSYNCI taken for a fall; the watchdog's clock for that of 8 µs.
+pub fn advance_word(registers: &mut [u8; 38], c: Core, word: u32) -> CoreStepped
+    ensures { λ r. ⌜ (r ≡ coreOf (advanceOf (chipOf (now (registers .entry)) c) (decodeOf word))) × (now (registers .exit) ≡ advanceOf (chipOf (now (registers .entry)) c) (decodeOf word) .chip .registers) ⌝ }
+{
+    match word {
+        HSYNCI_LOW => core_moved(registers, pins::pin_moved(c, HSYNCI, false)),
+        HSYNCI_HIGH => core_moved(registers, pins::pin_moved(c, HSYNCI, true)),
+        PERIOD_CLOCK => {
+            let btcon = chip::register_at(registers, BTCON);
+            core_moved(registers, clocks::clocked(btcon, c, PERIOD))
+        }
+        _ => advance_core(registers, c, events::decode(word)),
+    }
+}
+
+// The step over a decoded event, over a chip by value.
 // Wrong answers: the core as it was; the state kept unmoved.
 pub fn advance(c: Chip, event: Decoded) -> Stepped
     ensures { λ r. ⌜ r ≡ advanceOf c event ⌝ }

@@ -12,8 +12,7 @@ use Rattle.chip.specs.State.{chipOf, registerAt}
 use Rattle.pins.specs.Pins.{pinMoved}
 use Rattle.clocks.specs.Clocks.{clocked}
 use Rattle.outcome.specs.Outcome.{coreAfter, watchdogReset, wasReset, keptAfter, next, numberGiven, byteGiven}
-use Rattle.step.specs.Step.{advance, answered, coreOf}
-use Rattle.run.specs.Run.{coreMoved}
+use Rattle.step.specs.Step.{advance, answered, coreOf, coreMoved}
 
 module _ (registers : List ℕ) (c : Core) where
   pub hsynci : (level : Bool)

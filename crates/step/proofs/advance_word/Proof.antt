@@ -1,10 +1,10 @@
--- `run::advance_word` meets its contract.
+-- `step::advance_word` meets its contract.
 -- Assumes nothing.
 use mathlib.Core.Bool.{true, false}
-use Rattle.run.proofs.Words.{hsynci, period, hsynci-low, hsynci-high, period-clock}
+use Rattle.step.proofs.Words.{hsynci, period, hsynci-low, hsynci-high, period-clock}
 use borrow.Author.Needs.{needs}
-use Rattle.run.proofs.advance_word.Statement.{statement}
-use Rattle.run.proofs.advance_word.Tie as tie
+use Rattle.step.proofs.advance_word.Statement.{statement}
+use Rattle.step.proofs.advance_word.Tie as tie
 
 pub advance-word-spec : {M : Type 1} → statement M
 advance-word-spec =
