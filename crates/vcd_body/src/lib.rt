@@ -135,33 +135,33 @@ fn fill_lists(text: &[u8], places: &[usize], pins: &[u8], entries: usize, lists:
     }
 }
 
-// A guess is compared where it is used, so that any table is right.
-fn fill_guesses(text: &[u8], places: &[usize], guesses: &mut [usize])
-    requires { ⌜ length (now guesses) ≡ 256 ⌝ }
-    ensures { λ _. ⌜ length (now (guesses .exit)) ≡ 256 ⌝ }
+// The entry in a slot is compared with the code where it is used, so that any table is right.
+fn fill_slots(text: &[u8], places: &[usize], slots: &mut [usize])
+    requires { ⌜ length (now slots) ≡ 256 ⌝ }
+    ensures { λ _. ⌜ length (now (slots .exit)) ≡ 256 ⌝ }
 {
     let mut k: usize = 0;
     while k < 32 {
-        guesses[vcd_codes::guess_at(text, places, k)] = k;
+        slots[vcd_codes::hash_at(text, places, k)] = k;
         k += 1;
     }
 }
 
-fn guessed(
+fn by_hash(
     text: &[u8],
     places: &[usize],
     pins: &[u8],
     entries: usize,
     singles: &[u64],
     lists: &[u64],
-    guesses: &[usize],
+    slots: &[usize],
     code: &[u8],
 ) -> u64
-    requires { ⌜ Tables (now text) (now places) (now pins) entries (now singles) (now lists) (now guesses) ⌝ }
+    requires { ⌜ Tables (now text) (now places) (now pins) entries (now singles) (now lists) (now slots) ⌝ }
     ensures { λ r. ⌜ meant r ≡ find (variables (now (text .entry)) (now (places .entry)) (now (pins .entry)) 0 entries) (now (code .entry)) ⌝ }
 {
-    let h = vcd_codes::guess_of(code);
-    let k = guesses[h];
+    let h = vcd_codes::hash_of(code);
+    let k = slots[h];
     if k < 32 {
         if vcd_codes::is_code(text, places, k, code) {
             return lists[k];
@@ -177,16 +177,16 @@ fn found(
     entries: usize,
     singles: &[u64],
     lists: &[u64],
-    guesses: &[usize],
+    slots: &[usize],
     code: &[u8],
 ) -> u64
-    requires { ⌜ Tables (now text) (now places) (now pins) entries (now singles) (now lists) (now guesses) ⌝ }
+    requires { ⌜ Tables (now text) (now places) (now pins) entries (now singles) (now lists) (now slots) ⌝ }
     ensures { λ r. ⌜ meant r ≡ find (variables (now (text .entry)) (now (places .entry)) (now (pins .entry)) 0 entries) (now (code .entry)) ⌝ }
 {
     if code.len() == 1 {
         return singles[wide(code[0])];
     }
-    guessed(text, places, pins, entries, singles, lists, guesses, code)
+    by_hash(text, places, pins, entries, singles, lists, slots, code)
 }
 
 // ---- a token
@@ -200,10 +200,10 @@ fn scalar_code(
     entries: usize,
     singles: &[u64],
     lists: &[u64],
-    guesses: &[usize],
+    slots: &[usize],
     t: &[u8],
 ) -> u64
-    requires { ⌜ Tables (now text) (now places) (now pins) entries (now singles) (now lists) (now guesses) ⌝ }
+    requires { ⌜ Tables (now text) (now places) (now pins) entries (now singles) (now lists) (now slots) ⌝ }
     requires { ⌜ 0 < length (now t) ⌝ }
     ensures { λ r. ⌜ ((scale : ℕ) (s : State) (p : ℕ) → itemStep item (meant r) scale s p ≡ itemStep item (find (variables (now (text .entry)) (now (places .entry)) (now (pins .entry)) 0 entries) (drop 1 (now (t .entry)))) scale s p) ⌝ }
 {
@@ -215,7 +215,7 @@ fn scalar_code(
             entries,
             singles,
             lists,
-            guesses,
+            slots,
             &t[1..],
         ),
         Item::Value => 0,
@@ -234,13 +234,13 @@ fn plain(
     entries: usize,
     singles: &[u64],
     lists: &[u64],
-    guesses: &[usize],
+    slots: &[usize],
     scale: u64,
     s: State,
     t: &[u8],
     p: usize,
 ) -> Step
-    requires { ⌜ Tables (now text) (now places) (now pins) entries (now singles) (now lists) (now guesses) ⌝ }
+    requires { ⌜ Tables (now text) (now places) (now pins) entries (now singles) (now lists) (now slots) ⌝ }
     requires { ⌜ 0 < length (now t) ⌝ }
     ensures { λ r. ⌜ meaning scale p r ≡ tokenAs (find (variables (now (text .entry)) (now (places .entry)) (now (pins .entry)) 0 entries)) scale Mode.Plain s (now (t .entry)) p ⌝ }
 {
@@ -253,7 +253,7 @@ fn plain(
         entries,
         singles,
         lists,
-        guesses,
+        slots,
         t,
     );
     vcd_steps::step_item(item, code, scale, s, p)
@@ -268,13 +268,13 @@ fn token(
     entries: usize,
     singles: &[u64],
     lists: &[u64],
-    guesses: &[usize],
+    slots: &[usize],
     scale: u64,
     s: State,
     t: &[u8],
     p: usize,
 ) -> Step
-    requires { ⌜ Tables (now text) (now places) (now pins) entries (now singles) (now lists) (now guesses) ⌝ }
+    requires { ⌜ Tables (now text) (now places) (now pins) entries (now singles) (now lists) (now slots) ⌝ }
     requires { ⌜ 0 < length (now t) ⌝ }
     ensures { λ r. ⌜ meaning scale p r ≡ tokenAs (find (variables (now (text .entry)) (now (places .entry)) (now (pins .entry)) 0 entries)) scale mode s (now (t .entry)) p ⌝ }
 {
@@ -286,14 +286,14 @@ fn token(
             entries,
             singles,
             lists,
-            guesses,
+            slots,
             scale,
             s,
             t,
             p,
         ),
         Mode::Code => vcd_steps::step_code(
-            found(text, places, pins, entries, singles, lists, guesses, t),
+            found(text, places, pins, entries, singles, lists, slots, t),
             scale,
             s,
             p,
@@ -461,12 +461,12 @@ fn long_change(
     entries: usize,
     singles: &[u64],
     lists: &[u64],
-    guesses: &[usize],
+    slots: &[usize],
     out: &mut [u32],
     run: Run,
     p: usize,
 ) -> Run
-    requires { ⌜ Tables (now text) (now places) (now pins) entries (now singles) (now lists) (now guesses) ⌝ }
+    requires { ⌜ Tables (now text) (now places) (now pins) entries (now singles) (now lists) (now slots) ⌝ }
     requires { ⌜ (p < length (now text)) × (47 < getD (now text) p 0) × (getD (now text) p 0 < 50) ⌝ }
     ensures { λ r. ⌜ ((scale : ℕ) → p ≡ run .at + whiteLength (drop (run .at) (now (text .entry))) → Leads (find (variables (now (text .entry)) (now (places .entry)) (now (pins .entry)) 0 entries)) scale (now (text .entry)) run (now (out .entry)) r (now (out .exit))) ⌝ }
 {
@@ -478,7 +478,7 @@ fn long_change(
         entries,
         singles,
         lists,
-        guesses,
+        slots,
         &text[p + 1..e],
     );
     write_change(out, run, list, text[p], e)
@@ -537,12 +537,12 @@ fn short_change(
     entries: usize,
     singles: &[u64],
     lists: &[u64],
-    guesses: &[usize],
+    slots: &[usize],
     out: &mut [u32],
     run: Run,
     p: usize,
 ) -> Run
-    requires { ⌜ Tables (now text) (now places) (now pins) entries (now singles) (now lists) (now guesses) ⌝ }
+    requires { ⌜ Tables (now text) (now places) (now pins) entries (now singles) (now lists) (now slots) ⌝ }
     requires { ⌜ (p < length (now text)) × (47 < getD (now text) p 0) × (getD (now text) p 0 < 50) ⌝ }
     ensures { λ r. ⌜ ((scale : ℕ) → p ≡ run .at + whiteLength (drop (run .at) (now (text .entry))) → Leads (find (variables (now (text .entry)) (now (places .entry)) (now (pins .entry)) 0 entries)) scale (now (text .entry)) run (now (out .entry)) r (now (out .exit))) ⌝ }
 {
@@ -556,7 +556,7 @@ fn short_change(
         entries,
         singles,
         lists,
-        guesses,
+        slots,
         out,
         run,
         p,
@@ -571,13 +571,13 @@ fn run_token(
     entries: usize,
     singles: &[u64],
     lists: &[u64],
-    guesses: &[usize],
+    slots: &[usize],
     scale: u64,
     limit: u64,
     out: &mut [u32],
     run: Run,
 ) -> Run
-    requires { ⌜ Tables (now text) (now places) (now pins) entries (now singles) (now lists) (now guesses) ⌝ }
+    requires { ⌜ Tables (now text) (now places) (now pins) entries (now singles) (now lists) (now slots) ⌝ }
     requires { ⌜ (0 < scale) × (limit ≡ 18446744073709551615 / scale) ⌝ }
     requires { ⌜ run .at ≤ length (now text) ⌝ }
     ensures { λ r. ⌜ Leads (find (variables (now (text .entry)) (now (places .entry)) (now (pins .entry)) 0 entries)) scale (now (text .entry)) run (now (out .entry)) r (now (out .exit)) ⌝ }
@@ -595,7 +595,7 @@ fn run_token(
                 entries,
                 singles,
                 lists,
-                guesses,
+                slots,
                 out,
                 run,
                 p,
@@ -613,13 +613,13 @@ fn run_tokens(
     entries: usize,
     singles: &[u64],
     lists: &[u64],
-    guesses: &[usize],
+    slots: &[usize],
     scale: u64,
     limit: u64,
     out: &mut [u32],
     from: Run,
 ) -> Run
-    requires { ⌜ Tables (now text) (now places) (now pins) entries (now singles) (now lists) (now guesses) ⌝ }
+    requires { ⌜ Tables (now text) (now places) (now pins) entries (now singles) (now lists) (now slots) ⌝ }
     requires { ⌜ (0 < scale) × (limit ≡ 18446744073709551615 / scale) ⌝ }
     ensures { λ r. ⌜ Leads (find (variables (now (text .entry)) (now (places .entry)) (now (pins .entry)) 0 entries)) scale (now (text .entry)) from (now (out .entry)) r (now (out .exit)) ⌝ }
 {
@@ -632,7 +632,7 @@ fn run_tokens(
             entries,
             singles,
             lists,
-            guesses,
+            slots,
             scale,
             limit,
             out,
@@ -688,13 +688,13 @@ fn run_from(
     entries: usize,
     singles: &[u64],
     lists: &[u64],
-    guesses: &[usize],
+    slots: &[usize],
     scale: u64,
     limit: u64,
     out: &mut [u32],
     from: Position,
 ) -> Position
-    requires { ⌜ Tables (now text) (now places) (now pins) entries (now singles) (now lists) (now guesses) ⌝ }
+    requires { ⌜ Tables (now text) (now places) (now pins) entries (now singles) (now lists) (now slots) ⌝ }
     requires { ⌜ (0 < scale) × (limit ≡ 18446744073709551615 / scale) ⌝ }
     requires { ⌜ (from .state .mode ≡ Mode.Plain) × (from .state .inside ≡ false) ⌝ }
     ensures { λ r. ⌜ (from .at ≤ r .at) × (pieces (find (variables (now (text .entry)) (now (places .entry)) (now (pins .entry)) 0 entries)) scale (r .state) 0 (r .count) (now (out .exit)) (tokens false (r .at) (drop (r .at) (now (text .entry)))) ≡ pieces (find (variables (now (text .entry)) (now (places .entry)) (now (pins .entry)) 0 entries)) scale (from .state) 0 (from .count) (now (out .entry)) (tokens false (from .at) (drop (from .at) (now (text .entry))))) ⌝ }
@@ -713,7 +713,7 @@ fn run_from(
         entries,
         singles,
         lists,
-        guesses,
+        slots,
         scale,
         limit,
         out,
@@ -735,14 +735,14 @@ fn pass_run(
     entries: usize,
     singles: &[u64],
     lists: &[u64],
-    guesses: &[usize],
+    slots: &[usize],
     scale: u64,
     limit: u64,
     done: u64,
     out: &mut [u32],
     from: Position,
 ) -> Position
-    requires { ⌜ Tables (now text) (now places) (now pins) entries (now singles) (now lists) (now guesses) ⌝ }
+    requires { ⌜ Tables (now text) (now places) (now pins) entries (now singles) (now lists) (now slots) ⌝ }
     requires { ⌜ (0 < scale → limit ≡ 18446744073709551615 / scale) ⌝ }
     ensures { λ r. ⌜ (from .at ≤ r .at) × (pieces (find (variables (now (text .entry)) (now (places .entry)) (now (pins .entry)) 0 entries)) scale (r .state) done (r .count) (now (out .exit)) (tokens false (r .at) (drop (r .at) (now (text .entry)))) ≡ pieces (find (variables (now (text .entry)) (now (places .entry)) (now (pins .entry)) 0 entries)) scale (from .state) done (from .count) (now (out .entry)) (tokens false (from .at) (drop (from .at) (now (text .entry))))) ⌝ }
 {
@@ -760,7 +760,7 @@ fn pass_run(
             entries,
             singles,
             lists,
-            guesses,
+            slots,
             scale,
             limit,
             out,
@@ -824,12 +824,12 @@ fn read_tokens(
     entries: usize,
     singles: &[u64],
     lists: &[u64],
-    guesses: &[usize],
+    slots: &[usize],
     scale: u64,
     out: &mut [u32],
     from: Cursor,
 ) -> Piece
-    requires { ⌜ Tables (now text) (now places) (now pins) entries (now singles) (now lists) (now guesses) ⌝ }
+    requires { ⌜ Tables (now text) (now places) (now pins) entries (now singles) (now lists) (now slots) ⌝ }
     ensures { λ r. ⌜ answer (now (out .exit)) r ≡ pieces (find (variables (now (text .entry)) (now (places .entry)) (now (pins .entry)) 0 entries)) scale (from .state) (from .done) 0 (now (out .entry)) (tokens false (from .at) (drop (from .at) (now (text .entry)))) ⌝ }
 {
     let mut s = from.state;
@@ -850,7 +850,7 @@ fn read_tokens(
             entries,
             singles,
             lists,
-            guesses,
+            slots,
             scale,
             limit,
             done,
@@ -871,7 +871,7 @@ fn read_tokens(
                 entries,
                 singles,
                 lists,
-                guesses,
+                slots,
                 scale,
                 s,
                 &text[p..e],
@@ -916,8 +916,8 @@ pub fn read(
     fill_singles(text, places, pins, entries, &mut singles);
     let mut lists = [0u64; 32];
     fill_lists(text, places, pins, entries, &mut lists);
-    let mut guesses = [32usize; 256];
-    fill_guesses(text, places, &mut guesses);
+    let mut slots = [32usize; 256];
+    fill_slots(text, places, &mut slots);
     read_tokens(
         text,
         places,
@@ -925,7 +925,7 @@ pub fn read(
         entries,
         &singles,
         &lists,
-        &guesses,
+        &slots,
         scale,
         out,
         from,
