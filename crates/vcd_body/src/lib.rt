@@ -7,7 +7,7 @@ ghost use lib.ListN.{length, take, drop, getD};
 ghost use Rattle.vcd_text.specs.declared.Number.the-variants.{Of};
 ghost use Rattle.vcd_text.specs.Token.{tokens, whiteLength, wordLength, decimalOf};
 ghost use Rattle.vcd_codes.specs.Codes.{Found, variables, find, meant};
-ghost use Rattle.vcd_steps.specs.Steps.{itemStep, endsAs, meaning, atTime};
+ghost use Rattle.vcd_steps.specs.Steps.{itemStep, endsAs, meaning};
 ghost use Rattle.vcd_steps.specs.declared.State.{State};
 ghost use Rattle.vcd_body.specs.Trace.{tokenAs};
 ghost use Rattle.vcd_body.specs.Pieces.{start as startOf, answer, closed, paused, turned, turnBy, placed, pieces};
@@ -147,29 +147,7 @@ fn fill_slots(text: &[u8], places: &[usize], slots: &mut [usize])
     }
 }
 
-fn by_hash(
-    text: &[u8],
-    places: &[usize],
-    pins: &[u8],
-    entries: usize,
-    singles: &[u64],
-    lists: &[u64],
-    slots: &[usize],
-    code: &[u8],
-) -> u64
-    requires { ⌜ Tables (now text) (now places) (now pins) entries (now singles) (now lists) (now slots) ⌝ }
-    ensures { λ r. ⌜ meant r ≡ find (variables (now (text .entry)) (now (places .entry)) (now (pins .entry)) 0 entries) (now (code .entry)) ⌝ }
-{
-    let h = vcd_codes::hash_of(code);
-    let k = slots[h];
-    if k < 32 {
-        if vcd_codes::is_code(text, places, k, code) {
-            return lists[k];
-        }
-    }
-    vcd_codes::list_of(text, places, pins, entries, code)
-}
-
+// What a code stands for: of one byte by a table, of more by its hash, and by a search where the slot has another code.
 fn found(
     text: &[u8],
     places: &[usize],
@@ -186,7 +164,14 @@ fn found(
     if code.len() == 1 {
         return singles[wide(code[0])];
     }
-    by_hash(text, places, pins, entries, singles, lists, slots, code)
+    let h = vcd_codes::hash_of(code);
+    let k = slots[h];
+    if k < 32 {
+        if vcd_codes::is_code(text, places, k, code) {
+            return lists[k];
+        }
+    }
+    vcd_codes::list_of(text, places, pins, entries, code)
 }
 
 // ---- a token
@@ -208,16 +193,7 @@ fn scalar_code(
     ensures { λ r. ⌜ ((scale : ℕ) (s : State) (p : ℕ) → itemStep item (meant r) scale s p ≡ itemStep item (find (variables (now (text .entry)) (now (places .entry)) (now (pins .entry)) 0 entries) (drop 1 (now (t .entry)))) scale s p) ⌝ }
 {
     match item {
-        Item::Scalar(high) => found(
-            text,
-            places,
-            pins,
-            entries,
-            singles,
-            lists,
-            slots,
-            &t[1..],
-        ),
+        Item::Scalar(high) => found(text, places, pins, entries, singles, lists, slots, &t[1..]),
         Item::Value => 0,
         Item::Time(number) => 0,
         Item::Dump => 0,
@@ -225,38 +201,6 @@ fn scalar_code(
         Item::Comment => 0,
         Item::Bad => 0,
     }
-}
-
-fn plain(
-    text: &[u8],
-    places: &[usize],
-    pins: &[u8],
-    entries: usize,
-    singles: &[u64],
-    lists: &[u64],
-    slots: &[usize],
-    scale: u64,
-    s: State,
-    t: &[u8],
-    p: usize,
-) -> Step
-    requires { ⌜ Tables (now text) (now places) (now pins) entries (now singles) (now lists) (now slots) ⌝ }
-    requires { ⌜ 0 < length (now t) ⌝ }
-    ensures { λ r. ⌜ meaning scale p r ≡ tokenAs (find (variables (now (text .entry)) (now (places .entry)) (now (pins .entry)) 0 entries)) scale Mode.Plain s (now (t .entry)) p ⌝ }
-{
-    let item = vcd_items::item_of(t);
-    let code = scalar_code(
-        item,
-        text,
-        places,
-        pins,
-        entries,
-        singles,
-        lists,
-        slots,
-        t,
-    );
-    vcd_steps::step_item(item, code, scale, s, p)
 }
 
 // The token by what the reader waits for.
@@ -279,19 +223,11 @@ fn token(
     ensures { λ r. ⌜ meaning scale p r ≡ tokenAs (find (variables (now (text .entry)) (now (places .entry)) (now (pins .entry)) 0 entries)) scale mode s (now (t .entry)) p ⌝ }
 {
     match mode {
-        Mode::Plain => plain(
-            text,
-            places,
-            pins,
-            entries,
-            singles,
-            lists,
-            slots,
-            scale,
-            s,
-            t,
-            p,
-        ),
+        Mode::Plain => {
+            let item = vcd_items::item_of(t);
+            let code = scalar_code(item, text, places, pins, entries, singles, lists, slots, t);
+            vcd_steps::step_item(item, code, scale, s, p)
+        }
         Mode::Code => vcd_steps::step_code(
             found(text, places, pins, entries, singles, lists, slots, t),
             scale,
@@ -453,37 +389,6 @@ fn single_change(text: &[u8], singles: &[u64], out: &mut [u32], run: Run, p: usi
     write_change(out, run, singles[wide(b)], text[p], p + 2)
 }
 
-// A change of any other code.
-fn long_change(
-    text: &[u8],
-    places: &[usize],
-    pins: &[u8],
-    entries: usize,
-    singles: &[u64],
-    lists: &[u64],
-    slots: &[usize],
-    out: &mut [u32],
-    run: Run,
-    p: usize,
-) -> Run
-    requires { ⌜ Tables (now text) (now places) (now pins) entries (now singles) (now lists) (now slots) ⌝ }
-    requires { ⌜ (p < length (now text)) × (47 < getD (now text) p 0) × (getD (now text) p 0 < 50) ⌝ }
-    ensures { λ r. ⌜ ((scale : ℕ) → p ≡ run .at + whiteLength (drop (run .at) (now (text .entry))) → Leads (find (variables (now (text .entry)) (now (places .entry)) (now (pins .entry)) 0 entries)) scale (now (text .entry)) run (now (out .entry)) r (now (out .exit))) ⌝ }
-{
-    let e = vcd_text::word_end(text, p + 1);
-    let list = found(
-        text,
-        places,
-        pins,
-        entries,
-        singles,
-        lists,
-        slots,
-        &text[p + 1..e],
-    );
-    write_change(out, run, list, text[p], e)
-}
-
 fn has_room(room: usize, count: usize, n: u64) -> bool
     ensures { λ r. ⌜ (r ≡ true → 0 < n → count + n ≤ room) ⌝ }
 {
@@ -549,7 +454,8 @@ fn short_change(
     if is_single(text, p + 1) {
         return single_change(text, singles, out, run, p);
     }
-    long_change(
+    let e = vcd_text::word_end(text, p + 1);
+    let list = found(
         text,
         places,
         pins,
@@ -557,10 +463,9 @@ fn short_change(
         singles,
         lists,
         slots,
-        out,
-        run,
-        p,
-    )
+        &text[p + 1..e],
+    );
+    write_change(out, run, list, text[p], e)
 }
 
 // A token of the run, or none where the next is another.
@@ -667,20 +572,6 @@ fn is_plain(s: State) -> bool
     }
 }
 
-fn at_time(s: State, time: u64, clocks: u64) -> State
-    ensures { λ r. ⌜ r ≡ atTime s time clocks ⌝ }
-{
-    let mode = s.mode;
-    State {
-        mark: s.mark,
-        opened: s.opened,
-        time: time,
-        clocks: clocks,
-        mode: mode,
-        inside: s.inside,
-    }
-}
-
 fn run_from(
     text: &[u8],
     places: &[usize],
@@ -719,7 +610,9 @@ fn run_from(
         out,
         start,
     );
-    let next = at_time(s, run.time, run.clocks);
+    let mut next = s;
+    next.time = run.time;
+    next.clocks = run.clocks;
     Position {
         at: run.at,
         count: run.count,
