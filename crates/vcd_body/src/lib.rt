@@ -45,7 +45,7 @@ pub enum Turn {
 }
 
 // The cursor that begins.
-// Wrong answers: one inside a dump; one with a word done.
+// Wrong answers: one word done; a time of 1.
 pub fn start() -> Cursor
     ensures { λ r. ⌜ r ≡ startOf ⌝ }
 {
@@ -793,7 +793,7 @@ fn read_tokens(
 }
 
 // The body of a file, from a cursor on, into lent places.
-// Wrong answers: the place of the next token told; a word written past the places that are left.
+// Wrong answers: all clocks up to a time at each time; 42 for no room.
 pub fn read(
     text: &[u8],
     places: &[usize],
