@@ -6,9 +6,10 @@ cd "$(dirname "$0")/.."
 seed=${1:-1}
 work=$(mktemp -d)
 trap 'rm -rf "$work"' EXIT
+source scripts/library.sh
 bash scripts/check-instructions.sh
 rt check replay > "$work/log" || { cat "$work/log"; exit 1; }
-rt staticlib capi > "$work/log" || { cat "$work/log"; exit 1; }
+library capi
 ! [ -d target/cargo/release/deps ] || find target/cargo/release/deps -name 'bench-*' ! -newer target/staticlib/libcapi.a -delete
 cargo build --offline --quiet --release --features proved --bin bench --bin model
 model=target/cargo/release/model

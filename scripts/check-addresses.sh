@@ -6,9 +6,8 @@ set -euo pipefail
 cd "$(dirname "$0")/.."
 work=$(mktemp -d)
 trap 'rm -rf "$work"' EXIT
-for library in addresses_capi capi; do
-    rt staticlib "$library" > "$work/log" 2>&1 || { cat "$work/log"; exit 1; }
-done
+source scripts/library.sh
+library addresses_capi capi
 cargo test --offline --quiet --release --lib addresses > "$work/log" 2>&1 || { cat "$work/log"; exit 1; }
 cargo build --offline --quiet --release --features proved --bin addresses --bin addresses_compare
 target/cargo/release/addresses_compare

@@ -6,6 +6,7 @@ set -euo pipefail
 cd "$(dirname "$0")/.."
 work=$(mktemp -d)
 trap 'rm -rf "$work"' EXIT
+source scripts/library.sh
 cargo build --offline --quiet --release --bin model6862
 model=target/cargo/release/model6862
 program=./counters6862
@@ -48,7 +49,7 @@ sed -n 's/^    \([0-9]* 686[12] .*\)$/\1/p' README.md > "$work/example"
 [ -s "$work/example.sh" ] && [ -s "$work/example" ] || { echo "counters6862: no example in README.md"; exit 1; }
 bash "$work/example.sh" | cmp - "$work/example" || { echo "counters6862: the example of README.md differs"; exit 1; }
 
-rt staticlib sync6862_capi > "$work/log" 2>&1 || { cat "$work/log"; exit 1; }
+library sync6862_capi
 cc -std=c99 -Wall -Wextra -Werror -Iinclude -o "$work/c" tests/counters6862.c target/staticlib/libsync6862_capi.a
 "$work/c"
 cargo build --offline --quiet --release --features proved --bin calls6862

@@ -6,7 +6,8 @@ set -euo pipefail
 cd "$(dirname "$0")/.."
 work=$(mktemp -d)
 trap 'rm -rf "$work"' EXIT
-rt staticlib edid_capi > "$work/log" 2>&1 || { cat "$work/log"; exit 1; }
+source scripts/library.sh
+library edid_capi
 cargo test --offline --quiet --release --lib edid > "$work/log" 2>&1 || { cat "$work/log"; exit 1; }
 cargo build --offline --quiet --release --features proved --bin edid
 target/cargo/release/edid

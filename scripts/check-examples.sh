@@ -5,7 +5,8 @@ set -euo pipefail
 cd "$(dirname "$0")/.."
 work=$(mktemp -d)
 trap 'rm -rf "$work"' EXIT
-rt staticlib capi > "$work/log" 2>&1 || { cat "$work/log"; exit 1; }
+source scripts/library.sh
+library capi
 cc -std=c99 -Wall -Wextra -Werror -Iinclude -o "$work/chip" examples/chip.c target/staticlib/libcapi.a
 cc -shared -o "$work/libnt6861.so" -Wl,--whole-archive target/staticlib/libcapi.a -Wl,--no-whole-archive
 cargo build --offline --quiet --release --features proved --bin chip_example

@@ -9,6 +9,7 @@ set -euo pipefail
 cd "$(dirname "$0")/.."
 work=$(mktemp -d)
 trap 'rm -rf "$work"' EXIT
+source scripts/library.sh
 cargo build --offline --quiet --release --bin model
 model=target/cargo/release/model
 proved=''
@@ -88,10 +89,10 @@ same "$work/random.rom" 1 "$work/malformed"
 
 # the call for C, beside the same core
 if grep -q '^firmware_capi:' crates.txt; then
-    rt staticlib firmware_capi > "$work/log" 2>&1 || { cat "$work/log"; exit 1; }
+    library firmware_capi
     cargo build --offline --quiet --release --features proved,area --bin firmware_compare
     target/cargo/release/firmware_compare
-    rt staticlib capi > "$work/log" 2>&1 || { cat "$work/log"; exit 1; }
+    library capi
     cc -Wall -Wextra -Werror -Iinclude tests/firmware.c -o "$work/c" target/staticlib/libfirmware_capi.a target/staticlib/libcapi.a
     "$work/c" < images/sort.rom
 fi

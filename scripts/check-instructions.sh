@@ -6,6 +6,7 @@ cd "$(dirname "$0")/.."
 command -v valgrind > /dev/null || { echo "instructions: valgrind is not installed: nothing is counted"; exit 0; }
 work=$(mktemp -d)
 trap 'rm -rf "$work"' EXIT
+source scripts/library.sh
 words=80000
 
 # Some ten per cent above what docs/PERFORMANCE.md says.
@@ -13,7 +14,7 @@ list_ceiling=100
 step_ceiling=1010
 replay_ceiling=150
 
-rt staticlib capi > "$work/log" 2>&1 || { cat "$work/log"; exit 1; }
+library capi
 rt check replay > "$work/log" 2>&1 || { cat "$work/log"; exit 1; }
 # cargo does not see that a static library has changed
 ! [ -d target/cargo/release/deps ] || find target/cargo/release/deps -name 'bench-*' ! -newer target/staticlib/libcapi.a -delete

@@ -6,7 +6,8 @@ set -euo pipefail
 cd "$(dirname "$0")/.."
 work=$(mktemp -d)
 trap 'rm -rf "$work"' EXIT
-rt staticlib blocks_capi > "$work/log" 2>&1 || { cat "$work/log"; exit 1; }
+source scripts/library.sh
+library blocks_capi
 cargo build --offline --quiet --release --features proved --bin recordings --bin model
 ours=target/cargo/release/recordings
 model=target/cargo/release/model

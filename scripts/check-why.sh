@@ -5,9 +5,8 @@ set -euo pipefail
 cd "$(dirname "$0")/.."
 work=$(mktemp -d)
 trap 'rm -rf "$work"' EXIT
-for library in why_capi capi; do
-    rt staticlib "$library" > "$work/log" 2>&1 || { cat "$work/log"; exit 1; }
-done
+source scripts/library.sh
+library why_capi capi
 cargo build --offline --quiet --release --features proved --bin why_compare
 target/cargo/release/why_compare
 cargo build --offline --quiet --release --bin model

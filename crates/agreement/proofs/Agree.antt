@@ -32,7 +32,7 @@ use Rattle.events.specs.Pins.{SDA, SCL}
 use Rattle.plain_bus.specs.Plain.{lineOf, levelOf, lineAt, highAt, levelBefore, sclBefore, sdaBefore, Found, addresses, changesToStop}
 use Rattle.plain_bus.specs.Reading.{faultOf, orElse, firstFault}
 use Rattle.agreement.specs.Stepping.{eventOf, completedBy, Begins}
-use Rattle.agreement.proofs.Heard.{Kind, At, sdaKind, sclKind, at-sda, at-scl, Heard, quiet, heardNext, foundNext, stopsNext, foundIn, readIn, turn, last-turn, Few, end-found, end-reads}
+use Rattle.agreement.proofs.Sampled.{Kind, At, sdaKind, sclKind, at-sda, at-scl, Sampled, nothing, sampledNext, foundNext, stopsNext, foundIn, readIn, turn, last-turn, Few, end-found, end-reads}
 use Rattle.agreement.proofs.Follows.{idle, few, Follows, follows, completesCore, Moved, sda-follows, scl-follows, stop-completes}
 
 -- ---- a change with no fault
@@ -101,27 +101,27 @@ module _ (c : Chip) (w : wellFormed c ≡ true) (change : ℕ) where
 
 -- ---- from place to place
 
-sda-moved : {own : ℕ} {c : Core} {s x : Bool} {h : Heard} (l : Bool) → Follows own c s x h
-    → Moved own c (sdaMoved c l) s l (heardNext own (sdaKind s x l) h) (foundNext own (sdaKind s x l) h)
+sda-moved : {own : ℕ} {c : Core} {s x : Bool} {h : Sampled} (l : Bool) → Follows own c s x h
+    → Moved own c (sdaMoved c l) s l (sampledNext own (sdaKind s x l) h) (foundNext own (sdaKind s x l) h)
 sda-moved l (follows g s x y p k) = sda-follows g y k s x l p
 
-scl-moved : {own : ℕ} {c : Core} {s x : Bool} {h : Heard} (l : Bool) → Follows own c s x h → stopsNext (sclKind s x l) h ≡ false
-    → Moved own c (sclMoved c l) l x (heardNext own (sclKind s x l) h) (foundNext own (sclKind s x l) h)
+scl-moved : {own : ℕ} {c : Core} {s x : Bool} {h : Sampled} (l : Bool) → Follows own c s x h → stopsNext (sclKind s x l) h ≡ false
+    → Moved own c (sclMoved c l) l x (sampledNext own (sclKind s x l) h) (foundNext own (sclKind s x l) h)
 scl-moved l (follows g s x y p k) e = scl-follows g x y k s l p e
 
-follows-few : {own : ℕ} {c : Core} {s x : Bool} {h : Heard} → Follows own c s x h → Few h
+follows-few : {own : ℕ} {c : Core} {s x : Bool} {h : Sampled} → Follows own c s x h → Few h
 follows-few (follows g s x y p k) = few p
 
-stop-none : {own : ℕ} {c : Core} {s x : Bool} {h : Heard} → Follows own c s x h → (k : Kind) → stopsNext k h ≡ true → (d : Core) → [] ≡ completesCore c d
+stop-none : {own : ℕ} {c : Core} {s x : Bool} {h : Sampled} → Follows own c s x h → (k : Kind) → stopsNext k h ≡ true → (d : Core) → [] ≡ completesCore c d
 stop-none (follows g s x y p j) k e d = rw (stop-completes p k e)
 
 -- the chip after a change at place i follows the list before place i + 1
-abbrev Goes : ℕ → List ℕ → ℕ → Chip → Kind → Heard → Type 0
+abbrev Goes : ℕ → List ℕ → ℕ → Chip → Kind → Sampled → Type 0
 Goes own cs i c k h =
     stopsNext k h ≡ false
-    → Moved own (c .core) (step c (eventOf (getD cs i 0)) .chip .core) (sclBefore cs (suc i)) (sdaBefore cs (suc i)) (heardNext own k h) (foundNext own k h)
+    → Moved own (c .core) (step c (eventOf (getD cs i 0)) .chip .core) (sclBefore cs (suc i)) (sdaBefore cs (suc i)) (sampledNext own k h) (foundNext own k h)
 
-module _ (own : ℕ) (cs : List ℕ) (i : ℕ) (c : Chip) (w : wellFormed c ≡ true) {h : Heard} (f : Follows own (c .core) (sclBefore cs i) (sdaBefore cs i) h) where
+module _ (own : ℕ) (cs : List ℕ) (i : ℕ) (c : Chip) (w : wellFormed c ≡ true) {h : Sampled} (f : Follows own (c .core) (sclBefore cs i) (sdaBefore cs i) h) where
   goes-sda : lineAt cs i ≡ SDA → levelOf (getD cs i 0) < 2 → Goes own cs i c (sdaKind (sclBefore cs i) (sdaBefore cs i) (highAt cs i)) h
   unfolding levelBefore
   goes-sda e l s = rw (step-sda c w (getD cs i 0) e l, e) (sda-moved (highAt cs i) f)
@@ -132,7 +132,7 @@ module _ (own : ℕ) (cs : List ℕ) (i : ℕ) (c : Chip) (w : wellFormed c ≡ 
 
 -- ---- the list
 
-pub record Agrees (own : ℕ) (cs : List ℕ) (i n : ℕ) (c : Chip) (h : Heard) : Type 0 where
+pub record Agrees (own : ℕ) (cs : List ℕ) (i n : ℕ) (c : Chip) (h : Sampled) : Type 0 where
   pub within : i ≤ readIn own cs i n h
   pub same : foundIn own cs i n h ≡ completedBy c (take (readIn own cs i n h - i) (drop i cs))
 
@@ -142,10 +142,10 @@ taken cs i m h l =
     let e : m - i ≡ suc (m - suc i) = omega arith in
     rw (e, drop-cons cs i 0 h)
 
-module _ (own : ℕ) (cs : List ℕ) (i n : ℕ) (c : Chip) {h : Heard} (m : length cs ≡ i + suc n) (f : Follows own (c .core) (sclBefore cs i) (sdaBefore cs i) h) where
+module _ (own : ℕ) (cs : List ℕ) (i n : ℕ) (c : Chip) {h : Sampled} (m : length cs ≡ i + suc n) (f : Follows own (c .core) (sclBefore cs i) (sdaBefore cs i) h) where
   agrees-by : (k : Kind) → At cs i k → Goes own cs i c k h → (t : Bool) → stopsNext k h ≡ t
-      → (Follows own (step c (eventOf (getD cs i 0)) .chip .core) (sclBefore cs (suc i)) (sdaBefore cs (suc i)) (heardNext own k h)
-      → Agrees own cs (suc i) n (step c (eventOf (getD cs i 0)) .chip) (heardNext own k h))
+      → (Follows own (step c (eventOf (getD cs i 0)) .chip .core) (sclBefore cs (suc i)) (sdaBefore cs (suc i)) (sampledNext own k h)
+      → Agrees own cs (suc i) n (step c (eventOf (getD cs i 0)) .chip) (sampledNext own k h))
       → Agrees own cs i (suc n) c h
   agrees-by k a go true s rest =
       let last = last-turn own cs i n h a s in
@@ -165,18 +165,18 @@ module _ (own : ℕ) (cs : List ℕ) (i n : ℕ) (c : Chip) {h : Heard} (m : len
         same =
             place .same
             ∙ ap₂ (λ (a b : List Found). a ++ b) (moved .same) (later .same)
-            ∙ rw (place .reads, taken cs i (readIn own cs (suc i) n (heardNext own k h)) (omega arith) (later .within));
+            ∙ rw (place .reads, taken cs i (readIn own cs (suc i) n (sampledNext own k h)) (omega arith) (later .within));
       }
 
-  -- for either line, what is heard next being told by the change
+  -- for either line, what is sampled next being told by the change
   agrees-good : wellFormed c ≡ true → Good (getD cs i 0)
-      → ((later : Heard) → Follows own (step c (eventOf (getD cs i 0)) .chip .core) (sclBefore cs (suc i)) (sdaBefore cs (suc i)) later
+      → ((later : Sampled) → Follows own (step c (eventOf (getD cs i 0)) .chip .core) (sclBefore cs (suc i)) (sdaBefore cs (suc i)) later
       → Agrees own cs (suc i) n (step c (eventOf (getD cs i 0)) .chip) later)
       → Agrees own cs i (suc n) c h
   agrees-good w (on-sda e l) rest = agrees-by _ (at-sda cs i e) (goes-sda own cs i c w f e l) _ refl (rest _)
   agrees-good w (on-scl e l) rest = agrees-by _ (at-scl cs i e) (goes-scl own cs i c w f e l) _ refl (rest _)
 
-agrees : (own : ℕ) (cs : List ℕ) (n i : ℕ) (c : Chip) (h : Heard) → length cs ≡ i + n → wellFormed c ≡ true → firstFault (drop i cs) ≡ NoFault
+agrees : (own : ℕ) (cs : List ℕ) (n i : ℕ) (c : Chip) (h : Sampled) → length cs ≡ i + n → wellFormed c ≡ true → firstFault (drop i cs) ≡ NoFault
     → Follows own (c .core) (sclBefore cs i) (sdaBefore cs i) h → Agrees own cs i n c h
 agrees own cs zero i c h m w g f =
     let ends = end-reads own cs i h (follows-few f) in
@@ -190,12 +190,12 @@ agrees own cs (suc n) i c h m w g f =
 -- ---- the first place
 
 first-by : {own : ℕ} (c : Chip) (q : Phase) (s x z : Bool) → Begins own c → q ≡ Idle → s ≡ true → x ≡ true → z ≡ true
-    → Follows own (frame (c .core) z s x q (c .core .bus .iidat)) true true quiet
+    → Follows own (frame (c .core) z s x q (c .core .bus .iidat)) true true nothing
 first-by c q s x z b e h i j =
     rw (e, h, i, j)
     (follows (c .core) true true (c .core .bus .iidat) (idle true) (record { ddc2b = b .ddc2b; address-bits = b .address; flags = flags-lt c (b .well) }))
 
-first : {own : ℕ} (c : Chip) → Begins own c → Follows own (c .core) true true quiet
+first : {own : ℕ} (c : Chip) → Begins own c → Follows own (c .core) true true nothing
 first c b = first-by c (c .core .bus .phase) (c .core .scl) (c .core .sda) (c .core .reset) b (b .idle) (b .scl-high) (b .sda-high) (b .reset-high)
 
 -- the addresses that the plain reading lists, their order and their outcomes are those that the stepping engine completes, up to the stop
@@ -203,6 +203,6 @@ pub agree : (own : ℕ) (c : Chip) → Begins own c → (cs : List ℕ) → firs
     → addresses own cs ≡ completedBy c (take (changesToStop own cs) cs)
 unfolding levelBefore
 agree own c b cs g =
-    let all = agrees own cs (length cs) 0 c quiet (omega arith) (b .well) g (first c b) in
+    let all = agrees own cs (length cs) 0 c nothing (omega arith) (b .well) g (first c b) in
     let whole : changesToStop own cs - 0 ≡ changesToStop own cs = omega arith in
     all .same ∙ ap (λ (m : ℕ). completedBy c (take m cs)) whole

@@ -1,4 +1,4 @@
--- The chip's phase by what is heard in the list (document 01, "The bus").
+-- The chip's phase by what is sampled of the list (document 01, "The bus").
 -- Assumes nothing.
 use Prim.Native.Nat.{ℕ, suc, _+_, _*_, _^_, _<_}
 use mathlib.Core.Path.{_≡_, refl, ap, sym, _∙_}
@@ -31,7 +31,7 @@ use Rattle.isolation.proofs.Related.{frame, KeptBy, enddc-low, kept-status, kep
 use Rattle.isolation.proofs.Pins.{start-enddc, stop-enddc, unmoved-at-low}
 use Rattle.plain_bus.specs.Plain.{appended, byteOf, Found, found}
 use Rattle.agreement.specs.Stepping.{lacksOne, told, toldBy}
-use Rattle.agreement.proofs.Heard.{Kind, start, stop, rise, other, sdaKind, sclKind, Heard, quiet, since, ours, Few, isOurs, heardEight, heardRise, heardNext, foundRise, foundNext, stopsRise, stopsNext}
+use Rattle.agreement.proofs.Sampled.{Kind, start, stop, rise, other, sdaKind, sclKind, Sampled, nothing, since, ours, Few, isOurs, sampledEight, sampledRise, sampledNext, foundRise, foundNext, stopsRise, stopsNext}
 
 -- ---- the byte of levels
 
@@ -54,16 +54,16 @@ gathered-level ls x h =
     let small : byteOf ls < 128 = omega (arith, rw e at (appended-lt 0 0 ls (omega arith)), pow-mono {i = length ls} {j = 7} (omega (arith, ltb-true (length ls) 8 h))) in
     ap (λ (n : ℕ). n * 2 + num x) (mod-eq-of-lt small) ∙ sym (appended-last 0 ls x)
 
--- ---- the phase by SCL's level and what is heard
+-- ---- the phase by SCL's level and what is sampled
 
-pub data Phased : Bool → Phase → Heard → Type 0 where
-  idle : (s : Bool) → Phased s Idle quiet
-  ignores : (s : Bool) → Phased s Ignoring quiet
+pub data Phased : Bool → Phase → Sampled → Type 0 where
+  idle : (s : Bool) → Phased s Idle nothing
+  ignores : (s : Bool) → Phased s Ignoring nothing
   gathers : (s : Bool) (ls : List Bool) → ltb (length ls) 8 ≡ true → Phased s (Address (length ls) (byteOf ls)) (since ls)
   waits : (matched : OwnAddress) (byte : ℕ) → Phased true (Addressed matched byte false) ours
   pulls : (matched : OwnAddress) (byte : ℕ) → Phased false (Addressed matched byte true) ours
 
-pub few : {s : Bool} {q : Phase} {h : Heard} → Phased s q h → Few h
+pub few : {s : Bool} {q : Phase} {h : Sampled} → Phased s q h → Few h
 few (idle s) = tt
 few (ignores s) = tt
 few (gathers s ls f) = f
@@ -71,21 +71,21 @@ few (waits matched byte) = tt
 few (pulls matched byte) = tt
 
 -- a core that follows the list, with RESET high
-pub data Follows (own : ℕ) : Core → Bool → Bool → Heard → Type 0 where
-  follows : (g : Core) (s x : Bool) (y : ℕ) {q : Phase} {h : Heard} → Phased s q h → KeptBy g own → Follows own (frame g true s x q y) s x h
+pub data Follows (own : ℕ) : Core → Bool → Bool → Sampled → Type 0 where
+  follows : (g : Core) (s x : Bool) (y : ℕ) {q : Phase} {h : Sampled} → Phased s q h → KeptBy g own → Follows own (frame g true s x q y) s x h
 
 -- what a step from one core to another completes
 abbrev pub completesCore : Core → Core → List Found
 completesCore c d = pick (lacksOne (c .bus .phase)) (toldBy (bit INTA (d .irqx)) (d .bus .phase) (d .bus .iidat)) []
 
 -- a change, and what is completed by it
-pub record Moved (own : ℕ) (c d : Core) (s x : Bool) (h : Heard) (fs : List Found) : Type 0 where
+pub record Moved (own : ℕ) (c d : Core) (s x : Bool) (h : Sampled) (fs : List Found) : Type 0 where
   pub core : Follows own d s x h
   pub same : fs ≡ completesCore c d
 
 -- ---- what the phases do to the lines
 
-scl-free : {s : Bool} {q : Phase} {h : Heard} → Phased s q h → pullsScl q ≡ false
+scl-free : {s : Bool} {q : Phase} {h : Sampled} → Phased s q h → pullsScl q ≡ false
 unfolding pullsScl
 scl-free (idle s) = refl
 scl-free (ignores s) = refl
@@ -93,7 +93,7 @@ scl-free (gathers s ls f) = refl
 scl-free (waits matched byte) = refl
 scl-free (pulls matched byte) = refl
 
-sda-free : {q : Phase} {h : Heard} → Phased true q h → pullsSda q ≡ false
+sda-free : {q : Phase} {h : Sampled} → Phased true q h → pullsSda q ≡ false
 unfolding pullsSda
 sda-free (idle s) = refl
 sda-free (ignores s) = refl
@@ -106,7 +106,7 @@ pick-none : (t : Bool) → _≡_ {A = List Found} [] (pick t [] [])
 pick-none true = refl
 pick-none false = refl
 
-stays : {s : Bool} {q : Phase} {h : Heard} → Phased s q h → (flag : Bool) (y : ℕ) → [] ≡ pick (lacksOne q) (toldBy flag q y) []
+stays : {s : Bool} {q : Phase} {h : Sampled} → Phased s q h → (flag : Bool) (y : ℕ) → [] ≡ pick (lacksOne q) (toldBy flag q y) []
 stays (idle s) flag y = refl
 stays (ignores s) flag y = refl
 stays (gathers s ls f) flag y = pick-none (eqb (length ls) 7)
@@ -116,8 +116,8 @@ stays (pulls matched byte) flag y = refl
 -- ---- SDA
 
 module _ {own : ℕ} (g : Core) (y : ℕ) (k : KeptBy g own) where
-  pub sda-follows : (s x l : Bool) {q : Phase} {h : Heard} → Phased s q h
-      → Moved own (frame g true s x q y) (sdaMoved (frame g true s x q y) l) s l (heardNext own (sdaKind s x l) h) (foundNext own (sdaKind s x l) h)
+  pub sda-follows : (s x l : Bool) {q : Phase} {h : Sampled} → Phased s q h
+      → Moved own (frame g true s x q y) (sdaMoved (frame g true s x q y) l) s l (sampledNext own (sdaKind s x l) h) (foundNext own (sdaKind s x l) h)
   unfolding sdaMoved onSda onSdaDdc2b sdaPulled sclPulled started stopped
   sda-follows false x l p = rw (k .ddc2b, scl-free p, unmoved-at-low) (record { core = follows g false l y p k; same = stays p _ y })
   sda-follows true true true p = rw (k .ddc2b, scl-free p, sda-free p) (record { core = follows g true true y p k; same = stays p _ y })
@@ -156,7 +156,7 @@ flag-raised : (irqx : ℕ) → bit INTA (bitOr irqx 0x08) ≡ true
 flag-raised irqx = rw (bit-or, eight-flag, or-true)
 
 module _ {own : ℕ} (g : Core) (x : Bool) (y : ℕ) (k : KeptBy g own) where
-  fall-follows : {q : Phase} {h : Heard} → Phased true q h → Moved own (frame g true true x q y) (sclFall (frame g true false x q y)) false x h []
+  fall-follows : {q : Phase} {h : Sampled} → Phased true q h → Moved own (frame g true true x q y) (sclFall (frame g true false x q y)) false x h []
   unfolding sclFall holdsAtFall phaseAtFall
   fall-follows (idle s) = record { core = follows (raised g 0x20) false x y (idle false) (kept-raised 0x20 (omega arith) k); same = refl }
   fall-follows (ignores s) = record { core = follows (raised g 0x20) false x y (ignores false) (kept-raised 0x20 (omega arith) k); same = refl }
@@ -182,7 +182,7 @@ module _ {own : ℕ} (g : Core) (x : Bool) (y : ℕ) (k : KeptBy g own) where
   -- the eighth bit, by the outcome of the comparison
   gather-last : (ls : List Bool) (f : ltb (length ls) 8 ≡ true) → eqb (length ls) 7 ≡ true → (outcome : Comparison) → compared own (byteOf (ls ++ (x ∷ []))) ≡ outcome
       → Moved own (frame g true false x (Address (length ls) (byteOf ls)) y) (sclRise (frame g true true x (Address (length ls) (byteOf ls)) y)) true x
-      (heardEight (isOwn outcome)) (told (byteOf (ls ++ (x ∷ []))) outcome ∷ [])
+      (sampledEight (isOwn outcome)) (told (byteOf (ls ++ (x ∷ []))) outcome ∷ [])
   unfolding sclRise busAtRise phaseAtRise dataAtRise matchesAtRise statusAtRise pullsSda
   gather-last ls f l None m =
       rw (eqb-true (length ls) 7 l, gathered-level ls x f, ← own-matches (g .bus .iiadr) (byteOf (ls ++ (x ∷ []))), compared-by-bits (g .bus .iiadr) own (byteOf (ls ++ (x ∷ []))) (k .address-bits), m)
@@ -193,21 +193,21 @@ module _ {own : ℕ} (g : Core) (x : Bool) (y : ℕ) (k : KeptBy g own) where
 
   gather-follows : (ls : List Bool) (f : ltb (length ls) 8 ≡ true) (last : Bool) → eqb (length ls) 7 ≡ last
       → Moved own (frame g true false x (Address (length ls) (byteOf ls)) y) (sclRise (frame g true true x (Address (length ls) (byteOf ls)) y)) true x
-      (pick last (heardEight (isOurs own (byteOf (ls ++ (x ∷ []))))) (since (ls ++ (x ∷ []))))
+      (pick last (sampledEight (isOurs own (byteOf (ls ++ (x ∷ []))))) (since (ls ++ (x ∷ []))))
       (pick last (found own (byteOf (ls ++ (x ∷ []))) ∷ []) [])
   gather-follows ls f false l = gather-more ls f l
   gather-follows ls f true l = gather-last ls f l (compared own (byteOf (ls ++ (x ∷ [])))) refl
 
-  rise-follows : {q : Phase} {h : Heard} → Phased false q h → stopsRise h ≡ false
-      → Moved own (frame g true false x q y) (sclRise (frame g true true x q y)) true x (heardRise own x h) (foundRise own x h)
+  rise-follows : {q : Phase} {h : Sampled} → Phased false q h → stopsRise h ≡ false
+      → Moved own (frame g true false x q y) (sclRise (frame g true true x q y)) true x (sampledRise own x h) (foundRise own x h)
   unfolding sclRise busAtRise phaseAtRise dataAtRise matchesAtRise statusAtRise
   rise-follows (idle s) e = record { core = follows (raised g 0) true x y (idle true) (kept-raised 0 (omega arith) k); same = refl }
   rise-follows (ignores s) e = record { core = follows (raised g 0) true x y (ignores true) (kept-raised 0 (omega arith) k); same = refl }
   rise-follows (gathers s ls f) e = gather-follows ls f (eqb (length ls) 7) refl
   rise-follows (pulls matched byte) e = absurd (true≢false e)
 
-  pub scl-follows : (s l : Bool) {q : Phase} {h : Heard} → Phased s q h → stopsNext (sclKind s x l) h ≡ false
-      → Moved own (frame g true s x q y) (sclMoved (frame g true s x q y) l) l x (heardNext own (sclKind s x l) h) (foundNext own (sclKind s x l) h)
+  pub scl-follows : (s l : Bool) {q : Phase} {h : Sampled} → Phased s q h → stopsNext (sclKind s x l) h ≡ false
+      → Moved own (frame g true s x q y) (sclMoved (frame g true s x q y) l) l x (sampledNext own (sclKind s x l) h) (foundNext own (sclKind s x l) h)
   unfolding sclMoved onScl onSclDdc2b sclPulled
   scl-follows true true p e = rw (k .ddc2b, scl-free p) (record { core = follows g true x y p k; same = stays p _ y })
   scl-follows false false p e = rw (k .ddc2b, scl-free p) (record { core = follows g false x y p k; same = stays p _ y })
@@ -215,7 +215,7 @@ module _ {own : ℕ} (g : Core) (x : Bool) (y : ℕ) (k : KeptBy g own) where
   scl-follows false true p e = rw (k .ddc2b, scl-free p) (rise-follows p e)
 
 -- at the stop nothing is completed
-pub stop-completes : {s : Bool} {q : Phase} {h : Heard} → Phased s q h → (i : Kind) → stopsNext i h ≡ true → lacksOne q ≡ false
+pub stop-completes : {s : Bool} {q : Phase} {h : Sampled} → Phased s q h → (i : Kind) → stopsNext i h ≡ true → lacksOne q ≡ false
 stop-completes p start e = absurd (true≢false (sym e))
 stop-completes p stop e = absurd (true≢false (sym e))
 stop-completes p other e = absurd (true≢false (sym e))

@@ -1,5 +1,5 @@
--- A recording replayed: the list call on all words joined, a bad block's number behind the answers of the blocks before it, and
--- a recording in parts.
+-- A recording replayed: one list call on the words of all its blocks, the number of a bad block behind the answers of those before
+-- it, and a recording in parts.
 -- Assumes nothing.
 use mathlib.Core.Path.{_≡_, refl, sym, ap, ap₂, _∙_}
 use mathlib.Core.Bool.{Bool, true, false}

@@ -26,8 +26,8 @@ pub extern "C" fn nt6861_read_block(
     }
 }
 
-// Writes the block of this number with these words to an area of 512 bytes and returns 0; or returns 16 for more than 126 words,
-// then 17 for an area of another length, and writes nothing.
+// Writes the block of this number with these words to an area of 512 bytes and returns 0; or writes nothing and returns 16 where
+// the words are more than 126, else 17 where the area has another length.
 // Wrong answers: the area as it was, whatever is returned; 0 for an area of any length.
 #[no_mangle]
 pub extern "C" fn nt6861_write_block(number: u16, words: &[u32], area: &mut [u8]) -> u8

@@ -106,8 +106,8 @@ abbrev pub isOwn : Comparison → Bool
 isOwn None = false
 isOwn (Own matched) = true
 
--- the outcome that the state keeps for the current transfer (document 02, Wish 12): none outside an address of eight bits, receive,
--- transmit and held, one of the three inside. No state can be written that keeps another
+-- the outcome of the transfer that is going on, as its phase keeps it (document 02, Wish 12): one of the three from the eighth bit of
+-- an address of the chip's on, and none in every other phase. No state can be written that keeps another
 unfoldable pub comparedIn : Phase → Comparison
 comparedIn Idle = None
 comparedIn (Address count bits) = None

@@ -59,7 +59,7 @@ fn print_malformed(line: u64) -> bool {
 
 fn print_event(event: Event, line: u64, n: [u16; 12]) -> bool {
     match event {
-        Event::Quiet => true,
+        Event::Nothing => true,
         Event::Answer(number) => print_answer(number, n) & print(b"\n"),
         Event::Report(number, rate) => {
             print_answer(number, n) & print(b" ") & print_report(rate) & print(b"\n")

@@ -138,7 +138,7 @@ fn scl_moved_in_ddc2b(c: Core, level: bool) -> Core
 }
 
 // SCL's outside level is put. An edge is one of the line: while the chip holds SCL there is none.
-// Wrong answers: an outside fall taken for an edge while SCL is held; D set by each fall, for S.
+// Wrong answers: an outside fall taken for an edge while SCL is held; the address compared with II DAT for II ADR.
 pub fn scl_moved(c: Core, level: bool) -> Core
     ensures { λ r. ⌜ r ≡ sclMoved c level ⌝ }
 {

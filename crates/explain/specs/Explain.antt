@@ -37,8 +37,8 @@ lastSet s c (w ∷ ws) place =
     later (lastSet s (advance c (decode w) .chip) ws (place + 1))
     (noted s place (c .core .irqx) (modeOf (c .core)) (advance c (decode w) .chip .core) Never)
 
--- the first of the three that holds: the line is not up; no word set the flag, so that it was set at the start and never cleared;
--- or the last word that set it
+-- the first of the three that holds: the line is not up; no word set the flag, so that it stands since the start; or the last word
+-- that set it
 unfoldable pub reasonBy : Bool → Last → Reason
 reasonBy false last = NotRequested
 reasonBy true Never = AlreadySet

@@ -12,8 +12,8 @@ use registers::INTR;
 use registers::INTS;
 use registers::INTV;
 
-// Why a source's line is as it is: it is not up; its flag was set at the start and never cleared; or the place of the event that last
-// set the flag, and the event's sort.
+// Why a source's line is as it is: it is not up; its flag stands since the start; or which event last set the flag, by its place and
+// its sort.
 pub enum Reason {
     NotRequested,
     AlreadySet,

@@ -27,7 +27,7 @@ use Rattle.pins.proofs.Numbers.{numbered}
 use Rattle.ddc2b.specs.Ddc2b.{phaseAtPeriod}
 use Rattle.clocks.specs.Clocks.{periodClock, timerRuns, timerStep, timerClock, watchdogClock, clockedAs, clocked, polarityFound}
 use Rattle.outcome.specs.Outcome.{coreAfter, keptAfter, next}
-use Rattle.feeding.specs.Observer.{Observer, vsynciOf, watchdogOf, observeAccepted, spoils, observe, permitted, throughout}
+use Rattle.feeding.specs.Observer.{Observer, vsynciOf, watchdogOf, observeAccepted, forbiddenWrite, observe, permitted, throughout}
 use Rattle.feeding.specs.Levels.{bytesWritten, shows, sdaPut, Level, level, byShifts, serial}
 use Rattle.feeding.proofs.Tracks.{frame, observer, seen, ModeOf, Stage, Pending, Tracks, tracks, in-ddc2b, kept, followed}
 use Rattle.feeding.proofs.Pins.{After, kind-moved}
@@ -91,7 +91,7 @@ never-shows true true false y = refl
 never-shows true true true y = refl
 
 ddc2b-written : (s u : Bool) (n w : ℕ) (loaded fresh : Bool) {to : Target} {x : ℕ} → Addressed to x → (b : ℕ)
-    → spoils (observer true s u false false n w loaded fresh) x b ≡ false → Ddc2bBy (observeAccepted (observer true s u false false n w loaded fresh) x b)
+    → forbiddenWrite (observer true s u false false n w loaded fresh) x b ≡ false → Ddc2bBy (observeAccepted (observer true s u false false n w loaded fresh) x b)
 ddc2b-written s u n w loaded fresh at-mdcon b h = rw (md-same (bit 0 b) (neither (not (Bool·beq (bit 0 b) false)) false h .0)) (ddc2b-by true s u _ _ loaded _)
 ddc2b-written s u n w loaded fresh at-hvcon b h = ddc2b-by true s u _ _ loaded _
 ddc2b-written s u n w loaded fresh at-clrflg b h = ddc2b-by true s u _ _ loaded _
@@ -102,7 +102,7 @@ ddc2b-written s u n w loaded fresh at-iists b h = rw (neither (bit 3 b) false h 
 ddc2b-written s u n w loaded fresh at-bt b h = ddc2b-by true s u _ _ loaded _
 ddc2b-written s u n w loaded fresh {x = x} (at-plain p) b h = rw (p .iists, p .mdcon, p .clrwdt, p .iidat) (ddc2b-by true s u _ _ loaded _)
 
-ddc2b-write : (z v s u : Bool) (n w : ℕ) (loaded fresh : Bool) (x b : ℕ) → not ((z && v) && spoils (observer z s u false false n w loaded fresh) x b) ≡ true
+ddc2b-write : (z v s u : Bool) (n w : ℕ) (loaded fresh : Bool) (x b : ℕ) → not ((z && v) && forbiddenWrite (observer z s u false false n w loaded fresh) x b) ≡ true
     → Ddc2bBy (pick (z && v) (observeAccepted (observer z s u false false n w loaded fresh) x b) (observer z s u false false n w loaded fresh))
 ddc2b-write false v s u n w loaded fresh x b h = ddc2b-by false s u n w loaded fresh
 ddc2b-write true false s u n w loaded fresh x b h = ddc2b-by true s u n w loaded fresh

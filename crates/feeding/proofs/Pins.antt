@@ -28,33 +28,33 @@ use Rattle.pins.proofs.Numbers.{Unnamed, Numbered, p16-pin, sda-pin, scl-pin, h
 use Rattle.feeding.specs.Observer.{Observer, vsynciOf, watchdogOf, observe, permitted}
 use Rattle.feeding.specs.Levels.{byteWritten, shows, sdaPut, level, lowBits}
 use Rattle.feeding.proofs.Bits.{shifted, holds-shifted, top-shifted, holds-loaded}
-use Rattle.feeding.proofs.Tracks.{syncOf, frame, observer, seen, ModeBits, ModeOf, Stage, turned-off, awaiting, sending, Pending, nothing, waiting, Tracks, tracks, Moved, kept, loads, shifts, off-mode, ddc1-mode, Quiet, is-off, is-ddc1, quiet}
+use Rattle.feeding.proofs.Tracks.{syncOf, frame, observer, seen, ModeBits, ModeOf, Stage, turned-off, awaiting, sending, Pending, nothing, waiting, Tracks, tracks, Moved, kept, loads, shifts, off-mode, ddc1-mode, OffOrDdc1, is-off, is-ddc1, off-or-ddc1}
 
 -- ---- SCL and SDA
 
 -- SCL does not fall, so nothing moves but its level
-scl-quiet : {m : Mode} → Quiet m → (s l : Bool) → (s && not l) ≡ false → (c : Core) → onScl m (edge s l) c ≡ c
+scl-unmoved : {m : Mode} → OffOrDdc1 m → (s l : Bool) → (s && not l) ≡ false → (c : Core) → onScl m (edge s l) c ≡ c
 unfolding onScl onSclDdc1
-scl-quiet is-off s l h c = refl
-scl-quiet is-ddc1 true true h c = refl
-scl-quiet is-ddc1 true false h c = absurd (true≢false h)
-scl-quiet is-ddc1 false true h c = refl
-scl-quiet is-ddc1 false false h c = refl
+scl-unmoved is-off s l h c = refl
+scl-unmoved is-ddc1 true true h c = refl
+scl-unmoved is-ddc1 true false h c = absurd (true≢false h)
+scl-unmoved is-ddc1 false true h c = refl
+scl-unmoved is-ddc1 false false h c = refl
 
-scl-free : {m : Mode} → Quiet m → (q : Phase) → sclPulled m q ≡ false
+scl-free : {m : Mode} → OffOrDdc1 m → (q : Phase) → sclPulled m q ≡ false
 unfolding sclPulled
 scl-free is-off q = refl
 scl-free is-ddc1 q = refl
 
-sda-quiet : {m : Mode} → Quiet m → (high : Bool) → (c : Core) (e : Bool) (x : Bool) → onSda m high (edge e x) c ≡ c
+sda-unmoved : {m : Mode} → OffOrDdc1 m → (high : Bool) → (c : Core) (e : Bool) (x : Bool) → onSda m high (edge e x) c ≡ c
 unfolding onSda
-sda-quiet is-off high c e x = refl
-sda-quiet is-ddc1 high c e x = refl
+sda-unmoved is-off high c e x = refl
+sda-unmoved is-ddc1 high c e x = refl
 
 module _ (g : Core) {a b loaded written : Bool} {y r n : ℕ} {p : List Bool} {d : List ℕ} (k : ModeOf g a b) (t : Stage a b loaded n r p) (w : Pending written y d) where
   scl-to : (s l : Bool) → (s && not l) ≡ false → Moved (sclMoved (frame g true s y r n) l) (seen g true l a b n loaded written) [] [] p d
   unfolding sclMoved sclPulled onScl
-  scl-to s l h = rw (scl-free (quiet k t) Idle, scl-quiet (quiet k t) s l h) (kept (tracks g true l k t w))
+  scl-to s l h = rw (scl-free (off-or-ddc1 k t) Idle, scl-unmoved (off-or-ddc1 k t) s l h) (kept (tracks g true l k t w))
 
   scl-moved : (z s l : Bool) → permitted (seen g z s a b n loaded written) (Pin 25 l) ≡ true
       → Moved (sclMoved (frame g z s y r n) l) (observe (seen g z s a b n loaded written) (Pin 25 l)) [] [] p d
@@ -67,7 +67,7 @@ module _ (g : Core) {a b loaded written : Bool} {y r n : ℕ} {p : List Bool} {d
   sda-moved : (z s l : Bool) → Moved (sdaMoved (frame g z s y r n) l) (seen g z s a b n loaded written) [] [] p d
   unfolding sdaMoved onSda
   sda-moved false s l = kept (tracks (withSda g l) false s k t w)
-  sda-moved true s l = rw (sda-quiet (quiet k t)) (kept (tracks (withSda g l) true s k t w))
+  sda-moved true s l = rw (sda-unmoved (off-or-ddc1 k t)) (kept (tracks (withSda g l) true s k t w))
 
   reset-moved : (z s l : Bool) → permitted (seen g z s a b n loaded written) (Pin 28 l) ≡ true
       → Moved (resetMoved (frame g z s y r n) l) (observe (seen g z s a b n loaded written) (Pin 28 l)) [] [] p d

@@ -11,7 +11,7 @@ use lib.ListN.{getD}
 use Rattle.bits.proofs.Finite.{both}
 use Rattle.registers.specs.Names.{IIDAT}
 use Rattle.events.specs.Word.{eventWord}
-use Rattle.text.specs.Text.{wordOf, wordsOf}
+use Rattle.blocks.specs.Bytes.{fromFour, wordsOf}
 use Rattle.feed_words.specs.Words.{pulses, lead, sending, sendingAll, feedWords, bytesOfAll}
 use Rattle.feeding.specs.Levels.{Bytes}
 
@@ -21,14 +21,14 @@ allWords [] = true
 allWords (w ∷ ws) = ltb w 4294967296 && allWords ws
 
 -- four bytes of a word make it again
-word-read : (w : ℕ) → w < 4294967296 → wordOf (w % 256) (w / 256 % 256) (w / 65536 % 256) (w / 16777216 % 256) ≡ w
+word-read : (w : ℕ) → w < 4294967296 → fromFour (w % 256) (w / 256 % 256) (w / 65536 % 256) (w / 16777216 % 256) ≡ w
 word-read w h =
     let second : w / 65536 ≡ w / 256 / 256 = omega arith in
     let third : w / 16777216 ≡ w / 65536 / 256 = omega arith in
     linear w (w / 256) (w / 65536) (w / 16777216) (w % 256) (w / 256 % 256) (w / 65536 % 256) (w / 16777216 % 256)
     (omega arith) (omega (arith, second)) (omega (arith, third)) (omega arith)
   where
-    linear : (w a b c p q r s : ℕ) → w ≡ 256 * a + p → a ≡ 256 * b + q → b ≡ 256 * c + r → s ≡ c → wordOf p q r s ≡ w
+    linear : (w a b c p q r s : ℕ) → w ≡ 256 * a + p → a ≡ 256 * b + q → b ≡ 256 * c + r → s ≡ c → fromFour p q r s ≡ w
     linear w a b c p q r s e f g h = omega arith
 
 -- words stored lowest byte first are read as they were

@@ -108,11 +108,11 @@ unfolding mode
 ddc1-mode k = rw (k .enddc, k .md12)
 
 -- DDC off or in DDC1
-pub data Quiet : Mode → Type 0 where
-  is-off : Quiet Off
-  is-ddc1 : Quiet Ddc1
+pub data OffOrDdc1 : Mode → Type 0 where
+  is-off : OffOrDdc1 Off
+  is-ddc1 : OffOrDdc1 Ddc1
 
-pub quiet : {iists mdcon : ℕ} {a b loaded : Bool} {n r : ℕ} {p : List Bool} → ModeBits iists mdcon a b → Stage a b loaded n r p → Quiet (mode iists mdcon)
-quiet k (turned-off md n r) = rw (off-mode k) is-off
-quiet k (awaiting n r) = rw (ddc1-mode k) is-ddc1
-quiet k (sending r p h) = rw (ddc1-mode k) is-ddc1
+pub off-or-ddc1 : {iists mdcon : ℕ} {a b loaded : Bool} {n r : ℕ} {p : List Bool} → ModeBits iists mdcon a b → Stage a b loaded n r p → OffOrDdc1 (mode iists mdcon)
+off-or-ddc1 k (turned-off md n r) = rw (off-mode k) is-off
+off-or-ddc1 k (awaiting n r) = rw (ddc1-mode k) is-ddc1
+off-or-ddc1 k (sending r p h) = rw (ddc1-mode k) is-ddc1

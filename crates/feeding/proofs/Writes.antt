@@ -18,7 +18,7 @@ use Rattle.ddc_writes.specs.DdcWrites.{syncAtHsel, mdconWritten, iiadrWritten, 
 use Rattle.writes.specs.declared.Target.{Target}
 use Rattle.writes.proofs.Addresses.{Addressed, at-mdcon, at-hvcon, at-clrflg, at-clrwdt, at-iiadr, at-iidat, at-iists, at-bt, at-plain, addressed}
 use Rattle.writes.specs.Writes.{clrflgWritten, clrwdtWritten, writtenTo, written}
-use Rattle.feeding.specs.Observer.{iistsOf, mdconOf, observeAccepted, spoils}
+use Rattle.feeding.specs.Observer.{iistsOf, mdconOf, observeAccepted, forbiddenWrite}
 use Rattle.feeding.specs.Levels.{byteTaken}
 use Rattle.ddc_writes.proofs.Modes.{md-written, enddc-written}
 use Rattle.feeding.proofs.Bits.{data-written}
@@ -40,7 +40,7 @@ mdcon-on g s k t w b e =
     rw (ddc1-mode k, ddc1-mode next, e) (kept (tracks (withSync (withMdcon g new) (syncAtHsel (bit 2 (mdconOf g)) (bit 2 new) (syncOf g))) true s next t w))
 
 mdcon-moved : (g : Core) (s : Bool) {a m loaded written : Bool} {y r n : ℕ} {p : List Bool} {d : List ℕ} → ModeOf g a m → Stage a m loaded n r p → Pending written y d
-    → (b : ℕ) → spoils (seen g true s a m n loaded written) MDCON b ≡ false
+    → (b : ℕ) → forbiddenWrite (seen g true s a m n loaded written) MDCON b ≡ false
     → Moved (mdconWritten (frame g true s y r n) b) (observeAccepted (seen g true s a m n loaded written) MDCON b) [] [] p d
 unfolding mdconWritten busAtMode changesMode
 mdcon-moved g s k (turned-off md n r) w b h =
@@ -74,7 +74,7 @@ iists-off g s true r n k w b false e =
 iists-off g s false r n k w b false e = rw e (kept (in-ddc2b _ _ _ _ _ _ _ _ _ _))
 
 iists-moved : (g : Core) (s : Bool) {a m loaded written : Bool} {y r n : ℕ} {p : List Bool} {d : List ℕ} → ModeOf g a m → Stage a m loaded n r p → Pending written y d
-    → (b : ℕ) → spoils (seen g true s a m n loaded written) IISTS b ≡ false
+    → (b : ℕ) → forbiddenWrite (seen g true s a m n loaded written) IISTS b ≡ false
     → Moved (iistsWritten (frame g true s y r n) b) (observeAccepted (seen g true s a m n loaded written) IISTS b) [] [] p d
 iists-moved g s k (turned-off md n r) w b h = iists-off g s md r n k w b (bit 3 b) refl
 iists-moved g s k (awaiting n r) w b h = iists-on g s k (awaiting n r) w b (neither (bit 3 b) false h .0)
@@ -82,14 +82,14 @@ iists-moved g s k (sending r p e) w b h = iists-on g s k (sending r p e) w b (ne
 
 -- II DAT: a byte, with none before it that still awaits its load
 iidat-moved : (g : Core) (s : Bool) {a m loaded written : Bool} {y r n : ℕ} {p : List Bool} {d : List ℕ} → ModeOf g a m → Stage a m loaded n r p → Pending written y d
-    → (b : ℕ) → b < 256 → spoils (seen g true s a m n loaded written) IIDAT b ≡ false
+    → (b : ℕ) → b < 256 → forbiddenWrite (seen g true s a m n loaded written) IIDAT b ≡ false
     → Moved (iidatWritten (frame g true s y r n) b) (observeAccepted (seen g true s a m n loaded written) IIDAT b) [] (b ∷ []) p d
 unfolding iidatWritten busAtIidat pullsScl
 iidat-moved g s k t (nothing y) b u h = rw (data-written y b u) (brings b (tracks g true s k t (waiting b)))
 iidat-moved g s k t (waiting c) b u h = absurd (true≢false h)
 
 written-moved : (g : Core) (s : Bool) {a m loaded written : Bool} {y r n : ℕ} {p : List Bool} {d : List ℕ} → ModeOf g a m → Stage a m loaded n r p → Pending written y d
-    → {to : Target} {x : ℕ} → Addressed to x → (b : ℕ) → b < 256 → spoils (seen g true s a m n loaded written) x b ≡ false
+    → {to : Target} {x : ℕ} → Addressed to x → (b : ℕ) → b < 256 → forbiddenWrite (seen g true s a m n loaded written) x b ≡ false
     → Moved (writtenTo to (frame g true s y r n) b) (observeAccepted (seen g true s a m n loaded written) x b) [] (byteTaken x b) p d
 unfolding writtenTo clrflgWritten clrwdtWritten iiadrWritten
 written-moved g s k t w at-mdcon b u h = mdcon-moved g s k t w b h
@@ -104,7 +104,7 @@ written-moved g s k t w {x = x} (at-plain p) b u h = rw (p .iists, p .mdcon, p .
 
 -- RESET high, and whether the register takes a write
 pub write-by : (g : Core) (z v s : Bool) {a m loaded fresh : Bool} {y r n : ℕ} {p : List Bool} {d : List ℕ} → ModeOf g a m → Stage a m loaded n r p → Pending fresh y d
-    → (x b : ℕ) → b < 256 → not ((z && v) && spoils (seen g z s a m n loaded fresh) x b) ≡ true
+    → (x b : ℕ) → b < 256 → not ((z && v) && forbiddenWrite (seen g z s a m n loaded fresh) x b) ≡ true
     → Moved (pick z (pick v (written (frame g z s y r n) x b) (frame g z s y r n)) (frame g z s y r n))
     (pick (z && v) (observeAccepted (seen g z s a m n loaded fresh) x b) (seen g z s a m n loaded fresh)) [] (pick (z && v) (byteTaken x b) []) p d
 unfolding written

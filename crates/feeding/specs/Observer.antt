@@ -163,8 +163,8 @@ abbrev pub secondByte : Observer → ℕ → Bool
 secondByte o a = eqb a IIDAT && o .written
 
 -- a write that must not be carried out
-abbrev pub spoils : Observer → ℕ → ℕ → Bool
-spoils o a b = turnsOff o a b || (changesMd o a b || secondByte o a)
+abbrev pub forbiddenWrite : Observer → ℕ → ℕ → Bool
+forbiddenWrite o a b = turnsOff o a b || (changesMd o a b || secondByte o a)
 
 -- a fall of outside SCL, with RESET low too
 abbrev pub sclFalls : Observer → ℕ → Bool → Bool
@@ -185,7 +185,7 @@ watchdogExpires o k = o .reset && (eqb k clock.watchdog && not (ltb (o .watchdog
 -- what each event of a list must keep to
 unfoldable pub permitted : Observer → Decoded → Bool
 permitted o (Read a) = true
-permitted o (Write a b) = not (accepted o a && spoils o a b)
+permitted o (Write a b) = not (accepted o a && forbiddenWrite o a b)
 permitted o (Pin p level) = not (sclFalls o p level) && (not (resetFalls o p level) && not (loadsNothing o p level))
 permitted o (Clock k) = not (watchdogExpires o k)
 permitted o (Polarity vertical level) = true

@@ -1,3 +1,2 @@
-pub mod Areas
 pub mod Calls
 pub mod Back

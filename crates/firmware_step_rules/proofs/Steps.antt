@@ -21,12 +21,12 @@ on-first : (t : Turned) (i : ℕ) (x y : Ended) (b : Bool) → x ≡ y → prepe
 on-first t i x y b h = ap (λ (z : Ended). prepended [] (pick b z (ended (t .machine) (t .number) i []))) h
 
 -- before its number an event changes nothing
-pub quiet : (k i : ℕ) (rom : List ℕ) (e : ℕ) (es : List ℕ) (m : Machine) → k ≤ numberOf e - i → runs k i rom (e ∷ es) m ≡ runs k i rom [] m
+pub before-event : (k i : ℕ) (rom : List ℕ) (e : ℕ) (es : List ℕ) (m : Machine) → k ≤ numberOf e - i → runs k i rom (e ∷ es) m ≡ runs k i rom [] m
 unfolding runs fed answersBefore left
-quiet zero i rom e es m h = refl
-quiet (suc k) i rom e es m h =
+before-event zero i rom e es m h = refl
+before-event (suc k) i rom e es m h =
     rw (lt-ltb i (numberOf e) (omega (arith, h)))
-    (on-first (turn rom m) i _ _ (eqb (turn rom m .number) 0) (quiet k (i + 1) rom e es (turn rom m .machine) (omega (arith, h))))
+    (on-first (turn rom m) i _ _ (eqb (turn rom m .number) 0) (before-event k (i + 1) rom e es (turn rom m .machine) (omega (arith, h))))
 
 on-parts : (t : Turned) (i : ℕ) (w r : Ended) (f : Machine → Ended) (b : Bool) → eqb (t .number) 0 ≡ b → w ≡ pick (eqb (r .number) 0) (f (r .machine)) r
     → prepended [] (pick b w (ended (t .machine) (t .number) i []))
@@ -35,19 +35,19 @@ on-parts t i w r f true h g = g
 on-parts t i w r f false h g = rw h
 
 -- and the run goes on from there
-pub quiet-parts : (k j i : ℕ) (rom : List ℕ) (e : ℕ) (es : List ℕ) (m : Machine) → k ≤ numberOf e - i
+pub before-event-parts : (k j i : ℕ) (rom : List ℕ) (e : ℕ) (es : List ℕ) (m : Machine) → k ≤ numberOf e - i
     → runs (k + j) i rom (e ∷ es) m ≡ pick (eqb (runs k i rom [] m .number) 0) (runs j (i + k) rom (e ∷ es) (runs k i rom [] m .machine)) (runs k i rom [] m)
 unfolding runs fed answersBefore left
-quiet-parts zero j i rom e es m h =
+before-event-parts zero j i rom e es m h =
     let p : 0 + j ≡ j = omega arith in
     let q : i + 0 ≡ i = omega arith in
     rw (p, q)
-quiet-parts (suc k) j i rom e es m h =
+before-event-parts (suc k) j i rom e es m h =
     let p : suc k + j ≡ suc (k + j) = omega arith in
     let q : i + 1 + k ≡ i + suc k = omega arith in
     let t = turn rom m in
     let r = runs k (i + 1) rom [] (t .machine) in
-    let g = quiet-parts k j (i + 1) rom e es (t .machine) (omega (arith, h)) ∙ ap (λ (a : ℕ). pick (eqb (r .number) 0) (runs j a rom (e ∷ es) (r .machine)) r) q in
+    let g = before-event-parts k j (i + 1) rom e es (t .machine) (omega (arith, h)) ∙ ap (λ (a : ℕ). pick (eqb (r .number) 0) (runs j a rom (e ∷ es) (r .machine)) r) q in
     ap (λ (a : ℕ). runs a i rom (e ∷ es) m) p
     ∙ rw (lt-ltb i (numberOf e) (omega (arith, h)))
     (on-parts t i (runs (k + j) (i + 1) rom (e ∷ es) (t .machine)) r (λ (x : Machine). runs j (i + suc k) rom (e ∷ es) x) (eqb (t .number) 0) refl g)
@@ -80,7 +80,7 @@ late-by n r f false h = refl
 late : (n i : ℕ) (rom : List ℕ) (e : ℕ) (es : List ℕ) (m : Machine) (f : Ended → Ended) → i ≤ n → n ≤ numberOf e → onEvent (upTo n i rom m) n f ≡ runs (n - i) i rom (e ∷ es) m
 late n i rom e es m f h g =
     late-by n (upTo n i rom m) f (eqb (upTo n i rom m .number) 0) (λ (z : eqb (upTo n i rom m .number) 0 ≡ true). omega (arith, h, run-next (n - i) i rom [] m z))
-    ∙ sym (quiet (n - i) i rom e es m (omega (arith, g)))
+    ∙ sym (before-event (n - i) i rom e es m (omega (arith, g)))
 
 -- the event comes before the end
 given-by : (n i k : ℕ) (rom : List ℕ) (e : ℕ) (es : List ℕ) (r : Ended) (b : Bool) → (b ≡ true → r .next ≡ i + k) → i + k < n → numberOf e ≤ i + k
@@ -101,7 +101,7 @@ given n i rom e es m h g f =
     let r = upTo (numberOf e) i rom m in
     let p : k + (n - (i + k)) ≡ n - i = omega (arith, h, g) in
     given-by n i k rom e es r (eqb (r .number) 0) (λ (z : eqb (r .number) 0 ≡ true). run-next k i rom [] m z) (omega (arith, h, g)) (omega arith) f
-    ∙ sym (quiet-parts k (n - (i + k)) i rom e es m (omega arith))
+    ∙ sym (before-event-parts k (n - (i + k)) i rom e es m (omega arith))
     ∙ ap (λ (j : ℕ). runs j i rom (e ∷ es) m) p
 
 event-by : (n i : ℕ) (rom : List ℕ) (e : ℕ) (es : List ℕ) (m : Machine) (a b : Bool) → ltb i n ≡ a → ltb (numberOf e) n ≡ b → i ≤ n

@@ -57,7 +57,7 @@ low-paired : {o o′ : Observer} {e f : Decoded} → Touches e → Touches f →
 low-paired {o} (touches l) (touches l′) h = low l l′ (low-of (o .scl) h)
 
 -- a word touches SDA while SCL is low, or SDA's levels are equal
-equal-paired : {o o′ : Observer} {e : Decoded} → Touches e → (quiet : Bool) → not (o .scl && touchesSda e) ≡ quiet → (quiet || Bool·beq (o .sda) (o′ .sda)) ≡ true → Paired o o′ e e
+equal-paired : {o o′ : Observer} {e : Decoded} → Touches e → (sclLow : Bool) → not (o .scl && touchesSda e) ≡ sclLow → (sclLow || Bool·beq (o .sda) (o′ .sda)) ≡ true → Paired o o′ e e
 equal-paired t true u h = low-paired t t u
 equal-paired {o} {o′} (touches l) false u h = equal l (beq-eq (o .sda) (o′ .sda) (true-T _ h))
 

@@ -5,7 +5,8 @@ use mathlib.Core.Path.{_≡_}
 use mathlib.Core.List.{List, _++_}
 use Rattle.chip.specs.State.{fresh}
 use Rattle.run.specs.Run.{after, answers}
-use Rattle.text.specs.Text.{wordsOf, hexLines, leftOver, replayText}
+use Rattle.blocks.specs.Bytes.{wordsOf}
+use Rattle.text.specs.Text.{hexLines, leftOver, replayText}
 use Rattle.invariant.proofs.WellFormed.{fresh-well-formed}
 use Rattle.listcall.proofs.Runs.{after-advanced, answers-advanced}
 

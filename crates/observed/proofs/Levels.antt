@@ -1,4 +1,4 @@
--- A level set again does nothing; while RESET is low clocks and polarity change nothing, and pins only their levels.
+-- A level set again does nothing. With RESET low a pin changes its own level alone, and a clock or a polarity nothing.
 -- Assumes nothing.
 use mathlib.Core.Path.{_≡_, refl, sym, ap, _∙_}
 use mathlib.Core.Bool.{Bool, true, false, not, _&&_}

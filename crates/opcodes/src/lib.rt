@@ -510,7 +510,7 @@ pub fn length_of(entry: u32) -> u8
 }
 
 // The base cycles of an entry.
-// Wrong answers: the digit of the length taken; three bits of the four.
+// Wrong answers: the digit of the length taken; two bits of the four.
 pub fn cycles_of(entry: u32) -> u8
     ensures { λ r. ⌜ (r ≡ cyclesOf entry) × (r < 16) ⌝ }
 {

@@ -24,6 +24,14 @@ placed old l at h =
     ∙ ap (λ (r : List ℕ). take at old ++ (r ++ drop (length l) (drop at old))) (take-all (length l) l (omega arith))
     ∙ ap (λ (r : List ℕ). take at old ++ (l ++ r)) (drop-drop (length l) at old)
 
+-- and where l is a list of a known length, that list
+pub placed-as : (old l m : List ℕ) (at n : ℕ) → l ≡ m → length m ≡ n → at + n ≤ length old
+    → putMid at (length old - at) old (take (length l) l ++ drop (length l) (midOf at (length old - at) old)) ≡ take at old ++ (m ++ drop (at + n) old)
+placed-as old l m at n e s h =
+    placed old l at (omega (arith, ap length e, s))
+    ∙ ap (put old at) e
+    ∙ ap (λ (k : ℕ). take at old ++ (m ++ drop (at + k) old)) s
+
 module _ (old l : List ℕ) (at : ℕ) (h : at + length l ≤ length old) where
   front : length (take at old ++ l) ≡ at + length l
   front = length-append (take at old) l ∙ ap (λ (k : ℕ). k + length l) (length-take-le at old (omega arith))

@@ -41,7 +41,7 @@ firstFault (c ∷ cs) = orElse (faultOf c) (firstFault cs)
 
 -- ---- the answer
 
--- the number of each answer: 2 for another line, 3 for a level above 1, 7 where there are fewer places than addresses
+-- the number of each answer: 2 for a line that is neither SDA nor SCL, 3 for a level that is neither 0 nor 1, 7 for too few places
 abbrev pub numberOf : Reading → ℕ
 numberOf (Listed count) = 0
 numberOf BadLine = 2

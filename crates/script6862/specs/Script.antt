@@ -17,7 +17,7 @@ use Rattle.orders6862.specs.declared.Order.{Order}
 use Rattle.orders6862.specs.declared.Order.the-variants as order
 use Rattle.orders6862.specs.Line as line
 use Rattle.orders6862.specs.Orders.{orderOf}
-use Rattle.script6862.specs.declared.Event.the-variants.{Quiet, Answer, Report, Malformed}
+use Rattle.script6862.specs.declared.Event.the-variants.{Nothing, Answer, Report, Malformed}
 use Rattle.script6862.specs.declared.Progress.{Progress}
 use Rattle.script6862.specs.declared.Step.{Step}
 
@@ -66,7 +66,7 @@ obeyed order.Malformed p = stopped p
 
 -- a byte within a line, or the end of one that is passed over
 unfoldable pub within : Progress → ℕ → Reader → Step
-within p b r = pick (eqb b 10) (record { progress = nextLine p (p .numbers); event = Quiet }) (record { progress = withReader p r; event = Quiet })
+within p b r = pick (eqb b 10) (record { progress = nextLine p (p .numbers); event = Nothing }) (record { progress = withReader p r; event = Nothing })
 
 unfoldable pub found : Found → Progress → ℕ → Step
 found (Within r) p b = within p b r
@@ -75,7 +75,7 @@ found (Line word count first value) p b = obeyed (orderOf word count first value
 
 -- a byte of the script
 unfoldable pub next : Progress → ℕ → Step
-next p b = pick (p .ended) (record { progress = p; event = Quiet }) (found (line.next (p .reader) b) p b)
+next p b = pick (p .ended) (record { progress = p; event = Nothing }) (found (line.next (p .reader) b) p b)
 
 -- ---- the rate's 64 bits
 

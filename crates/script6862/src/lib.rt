@@ -10,7 +10,7 @@ use rates::Rate;
 // What a byte of a script brings to print: nothing, the number of a line, that with the report on the field rate, or that the line is
 // malformed.
 pub enum Event {
-    Quiet,
+    Nothing,
     Answer(u8),
     Report(u8, Rate),
     Malformed,
@@ -157,12 +157,12 @@ fn within(p: Progress, b: u8, r: Reader) -> Step
         let numbers = p.numbers;
         Step {
             progress: next_line(p, numbers),
-            event: Event::Quiet,
+            event: Event::Nothing,
         }
     } else {
         Step {
             progress: with_reader(p, r),
-            event: Event::Quiet,
+            event: Event::Nothing,
         }
     }
 }
@@ -187,7 +187,7 @@ pub fn next(p: Progress, b: u8) -> Step
     if p.ended {
         Step {
             progress: p,
-            event: Event::Quiet,
+            event: Event::Nothing,
         }
     } else {
         let reader = p.reader;

@@ -13,8 +13,10 @@ use Rattle.bits.specs.Byte.{pick}
 use Rattle.chip.specs.declared.Chip.{Chip}
 use Rattle.run.specs.Run.{advanced, advancedAnswers}
 use Rattle.text.specs.declared.Part.{Part}
-use Rattle.text.specs.Text.{wordsOf, hexLines, wordsText, replayText, cutWord, partsText, joined, partAnswered, partText, partBytes}
-use Rattle.text.proofs.Words.{length-words, words-append}
+use Rattle.blocks.specs.Bytes.{wordsOf}
+use Rattle.text.specs.Text.{hexLines, wordsText, replayText, cutWord, partsText, joined, partAnswered, partText, partBytes}
+use Rattle.blocks.proofs.Words.{length-words}
+use Rattle.text.proofs.Words.{words-append}
 use Rattle.text.proofs.Stream.{length-answered, text-whole, blocks}
 
 abbrev part : Chip → ℕ → ℕ → Part

@@ -10,9 +10,9 @@ use lib.Seq.{length-take-le, take-at, getD-drop}
 use Rattle.chip.specs.declared.Chip.{Chip}
 use Rattle.run.specs.Run.{advanced, advancedAnswers, advanceAll, advanceAllAnswers}
 use Rattle.run.proofs.Runs.{length-advancedAnswers}
-use Rattle.text.specs.Text.{wordsOf}
+use Rattle.blocks.specs.Bytes.{wordsOf}
 use Rattle.text.proofs.Move.{filled-more, filled-length}
-use Rattle.text.proofs.Words.{length-words}
+use Rattle.blocks.proofs.Words.{length-words}
 
 -- words read from an index on, over the start of old
 module _ (bytes old : List ℕ) (from count : ℕ) (pre : (from + count ≤ length bytes / 4) × (count ≤ length old)) where

@@ -16,8 +16,10 @@ use Rattle.run.proofs.Runs.{advanced-append, advancedAnswers-append, length-adv
 use Rattle.text.specs.declared.Answered.{Answered}
 use Rattle.hex.specs.Hex.{hexLine}
 use Rattle.hex.proofs.Line.{length-line}
-use Rattle.text.specs.Text.{wordsOf, hexLines, leftOver, leftOverAnswer, replayText, answered, answeredText}
-use Rattle.text.proofs.Words.{length-words, words-append}
+use Rattle.blocks.specs.Bytes.{wordsOf}
+use Rattle.text.specs.Text.{hexLines, leftOver, leftOverAnswer, replayText, answered, answeredText}
+use Rattle.blocks.proofs.Words.{length-words}
+use Rattle.text.proofs.Words.{words-append}
 use Rattle.text.proofs.Lines.{length-lines, lines-append}
 
 -- the line for bytes left over, by how many they are

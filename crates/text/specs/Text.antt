@@ -5,6 +5,7 @@ use mathlib.Core.List.{List, [], _∷_, _++_}
 use lib.Dec.{eqb, ltb}
 use lib.ListN.{length, drop}
 use Rattle.bits.specs.Byte.{pick}
+use Rattle.blocks.specs.Bytes.{wordsOf}
 use Rattle.hex.specs.Hex.{hexLine}
 use Rattle.answers.specs.Answer.{answerWord}
 use Rattle.chip.specs.declared.Chip.{Chip}
@@ -12,20 +13,6 @@ use Rattle.chip.specs.State.{requests}
 use Rattle.run.specs.Run.{advanced, advancedAnswers}
 use Rattle.text.specs.declared.Answered.{Answered}
 use Rattle.text.specs.declared.Part.{Part}
-
--- ---- from bytes to words
-
--- four bytes make a word, the lowest first
-abbrev pub wordOf : ℕ → ℕ → ℕ → ℕ → ℕ
-wordOf a b c d = a + b * 256 + c * 65536 + d * 16777216
-
--- the whole words of a stream; one to three bytes at its end make none
-unfoldable pub wordsOf : List ℕ → List ℕ
-wordsOf [] = []
-wordsOf (a ∷ []) = []
-wordsOf (a ∷ b ∷ []) = []
-wordsOf (a ∷ b ∷ c ∷ []) = []
-wordsOf (a ∷ b ∷ c ∷ d ∷ rest) = wordOf a b c d ∷ wordsOf rest
 
 -- ---- from answers to text
 

@@ -5,7 +5,8 @@ ghost use mathlib.Core.List.{_++_};
 ghost use lib.ListN.{length, take, drop, getD};
 ghost use Rattle.run.specs.Run.{advanced, advancedAnswers};
 ghost use Rattle.hex.specs.Hex.{hexLine};
-ghost use Rattle.text.specs.Text.{hexLines, wordsOf, leftOverAnswer, answered, answeredText, partAnswered, partText, partBytes};
+ghost use Rattle.blocks.specs.Bytes.{wordsOf};
+ghost use Rattle.text.specs.Text.{hexLines, leftOverAnswer, answered, answeredText, partAnswered, partText, partBytes};
 use chip::Chip;
 
 // What a block gives: the chip after its words, and the bytes of text written.

@@ -55,7 +55,7 @@ same-equal [] (b ∷ t) h = absurd (let z : _≡_ {A = ℕ} 0 1 = cc in omega ar
 same-equal (a ∷ s) [] h = absurd (let z : _≡_ {A = ℕ} 0 1 = cc in omega arith)
 same-equal (a ∷ s) (b ∷ t) h = same-step a b s t (eqb a b) refl (same-equal s t) h
 
--- a guess that compares as equal has the list that a search finds
-pub guess-right : (text places pins : List ℕ) (entries : ℕ) (lists code : List ℕ) (k : ℕ) → Lists text places pins entries lists 32 → k < 32
+-- an entry whose code compares as equal has the list that a search finds
+pub slot-right : (text places pins : List ℕ) (entries : ℕ) (lists code : List ℕ) (k : ℕ) → Lists text places pins entries lists 32 → k < 32
     → sameBytes (codeAt text places k) code ≡ true → meant (getD lists k 0) ≡ find (variables text places pins 0 entries) code
-guess-right text places pins entries lists code k t h e = rw (← (same-equal (codeAt text places k) code e)) (t .each k h)
+slot-right text places pins entries lists code k t h e = rw (← (same-equal (codeAt text places k) code e)) (t .each k h)

@@ -15,7 +15,7 @@ pub record Lists (text places pins : List ℕ) (entries : ℕ) (lists : List ℕ
   pub size : length lists ≡ 32
   pub each : (k : ℕ) → k < n → meant (getD lists k 0) ≡ find (variables text places pins 0 entries) (codeAt text places k)
 
-pub record Tables (text places pins : List ℕ) (entries : ℕ) (singles lists guesses : List ℕ) : Type 0 where
+pub record Tables (text places pins : List ℕ) (entries : ℕ) (singles lists slots : List ℕ) : Type 0 where
   pub single : Singles text places pins entries singles 256
   pub listed : Lists text places pins entries lists 32
-  pub guessed : length guesses ≡ 256
+  pub hashed : length slots ≡ 256

@@ -7,7 +7,7 @@ ghost use lib.ListN.{length, take, drop, getD};
 ghost use Rattle.vcd_text.specs.declared.Number.the-variants.{Of};
 ghost use Rattle.vcd_text.specs.Token.{tokens, whiteLength, wordLength, decimalOf};
 ghost use Rattle.vcd_codes.specs.Codes.{Found, variables, find, meant};
-ghost use Rattle.vcd_steps.specs.Steps.{itemStep, endsAs, meaning, atTime};
+ghost use Rattle.vcd_steps.specs.Steps.{itemStep, endsAs, meaning};
 ghost use Rattle.vcd_steps.specs.declared.State.{State};
 ghost use Rattle.vcd_body.specs.Trace.{tokenAs};
 ghost use Rattle.vcd_body.specs.Pieces.{start as startOf, answer, closed, paused, turned, turnBy, placed, pieces};
@@ -45,7 +45,7 @@ pub enum Turn {
 }
 
 // The cursor that begins.
-// Wrong answers: one inside a dump; one with a word done.
+// Wrong answers: one word done; a time of 1.
 pub fn start() -> Cursor
     ensures { λ r. ⌜ r ≡ startOf ⌝ }
 {
@@ -135,41 +135,19 @@ fn fill_lists(text: &[u8], places: &[usize], pins: &[u8], entries: usize, lists:
     }
 }
 
-// A guess is compared where it is used, so that any table is right.
-fn fill_guesses(text: &[u8], places: &[usize], guesses: &mut [usize])
-    requires { ⌜ length (now guesses) ≡ 256 ⌝ }
-    ensures { λ _. ⌜ length (now (guesses .exit)) ≡ 256 ⌝ }
+// The entry in a slot is compared with the code where it is used, so that any table is right.
+fn fill_slots(text: &[u8], places: &[usize], slots: &mut [usize])
+    requires { ⌜ length (now slots) ≡ 256 ⌝ }
+    ensures { λ _. ⌜ length (now (slots .exit)) ≡ 256 ⌝ }
 {
     let mut k: usize = 0;
     while k < 32 {
-        guesses[vcd_codes::guess_at(text, places, k)] = k;
+        slots[vcd_codes::hash_at(text, places, k)] = k;
         k += 1;
     }
 }
 
-fn guessed(
-    text: &[u8],
-    places: &[usize],
-    pins: &[u8],
-    entries: usize,
-    singles: &[u64],
-    lists: &[u64],
-    guesses: &[usize],
-    code: &[u8],
-) -> u64
-    requires { ⌜ Tables (now text) (now places) (now pins) entries (now singles) (now lists) (now guesses) ⌝ }
-    ensures { λ r. ⌜ meant r ≡ find (variables (now (text .entry)) (now (places .entry)) (now (pins .entry)) 0 entries) (now (code .entry)) ⌝ }
-{
-    let h = vcd_codes::guess_of(code);
-    let k = guesses[h];
-    if k < 32 {
-        if vcd_codes::is_code(text, places, k, code) {
-            return lists[k];
-        }
-    }
-    vcd_codes::list_of(text, places, pins, entries, code)
-}
-
+// What a code stands for: of one byte by a table, of more by its hash, and by a search where the slot has another code.
 fn found(
     text: &[u8],
     places: &[usize],
@@ -177,16 +155,23 @@ fn found(
     entries: usize,
     singles: &[u64],
     lists: &[u64],
-    guesses: &[usize],
+    slots: &[usize],
     code: &[u8],
 ) -> u64
-    requires { ⌜ Tables (now text) (now places) (now pins) entries (now singles) (now lists) (now guesses) ⌝ }
+    requires { ⌜ Tables (now text) (now places) (now pins) entries (now singles) (now lists) (now slots) ⌝ }
     ensures { λ r. ⌜ meant r ≡ find (variables (now (text .entry)) (now (places .entry)) (now (pins .entry)) 0 entries) (now (code .entry)) ⌝ }
 {
     if code.len() == 1 {
         return singles[wide(code[0])];
     }
-    guessed(text, places, pins, entries, singles, lists, guesses, code)
+    let h = vcd_codes::hash_of(code);
+    let k = slots[h];
+    if k < 32 {
+        if vcd_codes::is_code(text, places, k, code) {
+            return lists[k];
+        }
+    }
+    vcd_codes::list_of(text, places, pins, entries, code)
 }
 
 // ---- a token
@@ -200,24 +185,15 @@ fn scalar_code(
     entries: usize,
     singles: &[u64],
     lists: &[u64],
-    guesses: &[usize],
+    slots: &[usize],
     t: &[u8],
 ) -> u64
-    requires { ⌜ Tables (now text) (now places) (now pins) entries (now singles) (now lists) (now guesses) ⌝ }
+    requires { ⌜ Tables (now text) (now places) (now pins) entries (now singles) (now lists) (now slots) ⌝ }
     requires { ⌜ 0 < length (now t) ⌝ }
     ensures { λ r. ⌜ ((scale : ℕ) (s : State) (p : ℕ) → itemStep item (meant r) scale s p ≡ itemStep item (find (variables (now (text .entry)) (now (places .entry)) (now (pins .entry)) 0 entries) (drop 1 (now (t .entry)))) scale s p) ⌝ }
 {
     match item {
-        Item::Scalar(high) => found(
-            text,
-            places,
-            pins,
-            entries,
-            singles,
-            lists,
-            guesses,
-            &t[1..],
-        ),
+        Item::Scalar(high) => found(text, places, pins, entries, singles, lists, slots, &t[1..]),
         Item::Value => 0,
         Item::Time(number) => 0,
         Item::Dump => 0,
@@ -225,38 +201,6 @@ fn scalar_code(
         Item::Comment => 0,
         Item::Bad => 0,
     }
-}
-
-fn plain(
-    text: &[u8],
-    places: &[usize],
-    pins: &[u8],
-    entries: usize,
-    singles: &[u64],
-    lists: &[u64],
-    guesses: &[usize],
-    scale: u64,
-    s: State,
-    t: &[u8],
-    p: usize,
-) -> Step
-    requires { ⌜ Tables (now text) (now places) (now pins) entries (now singles) (now lists) (now guesses) ⌝ }
-    requires { ⌜ 0 < length (now t) ⌝ }
-    ensures { λ r. ⌜ meaning scale p r ≡ tokenAs (find (variables (now (text .entry)) (now (places .entry)) (now (pins .entry)) 0 entries)) scale Mode.Plain s (now (t .entry)) p ⌝ }
-{
-    let item = vcd_items::item_of(t);
-    let code = scalar_code(
-        item,
-        text,
-        places,
-        pins,
-        entries,
-        singles,
-        lists,
-        guesses,
-        t,
-    );
-    vcd_steps::step_item(item, code, scale, s, p)
 }
 
 // The token by what the reader waits for.
@@ -268,32 +212,24 @@ fn token(
     entries: usize,
     singles: &[u64],
     lists: &[u64],
-    guesses: &[usize],
+    slots: &[usize],
     scale: u64,
     s: State,
     t: &[u8],
     p: usize,
 ) -> Step
-    requires { ⌜ Tables (now text) (now places) (now pins) entries (now singles) (now lists) (now guesses) ⌝ }
+    requires { ⌜ Tables (now text) (now places) (now pins) entries (now singles) (now lists) (now slots) ⌝ }
     requires { ⌜ 0 < length (now t) ⌝ }
     ensures { λ r. ⌜ meaning scale p r ≡ tokenAs (find (variables (now (text .entry)) (now (places .entry)) (now (pins .entry)) 0 entries)) scale mode s (now (t .entry)) p ⌝ }
 {
     match mode {
-        Mode::Plain => plain(
-            text,
-            places,
-            pins,
-            entries,
-            singles,
-            lists,
-            guesses,
-            scale,
-            s,
-            t,
-            p,
-        ),
+        Mode::Plain => {
+            let item = vcd_items::item_of(t);
+            let code = scalar_code(item, text, places, pins, entries, singles, lists, slots, t);
+            vcd_steps::step_item(item, code, scale, s, p)
+        }
         Mode::Code => vcd_steps::step_code(
-            found(text, places, pins, entries, singles, lists, guesses, t),
+            found(text, places, pins, entries, singles, lists, slots, t),
             scale,
             s,
             p,
@@ -453,37 +389,6 @@ fn single_change(text: &[u8], singles: &[u64], out: &mut [u32], run: Run, p: usi
     write_change(out, run, singles[wide(b)], text[p], p + 2)
 }
 
-// A change of any other code.
-fn long_change(
-    text: &[u8],
-    places: &[usize],
-    pins: &[u8],
-    entries: usize,
-    singles: &[u64],
-    lists: &[u64],
-    guesses: &[usize],
-    out: &mut [u32],
-    run: Run,
-    p: usize,
-) -> Run
-    requires { ⌜ Tables (now text) (now places) (now pins) entries (now singles) (now lists) (now guesses) ⌝ }
-    requires { ⌜ (p < length (now text)) × (47 < getD (now text) p 0) × (getD (now text) p 0 < 50) ⌝ }
-    ensures { λ r. ⌜ ((scale : ℕ) → p ≡ run .at + whiteLength (drop (run .at) (now (text .entry))) → Leads (find (variables (now (text .entry)) (now (places .entry)) (now (pins .entry)) 0 entries)) scale (now (text .entry)) run (now (out .entry)) r (now (out .exit))) ⌝ }
-{
-    let e = vcd_text::word_end(text, p + 1);
-    let list = found(
-        text,
-        places,
-        pins,
-        entries,
-        singles,
-        lists,
-        guesses,
-        &text[p + 1..e],
-    );
-    write_change(out, run, list, text[p], e)
-}
-
 fn has_room(room: usize, count: usize, n: u64) -> bool
     ensures { λ r. ⌜ (r ≡ true → 0 < n → count + n ≤ room) ⌝ }
 {
@@ -537,30 +442,30 @@ fn short_change(
     entries: usize,
     singles: &[u64],
     lists: &[u64],
-    guesses: &[usize],
+    slots: &[usize],
     out: &mut [u32],
     run: Run,
     p: usize,
 ) -> Run
-    requires { ⌜ Tables (now text) (now places) (now pins) entries (now singles) (now lists) (now guesses) ⌝ }
+    requires { ⌜ Tables (now text) (now places) (now pins) entries (now singles) (now lists) (now slots) ⌝ }
     requires { ⌜ (p < length (now text)) × (47 < getD (now text) p 0) × (getD (now text) p 0 < 50) ⌝ }
     ensures { λ r. ⌜ ((scale : ℕ) → p ≡ run .at + whiteLength (drop (run .at) (now (text .entry))) → Leads (find (variables (now (text .entry)) (now (places .entry)) (now (pins .entry)) 0 entries)) scale (now (text .entry)) run (now (out .entry)) r (now (out .exit))) ⌝ }
 {
     if is_single(text, p + 1) {
         return single_change(text, singles, out, run, p);
     }
-    long_change(
+    let e = vcd_text::word_end(text, p + 1);
+    let list = found(
         text,
         places,
         pins,
         entries,
         singles,
         lists,
-        guesses,
-        out,
-        run,
-        p,
-    )
+        slots,
+        &text[p + 1..e],
+    );
+    write_change(out, run, list, text[p], e)
 }
 
 // A token of the run, or none where the next is another.
@@ -571,13 +476,13 @@ fn run_token(
     entries: usize,
     singles: &[u64],
     lists: &[u64],
-    guesses: &[usize],
+    slots: &[usize],
     scale: u64,
     limit: u64,
     out: &mut [u32],
     run: Run,
 ) -> Run
-    requires { ⌜ Tables (now text) (now places) (now pins) entries (now singles) (now lists) (now guesses) ⌝ }
+    requires { ⌜ Tables (now text) (now places) (now pins) entries (now singles) (now lists) (now slots) ⌝ }
     requires { ⌜ (0 < scale) × (limit ≡ 18446744073709551615 / scale) ⌝ }
     requires { ⌜ run .at ≤ length (now text) ⌝ }
     ensures { λ r. ⌜ Leads (find (variables (now (text .entry)) (now (places .entry)) (now (pins .entry)) 0 entries)) scale (now (text .entry)) run (now (out .entry)) r (now (out .exit)) ⌝ }
@@ -595,7 +500,7 @@ fn run_token(
                 entries,
                 singles,
                 lists,
-                guesses,
+                slots,
                 out,
                 run,
                 p,
@@ -613,13 +518,13 @@ fn run_tokens(
     entries: usize,
     singles: &[u64],
     lists: &[u64],
-    guesses: &[usize],
+    slots: &[usize],
     scale: u64,
     limit: u64,
     out: &mut [u32],
     from: Run,
 ) -> Run
-    requires { ⌜ Tables (now text) (now places) (now pins) entries (now singles) (now lists) (now guesses) ⌝ }
+    requires { ⌜ Tables (now text) (now places) (now pins) entries (now singles) (now lists) (now slots) ⌝ }
     requires { ⌜ (0 < scale) × (limit ≡ 18446744073709551615 / scale) ⌝ }
     ensures { λ r. ⌜ Leads (find (variables (now (text .entry)) (now (places .entry)) (now (pins .entry)) 0 entries)) scale (now (text .entry)) from (now (out .entry)) r (now (out .exit)) ⌝ }
 {
@@ -632,7 +537,7 @@ fn run_tokens(
             entries,
             singles,
             lists,
-            guesses,
+            slots,
             scale,
             limit,
             out,
@@ -667,20 +572,6 @@ fn is_plain(s: State) -> bool
     }
 }
 
-fn at_time(s: State, time: u64, clocks: u64) -> State
-    ensures { λ r. ⌜ r ≡ atTime s time clocks ⌝ }
-{
-    let mode = s.mode;
-    State {
-        mark: s.mark,
-        opened: s.opened,
-        time: time,
-        clocks: clocks,
-        mode: mode,
-        inside: s.inside,
-    }
-}
-
 fn run_from(
     text: &[u8],
     places: &[usize],
@@ -688,13 +579,13 @@ fn run_from(
     entries: usize,
     singles: &[u64],
     lists: &[u64],
-    guesses: &[usize],
+    slots: &[usize],
     scale: u64,
     limit: u64,
     out: &mut [u32],
     from: Position,
 ) -> Position
-    requires { ⌜ Tables (now text) (now places) (now pins) entries (now singles) (now lists) (now guesses) ⌝ }
+    requires { ⌜ Tables (now text) (now places) (now pins) entries (now singles) (now lists) (now slots) ⌝ }
     requires { ⌜ (0 < scale) × (limit ≡ 18446744073709551615 / scale) ⌝ }
     requires { ⌜ (from .state .mode ≡ Mode.Plain) × (from .state .inside ≡ false) ⌝ }
     ensures { λ r. ⌜ (from .at ≤ r .at) × (pieces (find (variables (now (text .entry)) (now (places .entry)) (now (pins .entry)) 0 entries)) scale (r .state) 0 (r .count) (now (out .exit)) (tokens false (r .at) (drop (r .at) (now (text .entry)))) ≡ pieces (find (variables (now (text .entry)) (now (places .entry)) (now (pins .entry)) 0 entries)) scale (from .state) 0 (from .count) (now (out .entry)) (tokens false (from .at) (drop (from .at) (now (text .entry))))) ⌝ }
@@ -713,13 +604,15 @@ fn run_from(
         entries,
         singles,
         lists,
-        guesses,
+        slots,
         scale,
         limit,
         out,
         start,
     );
-    let next = at_time(s, run.time, run.clocks);
+    let mut next = s;
+    next.time = run.time;
+    next.clocks = run.clocks;
     Position {
         at: run.at,
         count: run.count,
@@ -735,14 +628,14 @@ fn pass_run(
     entries: usize,
     singles: &[u64],
     lists: &[u64],
-    guesses: &[usize],
+    slots: &[usize],
     scale: u64,
     limit: u64,
     done: u64,
     out: &mut [u32],
     from: Position,
 ) -> Position
-    requires { ⌜ Tables (now text) (now places) (now pins) entries (now singles) (now lists) (now guesses) ⌝ }
+    requires { ⌜ Tables (now text) (now places) (now pins) entries (now singles) (now lists) (now slots) ⌝ }
     requires { ⌜ (0 < scale → limit ≡ 18446744073709551615 / scale) ⌝ }
     ensures { λ r. ⌜ (from .at ≤ r .at) × (pieces (find (variables (now (text .entry)) (now (places .entry)) (now (pins .entry)) 0 entries)) scale (r .state) done (r .count) (now (out .exit)) (tokens false (r .at) (drop (r .at) (now (text .entry)))) ≡ pieces (find (variables (now (text .entry)) (now (places .entry)) (now (pins .entry)) 0 entries)) scale (from .state) done (from .count) (now (out .entry)) (tokens false (from .at) (drop (from .at) (now (text .entry))))) ⌝ }
 {
@@ -760,7 +653,7 @@ fn pass_run(
             entries,
             singles,
             lists,
-            guesses,
+            slots,
             scale,
             limit,
             out,
@@ -824,12 +717,12 @@ fn read_tokens(
     entries: usize,
     singles: &[u64],
     lists: &[u64],
-    guesses: &[usize],
+    slots: &[usize],
     scale: u64,
     out: &mut [u32],
     from: Cursor,
 ) -> Piece
-    requires { ⌜ Tables (now text) (now places) (now pins) entries (now singles) (now lists) (now guesses) ⌝ }
+    requires { ⌜ Tables (now text) (now places) (now pins) entries (now singles) (now lists) (now slots) ⌝ }
     ensures { λ r. ⌜ answer (now (out .exit)) r ≡ pieces (find (variables (now (text .entry)) (now (places .entry)) (now (pins .entry)) 0 entries)) scale (from .state) (from .done) 0 (now (out .entry)) (tokens false (from .at) (drop (from .at) (now (text .entry)))) ⌝ }
 {
     let mut s = from.state;
@@ -850,7 +743,7 @@ fn read_tokens(
             entries,
             singles,
             lists,
-            guesses,
+            slots,
             scale,
             limit,
             done,
@@ -871,7 +764,7 @@ fn read_tokens(
                 entries,
                 singles,
                 lists,
-                guesses,
+                slots,
                 scale,
                 s,
                 &text[p..e],
@@ -900,7 +793,7 @@ fn read_tokens(
 }
 
 // The body of a file, from a cursor on, into lent places.
-// Wrong answers: the place of the next token told; a word written past the places that are left.
+// Wrong answers: all clocks up to a time at each time; 42 for no room.
 pub fn read(
     text: &[u8],
     places: &[usize],
@@ -916,8 +809,8 @@ pub fn read(
     fill_singles(text, places, pins, entries, &mut singles);
     let mut lists = [0u64; 32];
     fill_lists(text, places, pins, entries, &mut lists);
-    let mut guesses = [32usize; 256];
-    fill_guesses(text, places, &mut guesses);
+    let mut slots = [32usize; 256];
+    fill_slots(text, places, &mut slots);
     read_tokens(
         text,
         places,
@@ -925,7 +818,7 @@ pub fn read(
         entries,
         &singles,
         &lists,
-        &guesses,
+        &slots,
         scale,
         out,
         from,

@@ -55,8 +55,8 @@ joinedTo list pin = pick (ltb list 4294967296) (pick (eqb pin 0) list (list % 16
 unfoldable pub foundAfter : List ℕ → List ℕ → List ℕ → ℕ → List ℕ → Found → Found
 foundAfter text places pins k code rest = pick (sameBytes (codeAt text places k) code) (joins (getD pins k 0) rest) rest
 
--- a number below 256 for a code, by which the reader guesses its entry: of its first, middle and last byte
-unfoldable pub guessOf : List ℕ → ℕ
-guessOf code =
+-- the hash of a code, below 256, by which the reader looks its entry up: of its first, middle and last byte
+unfoldable pub hashOf : List ℕ → ℕ
+hashOf code =
     pick (eqb (length code) 0) 0
     ((getD code 0 0 * 5 + getD code ((length code - 1) / 2) 0 * 3 + getD code (length code - 1) 0) % 256)

@@ -5,7 +5,7 @@ ghost use lib.ListN.{getD};
 ghost use lib.Dec.{ltb};
 ghost use Rattle.bits.specs.Byte.{pick};
 ghost use Rattle.vcd_text.specs.Token.{sameBytes};
-ghost use Rattle.vcd_codes.specs.Codes.{codeAt, variables, find, meant, joinedTo, foundAfter, guessOf};
+ghost use Rattle.vcd_codes.specs.Codes.{codeAt, variables, find, meant, joinedTo, foundAfter, hashOf};
 
 // No variable has the code.
 pub const UNDECLARED: u64 = 4294967296;
@@ -45,7 +45,7 @@ fn least(a: usize, b: usize) -> usize
 }
 
 // A code is that of an entry.
-// Wrong answers: true for the code of the entry before; false for the last entry.
+// Wrong answers: the code of the entry before compared; that of the next entry.
 pub fn is_code(text: &[u8], places: &[usize], k: usize, code: &[u8]) -> bool
     ensures { λ r. ⌜ r ≡ sameBytes (codeAt (now (text .entry)) (now (places .entry)) k) (now (code .entry)) ⌝ }
 {
@@ -86,7 +86,7 @@ fn with_entry(text: &[u8], places: &[usize], pins: &[u8], k: usize, code: &[u8],
 }
 
 // What a code stands for, from the last entry to the first.
-// Wrong answers: the pins in the other order; the first entry left out.
+// Wrong answers: the pins in the other order; the last entry left out.
 pub fn list_of(text: &[u8], places: &[usize], pins: &[u8], entries: usize, code: &[u8]) -> u64
     ensures { λ r. ⌜ meant r ≡ find (variables (now (text .entry)) (now (places .entry)) (now (pins .entry)) 0 entries) (now (code .entry)) ⌝ }
 {
@@ -100,7 +100,7 @@ pub fn list_of(text: &[u8], places: &[usize], pins: &[u8], entries: usize, code:
 }
 
 // What the code of an entry stands for.
-// Wrong answers: what the code of the next entry stands for; no variable for the last entry.
+// Wrong answers: what the code of the next entry stands for; one entry fewer looked at.
 pub fn list_at(text: &[u8], places: &[usize], pins: &[u8], entries: usize, k: usize) -> u64
     ensures { λ r. ⌜ meant r ≡ find (variables (now (text .entry)) (now (places .entry)) (now (pins .entry)) 0 entries) (codeAt (now (text .entry)) (now (places .entry)) k) ⌝ }
 {
@@ -109,10 +109,10 @@ pub fn list_at(text: &[u8], places: &[usize], pins: &[u8], entries: usize, k: us
     list_of(text, places, pins, entries, &text[from..to])
 }
 
-// A guess of a code's entry is looked up under this number. Few of the declared codes share one.
-// Wrong answers: another factor for the first byte; 256 among the numbers.
-pub fn guess_of(code: &[u8]) -> usize
-    ensures { λ r. ⌜ (r ≡ guessOf (now (code .entry))) × (r < 256) ⌝ }
+// The hash of a code, by which its entry is looked up. Few of the declared codes share one.
+// Wrong answers: another factor for the first byte; 256 among the hashes.
+pub fn hash_of(code: &[u8]) -> usize
+    ensures { λ r. ⌜ (r ≡ hashOf (now (code .entry))) × (r < 256) ⌝ }
 {
     if code.len() == 0 {
         return 0;
@@ -122,12 +122,12 @@ pub fn guess_of(code: &[u8]) -> usize
     (sum % 256) as usize
 }
 
-// The number of the code of an entry.
-// Wrong answers: that of the next entry; 0.
-pub fn guess_at(text: &[u8], places: &[usize], k: usize) -> usize
-    ensures { λ r. ⌜ (r ≡ guessOf (codeAt (now (text .entry)) (now (places .entry)) k)) × (r < 256) ⌝ }
+// The hash of the code of an entry.
+// Wrong answers: the hash of the next entry's code; only hashes below 255 given.
+pub fn hash_at(text: &[u8], places: &[usize], k: usize) -> usize
+    ensures { λ r. ⌜ (r ≡ hashOf (codeAt (now (text .entry)) (now (places .entry)) k)) × (r < 256) ⌝ }
 {
     let to = least(code_to(places, k), text.len());
     let from = least(code_from(places, k), to);
-    guess_of(&text[from..to])
+    hash_of(&text[from..to])
 }

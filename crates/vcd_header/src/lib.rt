@@ -397,7 +397,7 @@ fn ending_step(t: &[u8], h: Head, e: usize) -> Head
 }
 
 // A token from place p to place e, by section.
-// Wrong answers: 10 ns taken for 1 ns; a size of 2 taken for a scalar.
+// Wrong answers: a size of 2 taken for a scalar's; a variable with an index taken for the scalar.
 pub fn step(section: Section, t: &[u8], h: Head, p: usize, e: usize) -> Head
     ensures { λ r. ⌜ r ≡ stepAs section (now (t .entry)) h p e ⌝ }
 {
@@ -420,7 +420,7 @@ pub fn step(section: Section, t: &[u8], h: Head, p: usize, e: usize) -> Head
 }
 
 // The end of a file of a size.
-// Wrong answers: a $var that is cut off accepted; a file that ends between sections refused.
+// Wrong answers: a unit without letters told as a time that goes back; a file that ends between sections refused.
 pub fn end(h: Head, size: usize) -> Head
     ensures { λ r. ⌜ r ≡ endAs (h .section) h size ⌝ }
 {

@@ -15,7 +15,7 @@ pub struct Put {
 }
 
 // The 8 µs clocks that a time makes due, but for those that are done.
-// Wrong answers: a clock too many; 43 where the last clock takes the last place.
+// Wrong answers: a clock too many; the word of another clock.
 pub fn clocks(out: &mut [u32], from: usize, due: u64, done: u64) -> Put
     ensures { λ r. ⌜ wrote (now (out .exit)) r ≡ put (replicate (due - done) clockWord) (now (out .entry)) from done ⌝ }
 {
@@ -71,7 +71,7 @@ fn passed(list: u32, done: u64) -> u32
 }
 
 // A word for each pin of a list of at most four, but for those that are done.
-// Wrong answers: the level of x taken for 0; the pins from the last to the first.
+// Wrong answers: the level of 1 written for 0; a pin that is done written again.
 pub fn pins(out: &mut [u32], from: usize, list: u32, high: bool, done: u64) -> Put
     ensures { λ r. ⌜ wrote (now (out .exit)) r ≡ put (drop done (pinWords 4 list high)) (now (out .entry)) from done ⌝ }
 {

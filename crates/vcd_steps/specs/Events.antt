@@ -14,7 +14,7 @@ pub record Event : Type 0 where
 abbrev pub event : Bool → ℕ → ℕ → ℕ → Event
 event tick place time word = record { place = place; time = time; word = word; tick = tick }
 
--- clocks stand at whole multiples of 8 µs, the first at 8 µs: how many there are up to and at a time in units of scale ps
+-- a clock stands every 8 µs, at 0 none: how many there are up to and at a time in units of scale ps
 abbrev pub clocksBy : ℕ → ℕ → ℕ
 clocksBy time scale = time * scale / 8000000
 

@@ -8,7 +8,8 @@ use borrow.Author.Needs.{needs}
 use lib.ListN.{length, take, drop}
 use lib.Seq.{length-take-le}
 use Rattle.run.specs.declared.RunResult.{RunResult}
-use Rattle.text.specs.Text.{hexLines, wordsOf}
+use Rattle.blocks.specs.Bytes.{wordsOf}
+use Rattle.text.specs.Text.{hexLines}
 use Rattle.text.proofs.Some.{left-words, read-length, chip-after, answers-read, answers-length}
 use Rattle.text.proofs.answer_some.Statement.{statement}
 use Rattle.text.proofs.answer_some.Tie as tie

@@ -7,8 +7,9 @@ use native.Mathlib.Omega.{arith}
 use borrow.Author.Needs.{needs}
 use lib.ListN.{length, drop}
 use Rattle.run.specs.Run.{advanced, advancedAnswers}
-use Rattle.text.specs.Text.{wordsOf, hexLines}
-use Rattle.text.proofs.Words.{length-words}
+use Rattle.blocks.specs.Bytes.{wordsOf}
+use Rattle.text.specs.Text.{hexLines}
+use Rattle.blocks.proofs.Words.{length-words}
 use Rattle.text.proofs.Lines.{Progress, no-word, length-kept, words-more, words-all}
 use Rattle.text.proofs.answer_words.Statement.{statement}
 use Rattle.text.proofs.answer_words.Tie as tie

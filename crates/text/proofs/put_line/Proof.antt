@@ -8,7 +8,7 @@ use lib.ListN.{length, take, drop}
 use borrow.Rule.Slice.PartMut.{putMid}
 use Rattle.hex.specs.Hex.{hexLine}
 use Rattle.hex.proofs.Line.{length-line}
-use Rattle.places.proofs.Place.{placed}
+use Rattle.places.proofs.Place.{placed-as}
 use borrow.Author.Needs.{needs}
 use Rattle.text.proofs.put_line.Statement.{statement}
 use Rattle.text.proofs.put_line.Tie as tie
@@ -28,8 +28,5 @@ put-line-spec =
     let old = start .args .text .now in
     let at = start .args .at in
     let line = c .before .before .before .before .before .hex-line in
-    let n : length (line .result) ≡ 9 = ap length (line .ensures) ∙ length-line (start .args .a) in
     ap (putMid at (length old - at) old) (c .before .before .copy .ensures .1)
-    ∙ placed old (line .result) at (omega (arith, n))
-    ∙ ap (λ (l : List ℕ). take at old ++ (l ++ drop (at + length l) old)) (line .ensures)
-    ∙ ap (λ (m : ℕ). take at old ++ (hexLine (start .args .a) ++ drop (at + m) old)) (length-line (start .args .a))))
+    ∙ placed-as old (line .result) (hexLine (start .args .a)) at 9 (line .ensures) (length-line (start .args .a)) (start .pre)))

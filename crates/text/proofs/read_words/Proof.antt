@@ -6,7 +6,7 @@ use Prim.Native.Nat.{_≤_, _-_}
 use native.Mathlib.Omega.{arith}
 use borrow.Author.Needs.{needs}
 use lib.ListN.{length, take, drop}
-use Rattle.text.specs.Text.{wordsOf}
+use Rattle.blocks.specs.Bytes.{wordsOf}
 use Rattle.text.proofs.Some.{read-length, read-more, read-all}
 use Rattle.text.proofs.read_words.Statement.{statement}
 use Rattle.text.proofs.read_words.Tie as tie

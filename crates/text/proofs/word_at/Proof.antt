@@ -1,7 +1,7 @@
 -- `text::word_at` meets its contract.
 -- Assumes nothing.
 use borrow.Author.Needs.{needs}
-use Rattle.text.proofs.Words.{word-at}
+use Rattle.blocks.proofs.Words.{word-at}
 use Rattle.text.proofs.word_at.Statement.{statement}
 use Rattle.text.proofs.word_at.Tie as tie
 

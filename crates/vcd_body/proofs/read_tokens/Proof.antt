@@ -15,10 +15,10 @@ use Rattle.vcd_body.proofs.read_tokens.Statement.{statement}
 use Rattle.vcd_body.proofs.read_tokens.Tie as tie
 
 abbrev Inv-loop : tie.InvT-loop
-Inv-loop text places pins entries singles lists guesses scale out₀ s₀ done₀ count₀ at₀ limit out s done count at = (length out ≡ length out₀) × (pieces (find (variables text places pins 0 entries)) scale s done count out (tokens false at (drop at text)) ≡ pieces (find (variables text places pins 0 entries)) scale s₀ done₀ 0 out₀ (tokens false at₀ (drop at₀ text)))
+Inv-loop text places pins entries singles lists slots scale out₀ s₀ done₀ count₀ at₀ limit out s done count at = (length out ≡ length out₀) × (pieces (find (variables text places pins 0 entries)) scale s done count out (tokens false at (drop at text)) ≡ pieces (find (variables text places pins 0 entries)) scale s₀ done₀ 0 out₀ (tokens false at₀ (drop at₀ text)))
 
 abbrev μ-loop : tie.MeasureT-loop
-μ-loop text places pins entries singles lists guesses scale out₀ s₀ done₀ count₀ at₀ limit out s done count at = length text - at
+μ-loop text places pins entries singles lists slots scale out₀ s₀ done₀ count₀ at₀ limit out s done count at = length text - at
 
 loop-holds : tie.Need-loop-holds Inv-loop μ-loop
 loop-holds c = (refl, refl)

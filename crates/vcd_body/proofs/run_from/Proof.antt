@@ -9,8 +9,7 @@ run-from-spec =
     tie.close
     (tie.spec
     (λ c κs. search needs)
-    (λ c κs. search needs)
     (λ c. search needs)
-    (λ c. let start = c .before .before .before .before .before .before .before .before .before .before .before .before .before in
-    let run = c .before .before .before .run-tokens .ensures in
-    (run .onward, rw (c .at-time .ensures) (run .same (start .args .from .state) (start .pre .1 .1 .0) (start .pre .1 .1 .1)))))
+    (λ c. let start = c .before .before .before .before .before .before .before .before .before .before .before .before in
+    let run = c .before .before .run-tokens .ensures in
+    (run .onward, run .same (start .args .from .state) (start .pre .1 .1 .0) (start .pre .1 .1 .1))))

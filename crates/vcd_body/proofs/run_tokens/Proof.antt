@@ -11,10 +11,10 @@ use Rattle.vcd_body.proofs.run_tokens.Statement.{statement}
 use Rattle.vcd_body.proofs.run_tokens.Tie as tie
 
 abbrev Inv-loop : tie.InvT-loop
-Inv-loop text places pins entries singles lists guesses scale limit out₀ run₀ out run = (length out ≡ length out₀) × Leads (find (variables text places pins 0 entries)) scale text run₀ out₀ run out
+Inv-loop text places pins entries singles lists slots scale limit out₀ run₀ out run = (length out ≡ length out₀) × Leads (find (variables text places pins 0 entries)) scale text run₀ out₀ run out
 
 abbrev μ-loop : tie.MeasureT-loop
-μ-loop text places pins entries singles lists guesses scale limit out₀ run₀ out run = length text - run .at
+μ-loop text places pins entries singles lists slots scale limit out₀ run₀ out run = length text - run .at
 
 loop-holds : tie.Need-loop-holds Inv-loop μ-loop
 loop-holds c = (refl, leads-nowhere _ _ _ _ _)

@@ -1,15 +1,15 @@
--- `vcd_codes::guess_of` meets its contract.
+-- `vcd_codes::hash_of` meets its contract.
 -- Assumes nothing.
-use Rattle.vcd_codes.specs.Codes.{guessOf}
+use Rattle.vcd_codes.specs.Codes.{hashOf}
 use native.Mathlib.Omega.{arith}
 use borrow.Author.Tests.{eq-eqb, ne-eqb}
 use borrow.Author.Needs.{needs}
-use Rattle.vcd_codes.proofs.guess_of.Statement.{statement}
-use Rattle.vcd_codes.proofs.guess_of.Tie as tie
+use Rattle.vcd_codes.proofs.hash_of.Statement.{statement}
+use Rattle.vcd_codes.proofs.hash_of.Tie as tie
 
-pub guess-of-spec : {M : Type 1} → statement M
-unfolding guessOf
-guess-of-spec =
+pub hash-of-spec : {M : Type 1} → statement M
+unfolding hashOf
+hash-of-spec =
     tie.close
     (tie.spec
     (λ c. (simp (eq-eqb _ _ (c .if1 .taken)), search needs))

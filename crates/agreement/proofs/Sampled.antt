@@ -1,4 +1,4 @@
--- What is heard before a place of the list, and what the plain reading finds from that place on.
+-- What is sampled of an address before a place of the list, and what the plain reading finds from that place on.
 -- Assumes nothing.
 use Prim.Native.Nat.{ℕ, suc, _+_, _-_}
 use mathlib.Core.Path.{_≡_, refl, ap, sym, _∙_}
@@ -67,56 +67,56 @@ module _ (cs : List ℕ) (i : ℕ) where
   pub at-scl : lineAt cs i ≡ SCL → At cs i (sclKind (sclBefore cs i) (sdaBefore cs i) (highAt cs i))
   at-scl e = at-scl-by e (sclBefore cs i) (highAt cs i) refl refl
 
--- ---- what is heard before a place
+-- ---- what is sampled of an address before a place
 
 -- nothing that can still be listed; the levels since a START, fewer than eight; an address that matched, its ninth rise to come
-pub data Heard : Type 0 where
-  quiet : Heard
-  since : List Bool → Heard
-  ours : Heard
+pub data Sampled : Type 0 where
+  nothing : Sampled
+  since : List Bool → Sampled
+  ours : Sampled
 
-abbrev pub Few : Heard → Type 0
-Few quiet = Unit
+abbrev pub Few : Sampled → Type 0
+Few nothing = Unit
 Few (since ls) = ltb (length ls) 8 ≡ true
 Few ours = Unit
 
 abbrev pub isOurs : ℕ → ℕ → Bool
 isOurs own byte = isOwn (compared own byte)
 
-abbrev pub heardEight : Bool → Heard
-heardEight true = ours
-heardEight false = quiet
+abbrev pub sampledEight : Bool → Sampled
+sampledEight true = ours
+sampledEight false = nothing
 
-abbrev pub heardRise : ℕ → Bool → Heard → Heard
-heardRise own x quiet = quiet
-heardRise own x (since ls) = pick (eqb (length ls) 7) (heardEight (isOurs own (byteOf (ls ++ (x ∷ []))))) (since (ls ++ (x ∷ [])))
-heardRise own x ours = ours
+abbrev pub sampledRise : ℕ → Bool → Sampled → Sampled
+sampledRise own x nothing = nothing
+sampledRise own x (since ls) = pick (eqb (length ls) 7) (sampledEight (isOurs own (byteOf (ls ++ (x ∷ []))))) (since (ls ++ (x ∷ [])))
+sampledRise own x ours = ours
 
-abbrev pub heardNext : ℕ → Kind → Heard → Heard
-heardNext own start h = since []
-heardNext own stop h = quiet
-heardNext own (rise x) h = heardRise own x h
-heardNext own other h = h
+abbrev pub sampledNext : ℕ → Kind → Sampled → Sampled
+sampledNext own start h = since []
+sampledNext own stop h = nothing
+sampledNext own (rise x) h = sampledRise own x h
+sampledNext own other h = h
 
 -- what the place brings
-abbrev pub foundRise : ℕ → Bool → Heard → List Found
-foundRise own x quiet = []
+abbrev pub foundRise : ℕ → Bool → Sampled → List Found
+foundRise own x nothing = []
 foundRise own x (since ls) = pick (eqb (length ls) 7) (found own (byteOf (ls ++ (x ∷ []))) ∷ []) []
 foundRise own x ours = []
 
-abbrev pub foundNext : ℕ → Kind → Heard → List Found
+abbrev pub foundNext : ℕ → Kind → Sampled → List Found
 foundNext own start h = []
 foundNext own stop h = []
 foundNext own (rise x) h = foundRise own x h
 foundNext own other h = []
 
 -- and whether the reading stops there
-abbrev pub stopsRise : Heard → Bool
-stopsRise quiet = false
+abbrev pub stopsRise : Sampled → Bool
+stopsRise nothing = false
 stopsRise (since ls) = false
 stopsRise ours = true
 
-abbrev pub stopsNext : Kind → Heard → Bool
+abbrev pub stopsNext : Kind → Sampled → Bool
 stopsNext start h = false
 stopsNext stop h = false
 stopsNext (rise x) h = stopsRise h
@@ -133,13 +133,13 @@ endsIn own levels = not (ltb (length levels) 9) && isOurs own (byteOf (take 8 le
 abbrev foundSince : ℕ → List Bool → List Found → List Found
 foundSince own levels rest = addressIn own levels ++ pick (endsIn own levels) [] rest
 
-abbrev pub foundIn : ℕ → List ℕ → ℕ → ℕ → Heard → List Found
-foundIn own cs i n quiet = addressesFrom own cs i n
+abbrev pub foundIn : ℕ → List ℕ → ℕ → ℕ → Sampled → List Found
+foundIn own cs i n nothing = addressesFrom own cs i n
 foundIn own cs i n (since ls) = foundSince own (ls ++ levelsAt cs (risesFrom cs i n)) (addressesFrom own cs i n)
 foundIn own cs i n ours = pick (ltb 0 (length (risesFrom cs i n))) [] (addressesFrom own cs i n)
 
-abbrev pub readIn : ℕ → List ℕ → ℕ → ℕ → Heard → ℕ
-readIn own cs i n quiet = changesFrom own cs i n
+abbrev pub readIn : ℕ → List ℕ → ℕ → ℕ → Sampled → ℕ
+readIn own cs i n nothing = changesFrom own cs i n
 readIn own cs i n (since ls) =
     pick (endsIn own (ls ++ levelsAt cs (risesFrom cs i n))) (suc (getD (risesFrom cs i n) (8 - length ls) 0)) (changesFrom own cs i n)
 readIn own cs i n ours = pick (ltb 0 (length (risesFrom cs i n))) (suc (getD (risesFrom cs i n) 0 0)) (changesFrom own cs i n)
@@ -173,12 +173,12 @@ module _ (own : ℕ) (eight : List Bool) (levels : List Bool) (e : length eight 
 
 -- the two ways that an address of eight levels goes on
 eight-goes : (own : ℕ) (cs : List ℕ) (i n : ℕ) (matched : Bool)
-    → pick (ltb 0 (length (risesFrom cs i n)) && matched) [] (addressesFrom own cs i n) ≡ foundIn own cs i n (heardEight matched)
+    → pick (ltb 0 (length (risesFrom cs i n)) && matched) [] (addressesFrom own cs i n) ≡ foundIn own cs i n (sampledEight matched)
 eight-goes own cs i n true = rw (and-true (ltb 0 (length (risesFrom cs i n))))
 eight-goes own cs i n false = rw (and-false (ltb 0 (length (risesFrom cs i n))))
 
 eight-reads : (own : ℕ) (cs : List ℕ) (i n : ℕ) (matched : Bool)
-    → pick (ltb 0 (length (risesFrom cs i n)) && matched) (suc (getD (risesFrom cs i n) 0 0)) (changesFrom own cs i n) ≡ readIn own cs i n (heardEight matched)
+    → pick (ltb 0 (length (risesFrom cs i n)) && matched) (suc (getD (risesFrom cs i n) 0 0)) (changesFrom own cs i n) ≡ readIn own cs i n (sampledEight matched)
 eight-reads own cs i n true = rw (and-true (ltb 0 (length (risesFrom cs i n))))
 eight-reads own cs i n false = rw (and-false (ltb 0 (length (risesFrom cs i n))))
 
@@ -208,7 +208,7 @@ module _ (own : ℕ) (cs : List ℕ) (i n : ℕ) where
   unfolding changesFrom endsAt
   no-stop a = rw a
 
-  -- a START brings what is found with no level heard
+  -- a START brings what is found with no level sampled
   start-found : length cs ≡ i + suc n → startAt cs i ≡ true → addressesFrom own cs i (suc n) ≡ foundIn own cs (suc i) n (since [])
   unfolding addressesFrom addressAt endsAt
   start-found m a =
@@ -221,32 +221,32 @@ module _ (own : ℕ) (cs : List ℕ) (i n : ℕ) where
       let left : length cs - suc i ≡ n = omega arith in
       rw (left, a, length-map (risesFrom cs (suc i) n) (sdaBefore cs))
 
-  -- whatever was heard, a START or a STOP ends it
-  ended-found : (h : Heard) → Few h → (startAt cs i || stopAt cs i) ≡ true → foundIn own cs i (suc n) h ≡ addressesFrom own cs i (suc n)
-  ended-found quiet f e = refl
+  -- whatever was sampled, a START or a STOP ends it
+  ended-found : (h : Sampled) → Few h → (startAt cs i || stopAt cs i) ≡ true → foundIn own cs i (suc n) h ≡ addressesFrom own cs i (suc n)
+  ended-found nothing f e = refl
   ended-found (since ls) f e = rw (none-at e) (since-ended own ls (addressesFrom own cs i (suc n)) f)
   ended-found ours f e = rw (none-at e)
 
-  ended-reads : (h : Heard) → Few h → (startAt cs i || stopAt cs i) ≡ true → readIn own cs i (suc n) h ≡ changesFrom own cs i (suc n)
-  ended-reads quiet f e = refl
+  ended-reads : (h : Sampled) → Few h → (startAt cs i || stopAt cs i) ≡ true → readIn own cs i (suc n) h ≡ changesFrom own cs i (suc n)
+  ended-reads nothing f e = refl
   ended-reads (since ls) f e = rw (none-at e, since-unended own ls f)
   ended-reads ours f e = rw (none-at e)
 
   -- another change is passed over
-  other-found : (h : Heard) → startAt cs i ≡ false → stopAt cs i ≡ false → riseAt cs i ≡ false → foundIn own cs i (suc n) h ≡ foundIn own cs (suc i) n h
-  other-found quiet a b c = no-address a
+  other-found : (h : Sampled) → startAt cs i ≡ false → stopAt cs i ≡ false → riseAt cs i ≡ false → foundIn own cs i (suc n) h ≡ foundIn own cs (suc i) n h
+  other-found nothing a b c = no-address a
   other-found (since ls) a b c = rw (later-at a b c, no-address a)
   other-found ours a b c = rw (later-at a b c, no-address a)
 
-  other-reads : (h : Heard) → startAt cs i ≡ false → stopAt cs i ≡ false → riseAt cs i ≡ false → readIn own cs i (suc n) h ≡ readIn own cs (suc i) n h
-  other-reads quiet a b c = no-stop a
+  other-reads : (h : Sampled) → startAt cs i ≡ false → stopAt cs i ≡ false → riseAt cs i ≡ false → readIn own cs i (suc n) h ≡ readIn own cs (suc i) n h
+  other-reads nothing a b c = no-stop a
   other-reads (since ls) a b c = rw (later-at a b c, no-stop a)
   other-reads ours a b c = rw (later-at a b c, no-stop a)
 
   -- a rise adds a level
-  rise-found : (h : Heard) → Few h → stopsRise h ≡ false → startAt cs i ≡ false → stopAt cs i ≡ false → riseAt cs i ≡ true
-      → foundIn own cs i (suc n) h ≡ foundRise own (sdaBefore cs i) h ++ foundIn own cs (suc i) n (heardRise own (sdaBefore cs i) h)
-  rise-found quiet f s a b c = no-address a
+  rise-found : (h : Sampled) → Few h → stopsRise h ≡ false → startAt cs i ≡ false → stopAt cs i ≡ false → riseAt cs i ≡ true
+      → foundIn own cs i (suc n) h ≡ foundRise own (sdaBefore cs i) h ++ foundIn own cs (suc i) n (sampledRise own (sdaBefore cs i) h)
+  rise-found nothing f s a b c = no-address a
   rise-found (since ls) f s a b c = rw (one-at a b c, no-address a) (gathered (eqb (length ls) 7) refl)
     where
       joined : ls ++ (sdaBefore cs i ∷ levelsAt cs (risesFrom cs (suc i) n)) ≡ (ls ++ (sdaBefore cs i ∷ [])) ++ levelsAt cs (risesFrom cs (suc i) n)
@@ -255,7 +255,7 @@ module _ (own : ℕ) (cs : List ℕ) (i n : ℕ) where
       gathered : (last : Bool) → eqb (length ls) 7 ≡ last
           → foundSince own (ls ++ (sdaBefore cs i ∷ levelsAt cs (risesFrom cs (suc i) n))) (addressesFrom own cs (suc i) n)
           ≡ pick last (found own (byteOf (ls ++ (sdaBefore cs i ∷ []))) ∷ []) []
-          ++ foundIn own cs (suc i) n (pick last (heardEight (isOurs own (byteOf (ls ++ (sdaBefore cs i ∷ []))))) (since (ls ++ (sdaBefore cs i ∷ []))))
+          ++ foundIn own cs (suc i) n (pick last (sampledEight (isOurs own (byteOf (ls ++ (sdaBefore cs i ∷ []))))) (since (ls ++ (sdaBefore cs i ∷ []))))
       gathered false l = rw joined
       gathered true l =
           let eight : length (ls ++ (sdaBefore cs i ∷ [])) ≡ 8 = length-append ls (sdaBefore cs i ∷ []) ∙ omega (arith, eqb-true (length ls) 7 l) in
@@ -268,9 +268,9 @@ module _ (own : ℕ) (cs : List ℕ) (i n : ℕ) where
           (ap (λ (rest : List Found). found own (byteOf (ls ++ (sdaBefore cs i ∷ []))) ∷ rest) (eight-goes own cs (suc i) n (isOurs own (byteOf (ls ++ (sdaBefore cs i ∷ []))))))
   rise-found ours f s a b c = absurd (true≢false s)
 
-  rise-reads : (h : Heard) → Few h → stopsRise h ≡ false → startAt cs i ≡ false → stopAt cs i ≡ false → riseAt cs i ≡ true
-      → readIn own cs i (suc n) h ≡ readIn own cs (suc i) n (heardRise own (sdaBefore cs i) h)
-  rise-reads quiet f s a b c = no-stop a
+  rise-reads : (h : Sampled) → Few h → stopsRise h ≡ false → startAt cs i ≡ false → stopAt cs i ≡ false → riseAt cs i ≡ true
+      → readIn own cs i (suc n) h ≡ readIn own cs (suc i) n (sampledRise own (sdaBefore cs i) h)
+  rise-reads nothing f s a b c = no-stop a
   rise-reads (since ls) f s a b c = rw (one-at a b c, no-stop a) (gathered (eqb (length ls) 7) refl)
     where
       joined : ls ++ (sdaBefore cs i ∷ levelsAt cs (risesFrom cs (suc i) n)) ≡ (ls ++ (sdaBefore cs i ∷ [])) ++ levelsAt cs (risesFrom cs (suc i) n)
@@ -278,7 +278,7 @@ module _ (own : ℕ) (cs : List ℕ) (i n : ℕ) where
 
       gathered : (last : Bool) → eqb (length ls) 7 ≡ last
           → pick (endsIn own (ls ++ (sdaBefore cs i ∷ levelsAt cs (risesFrom cs (suc i) n)))) (suc (getD (i ∷ risesFrom cs (suc i) n) (8 - length ls) 0)) (changesFrom own cs (suc i) n)
-          ≡ readIn own cs (suc i) n (pick last (heardEight (isOurs own (byteOf (ls ++ (sdaBefore cs i ∷ []))))) (since (ls ++ (sdaBefore cs i ∷ []))))
+          ≡ readIn own cs (suc i) n (pick last (sampledEight (isOurs own (byteOf (ls ++ (sdaBefore cs i ∷ []))))) (since (ls ++ (sdaBefore cs i ∷ []))))
       gathered false l =
           let index : 8 - length ls ≡ suc (7 - length ls) = omega (arith, ltb-true (length ls) 8 f, eqb-false (length ls) 7 l) in
           let later : 8 - length (ls ++ (sdaBefore cs i ∷ [])) ≡ 7 - length ls = rw (length-append ls (sdaBefore cs i ∷ [])) (omega arith) in
@@ -292,11 +292,11 @@ module _ (own : ℕ) (cs : List ℕ) (i n : ℕ) where
 
 -- ---- a place of the list
 
-pub record Turn (own : ℕ) (cs : List ℕ) (i n : ℕ) (k : Kind) (h : Heard) : Type 0 where
-  pub same : foundIn own cs i (suc n) h ≡ foundNext own k h ++ foundIn own cs (suc i) n (heardNext own k h)
-  pub reads : readIn own cs i (suc n) h ≡ readIn own cs (suc i) n (heardNext own k h)
+pub record Turn (own : ℕ) (cs : List ℕ) (i n : ℕ) (k : Kind) (h : Sampled) : Type 0 where
+  pub same : foundIn own cs i (suc n) h ≡ foundNext own k h ++ foundIn own cs (suc i) n (sampledNext own k h)
+  pub reads : readIn own cs i (suc n) h ≡ readIn own cs (suc i) n (sampledNext own k h)
 
-pub turn : (own : ℕ) (cs : List ℕ) (i n : ℕ) {k : Kind} (h : Heard) → length cs ≡ i + suc n → At cs i k → Few h → stopsNext k h ≡ false → Turn own cs i n k h
+pub turn : (own : ℕ) (cs : List ℕ) (i n : ℕ) {k : Kind} (h : Sampled) → length cs ≡ i + suc n → At cs i k → Few h → stopsNext k h ≡ false → Turn own cs i n k h
 turn own cs i n h m (starts a) f s =
     let e : (startAt cs i || stopAt cs i) ≡ true = rw a in
     record { same = ended-found own cs i n h f e ∙ start-found own cs i n m a; reads = ended-reads own cs i n h f e ∙ start-reads own cs i n m a }
@@ -307,15 +307,15 @@ turn own cs i n h m (rises a b c) f s = record { same = rise-found own cs i n h 
 turn own cs i n h m (others a b c) f s = record { same = other-found own cs i n h a b c; reads = other-reads own cs i n h a b c }
 
 -- the ninth rise of an address that matched: nothing more is found, and the list is read up to it
-rise-stops : (own : ℕ) (cs : List ℕ) (i n : ℕ) (h : Heard) → startAt cs i ≡ false → stopAt cs i ≡ false → riseAt cs i ≡ true → stopsRise h ≡ true
+rise-stops : (own : ℕ) (cs : List ℕ) (i n : ℕ) (h : Sampled) → startAt cs i ≡ false → stopAt cs i ≡ false → riseAt cs i ≡ true → stopsRise h ≡ true
     → (foundIn own cs i (suc n) h ≡ []) × (readIn own cs i (suc n) h ≡ suc i)
-rise-stops own cs i n quiet a b c s = absurd (true≢false (sym s))
+rise-stops own cs i n nothing a b c s = absurd (true≢false (sym s))
 rise-stops own cs i n (since ls) a b c s = absurd (true≢false (sym s))
 rise-stops own cs i n ours a b c s =
     let some : ltb 0 (suc (length (risesFrom cs (suc i) n))) ≡ true = lt-ltb 0 (suc (length (risesFrom cs (suc i) n))) (omega arith) in
     (rw (one-at own cs i n a b c, some), rw (one-at own cs i n a b c, some))
 
-pub last-turn : (own : ℕ) (cs : List ℕ) (i n : ℕ) {k : Kind} (h : Heard) → At cs i k → stopsNext k h ≡ true
+pub last-turn : (own : ℕ) (cs : List ℕ) (i n : ℕ) {k : Kind} (h : Sampled) → At cs i k → stopsNext k h ≡ true
     → (foundIn own cs i (suc n) h ≡ []) × (readIn own cs i (suc n) h ≡ suc i)
 last-turn own cs i n h (starts a) s = absurd (true≢false (sym s))
 last-turn own cs i n h (stops a b) s = absurd (true≢false (sym s))
@@ -323,14 +323,14 @@ last-turn own cs i n h (rises a b c) s = rise-stops own cs i n h a b c s
 last-turn own cs i n h (others a b c) s = absurd (true≢false (sym s))
 
 -- past the last place nothing is found
-pub end-found : (own : ℕ) (cs : List ℕ) (i : ℕ) (h : Heard) → Few h → foundIn own cs i 0 h ≡ []
+pub end-found : (own : ℕ) (cs : List ℕ) (i : ℕ) (h : Sampled) → Few h → foundIn own cs i 0 h ≡ []
 unfolding risesFrom addressesFrom
-end-found own cs i quiet f = refl
+end-found own cs i nothing f = refl
 end-found own cs i (since ls) f = since-ended own ls [] f
 end-found own cs i ours f = refl
 
-pub end-reads : (own : ℕ) (cs : List ℕ) (i : ℕ) (h : Heard) → Few h → readIn own cs i 0 h ≡ i
+pub end-reads : (own : ℕ) (cs : List ℕ) (i : ℕ) (h : Sampled) → Few h → readIn own cs i 0 h ≡ i
 unfolding risesFrom changesFrom
-end-reads own cs i quiet f = refl
+end-reads own cs i nothing f = refl
 end-reads own cs i (since ls) f = rw (since-unended own ls f)
 end-reads own cs i ours f = refl
