@@ -78,7 +78,8 @@ run() {
     ready "$1"
     { said=$("$top/target/bin/$1" "${@:2}" 2>&1 >&3 3>&-) || status=$?; } 3>&1
     if [ -n "$said" ]; then
-        tell "$said"
+        # of a list of events that is a pipe the system says too little
+        tell "${said/%: Illegal seek/: cannot be read twice; give a file}"
         [ "$status" != 0 ] || status=$failure
     fi
     exit "$status"
