@@ -13,9 +13,9 @@ extern "C" {
 /* ---- the chip: library capi
  *
  * A chip is a state in an area of 128 bytes that the caller lends (docs/STATE.md). It may be copied, stored in a file and lent again;
- * the library keeps nothing. An area of another length answers 15, and bytes that no well formed state is written as answer 8,
- * both before all else. On every refusal the area keeps its bytes. An area is zeros at first or anything else: nt6861_fresh makes
- * it a chip. */
+ * the library keeps nothing. An area of another length answers 15, and one whose bytes are not those of a well formed state 8, both
+ * before all else. On every refusal the area keeps its bytes. An area is zeros at first or anything else: nt6861_fresh makes it a
+ * chip. */
 
 /* A fresh chip into the area: reset values, all outside levels 1. Gives 0, or 15. */
 uint8_t nt6861_fresh(uint8_t *area, size_t length);
@@ -43,7 +43,7 @@ uint32_t nt6861_outcome(const uint8_t *area, size_t length);
  * nothing is latched, 2 where a counter is in overflow, and in bits 31..24 the number 15, 8, or 2 for another `which`. */
 uint32_t nt6861_rate(const uint8_t *area, size_t length, uint32_t which, double *hertz);
 
-/* EDID base blocks: library edid_capi.
+/* ---- EDID base blocks: library edid_capi
  *
  * The check of a block before it goes into RAM. Reads `length` bytes at `block`, of any length, and keeps nothing. Gives 0 for an
  * accepted block, else the number of the first rule that it breaks: 30 length (not 128 bytes), 31 header, 32 version not
@@ -51,21 +51,21 @@ uint32_t nt6861_rate(const uint8_t *area, size_t length, uint32_t which, double 
  * interface. */
 uint8_t nt6861_edid(const uint8_t *block, size_t length);
 
-/* BEGIN vcd_capi: value change dumps to event words (libvcd_capi.a, `rt staticlib vcd_capi`) */
+/* ---- value change dumps to event words: library vcd_capi */
 
 /* Writes the event words of a dump as far as there are places. Gives 0, or the number of the first refusal, 40 to 44. told has two
-   places: how many words were written, and the place of the refusal (0 where there is none). 15 where told has not two places;
-   then nothing is touched. Places past the words keep their content. */
+ * places: how many words were written, and the place of the refusal (0 where there is none). 15 where told has not two places;
+ * then nothing is touched. Places past the words keep their content. */
 uint8_t nt6861_vcd(const uint8_t *file, size_t size, uint32_t *words, size_t room, uint64_t *told, size_t told_places);
 
 /* The same from a cursor on: eight numbers, zeros at the beginning. After 43 they are where the next call, with the same file, goes
-   on; else they are zeros again. 15 where the cursor has not eight places or told not two; then nothing is touched. */
+ * on; else they are zeros again. 15 where the cursor has not eight places or told not two; then nothing is touched. */
 uint8_t nt6861_vcd_more(const uint8_t *file, size_t size, uint32_t *words, size_t room, uint64_t *cursor, size_t cursor_places,
                         uint64_t *told, size_t told_places);
 
-/* END vcd_capi */
-
-/* ---- sync6862_capi: the sync counters of the NT6861 or the NT6862, in twelve numbers that the caller lends:
+/* ---- the sync counters of the NT6861 or the NT6862: library sync6862_capi
+ *
+ * They are twelve numbers that the caller lends:
  *
  *   0 chip (6861, 6862)    1 HSYNCI    2 VSYNCI    3 HCNT    4 its overflow bit    5 VCNT    6 its overflow bit
  *   7 H latch    8 V latch    9 interval    10 HSEL    11 ENHSEL (0 on the NT6861)
@@ -85,7 +85,7 @@ uint8_t nt6862_counters(uint16_t *state, size_t length, uint32_t call, uint32_t 
  * formed state, -15: a length that is not 12. */
 double nt6862_field_rate(const uint16_t *state, size_t length);
 
-/* ---- recordings from the capture box: libblocks_capi.a */
+/* ---- recordings from the capture box: library blocks_capi */
 
 /* Reads the block in the first 512 of the bytes, whose block number must be `number` (65,536 and more is no block's number).
  * Returns 0, writes its words to the start of `words` and how many they are (0 to 126) to `count`; places past them keep their
@@ -93,52 +93,55 @@ double nt6862_field_rate(const uint16_t *state, size_t length);
  * 126, 14 an unused word that is not zero; then 7 where there are fewer places than words. 126 places are always enough. */
 uint8_t nt6861_read_block(uint32_t number, const uint8_t *bytes, size_t bytes_length, uint32_t *words, size_t words_length, size_t *count);
 
-/* Writes the block with this number and these words to an area of 512 bytes and returns 0. Or writes nothing and returns 16 for
- * more than 126 words, then 17 for an area of another length. */
+/* Writes the block with this number and these words to an area of 512 bytes and returns 0. Or writes nothing and returns 16 where
+ * there are over 126 words; else 17 where the area has another length. */
 uint8_t nt6861_write_block(uint16_t number, const uint32_t *words, size_t words_length, uint8_t *area, size_t area_length);
 
-/* ---- a plain reading of the bus: libaddresses_capi.a */
+/* ---- a plain reading of the bus: library addresses_capi */
 
 /* Lists the addresses in a list of outside changes of SCL and SDA, from both lines 1, for a chip idle in DDC2B with `ii_adr` in II ADR.
  * A change has the line in its upper byte (18H SDA, 19H SCL) and the level in its lower (0, 1). Returns 0, writes each address to the
  * start of `found`, its byte above and its outcome below (0 none, 1 A0H, 2 II ADR, 3 both), and how many they are to `count`; places
  * past them keep their content. The list is read up to the ninth rise of SCL since the START of an address that matched. Or writes
- * nothing and returns, for the first bad change, also past that rise, 2 for another line or 3 for a level above 1; then 7 where there
- * are fewer places than addresses; `changes_length` / 16 + 1 places are always enough. The time grows at most with the square of the
- * length. */
-uint8_t nt6861_addresses(uint8_t ii_adr, const uint16_t *changes, size_t changes_length, uint16_t *found, size_t found_length, size_t *count);
+ * nothing and returns, for the first bad change, also past that rise, 2 where its line is neither, 3 where its level is not 0 or 1; else 7
+ * where there are fewer places than addresses; `changes_length` / 16 + 1 places are always enough. The time grows at most with the
+ * square of the length. */
+uint8_t nt6861_addresses(uint8_t ii_adr, const uint16_t *changes, size_t changes_length, uint16_t *found, size_t found_length,
+                         size_t *count);
 
-/* ---- why request lines are up (Wish 3): libwhy_capi.a
+/* ---- why request lines are up (Wish 3): library why_capi
  *
  * Gives the words to the state in an area of 128 bytes (docs/STATE.md), which stays as it is, and tells of each source why its request
  * line is as it is after them. told has twelve places, two for each of V, E, R, A, D, S in this order: a code, and the place of a word,
  * from 0 (0 where the code names no event).
  *
  *   0 not requested        1 flag set at the start and never cleared
- *   the event that last took the flag from 0 to 1:  2 Vsync rise   3 P16 rise   4 timer
+ *   the event by which the flag last went up:       2 Vsync rise   3 P16 rise   4 timer
  *   5, 6, 7 matched address: A0H, II ADR, both      8 ninth clock  9 DDC1 load  10 SCL fall
  *
- * Returns 0. Or tells nothing and returns 15 for an area of another length, then 8 for bytes that no well formed state is written as. */
+ * Returns 0. Or tells nothing and returns 15 for an area of another length, else 8 where its bytes are not those of a well formed state. */
 uint8_t nt6861_why(const uint8_t *area, size_t area_length, const uint32_t *words, size_t count, uint64_t told[12]);
 
-/* ---- firmware (Wish 5): libfirmware_capi.a
+/* ---- firmware (Wish 5): library firmware_capi
  *
  * Runs `instructions` instructions of a 6502 over the chip in an area of 128 bytes (docs/STATE.md). cpu has eight bytes: A, X, Y, S, P,
  * PC low, PC high, and the cycles since the last 8 us clock (0 to 31); bits 5 and 4 of P are ignored and given back 0. ram has 256 bytes,
  * rom 24,576. An event has in bits 63..32 the number of the instruction that it precedes, counted from 0, and below them its word; its
  * answer goes to the place of the same index. counts has two places: instructions counted, and events given (modulo 2^32).
  *
- * Returns 0, or the number of the refusal of an instruction (5, 6, 20, 21): CPU, RAM and chip are then as that instruction's events and
- * interrupt left them, and answers and counts tell what was given. Or nothing is touched: 15 for a wrong length of cpu, ram, area or counts, before all else; then 8 for bytes that no well formed state is
- * written as or more than 31 cycles, 22 for a ROM of another length, 7 for fewer answer places than events. */
+ * Returns 0, or the number of the refusal of an instruction (5, 6, 20, 21): cpu, ram and area are then written as that instruction's
+ * events and interrupt left them, and answers and counts tell what was given. Or nothing is touched, by the first of these that holds: 15
+ * for a wrong length of cpu, ram, area or counts; 8 where the area is not that of a well formed state or the cycles are above 31; 22
+ * where rom has another length; 7 for fewer answer places than events. At power up cpu is 0, 0, 0, FF, 04, the bytes at FFFC and FFFD,
+ * 0, and ram zeros; examples/firmware.c runs an image from there. */
 uint8_t nt6861_firmware(uint8_t *cpu, size_t cpu_length, uint8_t *ram, size_t ram_length, const uint8_t *rom, size_t rom_length,
                         uint8_t *area, size_t area_length, const uint64_t *events, size_t events_length, uint32_t *answers,
                         size_t answers_length, uint32_t instructions, uint32_t *counts, size_t counts_length);
 
 /* ---- rates of latches: library rates_capi
  *
- * The rates in hertz by the latches alone, as document 01 has them; 0 where there is none (a latch of 0, or above 4095). v is the latch of VCNT,
- * h that of HCNT: the field rate, the line rate at HSEL 0, and the line rate at HSEL 1. */
+ * The rates in hertz by the latches alone, as document 01 has them; 0 where there is none (a latch of 0, or above 4095). v is the latch
+ * of VCNT, h that of HCNT: the field rate, the line rate at HSEL 0, and the line rate at HSEL 1. */
 double nt6861_field_rate(uint16_t v);
 double nt6861_interval_rate(uint16_t h);
 double nt6861_line_rate(uint16_t h, uint16_t v);

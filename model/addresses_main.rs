@@ -9,9 +9,9 @@ use std::process::ExitCode;
 
 const OUTCOMES: [&str; 4] = ["none", "a0", "ii-adr", "both"];
 
-/// What cannot be read or written ends the program with status 2.
+/// What cannot be read or written ends the program with status 2, whether or not that can be told.
 fn stopped(why: &str) -> ExitCode {
-    eprintln!("addresses: {why}");
+    let _ = writeln!(std::io::stderr(), "addresses: {why}");
     ExitCode::from(2)
 }
 

@@ -34,8 +34,7 @@ const USAGE: &str = "usage:
   model host ROM DESCRIPTION             the events of a host that does as described, as a list
   model bus ROM COUNT EVENTS             what passes over the bus in such a run, and what DDC1 sends
   model image SEED                       a random program, as an image
-  model events SEED COUNT                random events, as a list
-  model firmware-bench FOLDER            instructions a second of the images in the folder";
+  model events SEED COUNT                random events, as a list";
 
 fn main() -> ExitCode {
     let arguments: Vec<String> = std::env::args().skip(1).collect();
@@ -59,7 +58,6 @@ fn main() -> ExitCode {
         ["bus", rom, count, events] => bus(rom, count, events),
         ["image", seed] => random_image(seed),
         ["events", seed, count] => random_events(seed, count),
-        ["firmware-bench", folder] => firmware_bench(folder),
         _ => Err(USAGE.to_string()),
     };
     match outcome {
@@ -252,49 +250,4 @@ fn bus(rom: &str, count: &str, events: &str) -> Result<bool, String> {
         text += &format!("DDC1\n{}", dump(&bytes));
     }
     print_bytes(text.as_bytes())
-}
-
-/// Each image alone, then with its host's events again and again; the best of seven.
-fn firmware_bench(folder: &str) -> Result<bool, String> {
-    const INSTRUCTIONS: u32 = 10_000_000;
-    println!("image, events, million instructions a second of processor time");
-    for line in String::from_utf8_lossy(&read_file(&format!("{folder}/runs.txt"))?).lines() {
-        let parts: Vec<&str> = line.split_whitespace().collect();
-        let [name, list, count] = parts[..] else {
-            continue;
-        };
-        let rom = image(&format!("{folder}/{name}.rom"))?;
-        let events = listed(&format!("{folder}/{list}.events"))?;
-        let count = instructions(count)?;
-        let alone = best_rate(1, || firmware::run(black_box(&rom), INSTRUCTIONS, &[]));
-        println!("{name}, none, {alone:.1}");
-        let times = INSTRUCTIONS / count + 1;
-        let rate = best_rate(times, || firmware::run(black_box(&rom), count, &events));
-        println!("{name}, {list}, {rate:.1}");
-    }
-    Ok(true)
-}
-
-fn best_rate(times: u32, run: impl Fn() -> firmware::Ended) -> f64 {
-    let mut best: f64 = 0.0;
-    for _ in 0..7 {
-        let begin = processor_seconds();
-        let mut counted = 0;
-        for _ in 0..times {
-            counted += run().told.counted as u64;
-        }
-        best = best.max(counted as f64 / (processor_seconds() - begin));
-    }
-    best / 1e6
-}
-
-/// Of this thread, as the kernel counts it; other work beside it does not.
-fn processor_seconds() -> f64 {
-    let told = fs::read_to_string("/proc/thread-self/schedstat").expect("schedstat");
-    let nanoseconds: f64 = told
-        .split_whitespace()
-        .next()
-        .and_then(|number| number.parse().ok())
-        .expect("nanoseconds");
-    nanoseconds / 1e9
 }

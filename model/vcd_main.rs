@@ -9,11 +9,16 @@ use vcd_link::more;
 
 const WORDS: usize = 1 << 16;
 
+/// The status with its reason; where that cannot be written the status stays.
+fn ended(status: u8, why: &str) -> ExitCode {
+    let _ = writeln!(std::io::stderr(), "{why}");
+    ExitCode::from(status)
+}
+
 fn main() -> ExitCode {
     let mut file = Vec::new();
     if let Err(error) = std::io::stdin().lock().read_to_end(&mut file) {
-        eprintln!("vcd: standard input: {error}");
-        return ExitCode::from(2);
+        return ended(2, &format!("vcd: standard input: {error}"));
     }
     let mut words = vec![0u32; WORDS];
     let mut cursor = [0u64; 8];
@@ -22,16 +27,12 @@ fn main() -> ExitCode {
         let (number, told) = more(&file, &mut words, &mut cursor);
         let bytes: Vec<u8> = words[..told[0] as usize].iter().flat_map(|w| w.to_le_bytes()).collect();
         if let Err(error) = out.write_all(&bytes).and_then(|()| out.flush()) {
-            eprintln!("vcd: standard output: {error}");
-            return ExitCode::from(2);
+            return ended(2, &format!("vcd: standard output: {error}"));
         }
         match number {
             0 => return ExitCode::SUCCESS,
             43 => {}
-            _ => {
-                eprintln!("{number} at {}", told[1]);
-                return ExitCode::FAILURE;
-            }
+            _ => return ended(1, &format!("{number} at {}", told[1])),
         }
     }
 }

@@ -1,6 +1,6 @@
 #!/usr/bin/env bash
 # Tries every command at the top of the repository in what they have in common (scripts/program.sh): usage, options, more files than one,
-# files that cannot be read, links, outputs that cannot be written, and a proof that fails. What a command does is tried by its own check.
+# files that cannot be read, links, outputs and errors that cannot be written, and a proof that fails. What a command does is tried by its own check.
 # Usage: check-commands.sh [COMMAND ..]. Without a name all are tried but ./addresses and ./vcd: scripts/check-addresses.sh and
 # scripts/check-vcd.sh make their libraries, and name them here.
 set -euo pipefail
@@ -28,6 +28,8 @@ tried() {
 full() { "$@" > /dev/full; }
 closed_input() { "$@" <&-; }
 closed_output() { "$@" >&-; }
+full_error() { "$@" 2> /dev/full; }
+closed_error() { "$@" 2>&-; }
 from() { "${@:2}" < "$1"; }
 
 # A command is a file at the top that can be run. Each has a row: what stands before the file, a file to read, what stands behind it, and the
@@ -81,6 +83,8 @@ for name in "${commands[@]}"; do
     tried 0 "usage: ./$name *
 *./$name*" '' "./$name" -h
     ./"$name" --help | cmp -s - "$work/out" || complain "./$name --help is not ./$name -h"
+    tried "$fails" '' "*$name: standard output cannot be written to" full "./$name" -h
+    tried "$fails" '' "*$name: standard output cannot be written to" closed_output "./$name" -h
     tried 2 '' "$name: no option -x; ./$name -h says what it takes" "./$name" -x
     tried "$fails" '' "$name: standard output is closed" closed_output "./$name" "${whole[@]}"
     tried "$fails" '' "$name: *standard output*" full "./$name" "${whole[@]}"
@@ -94,11 +98,22 @@ for name in "${commands[@]}"; do
     cmp -s "$work/own" "$work/out" || complain "./$name prints otherwise by a link"
     rm "$work/link"
 
+    # the same status where it cannot be told why
+    for quiet in full_error closed_error; do
+        tried 2 '' '' "$quiet" "./$name" -x
+        tried "$fails" '' '' "$quiet" "./$name" "${words[@]}" "$missing" ${behind[$name]:-}
+        tried "$fails" '' '' "$quiet" full "./$name" "${whole[@]}"
+        tried 0 '?*' '' "$quiet" "./$name" "${whole[@]}"
+        cmp -s "$work/own" "$work/out" || complain "./$name prints otherwise without standard error"
+    done
+
     # a proof that fails: the first error, and where the log is
     cp "$name" "$work/copy"
     log=$work/copy/target/$name.log
     tried "$fails" '' "$name: proving*rt: hex NOT PROVED*Proof.antt:9:1: error: the goal does not follow
 $name: the program is not proved, so it is not run; $log has all that the checker said" unproved "$work/copy/$name" "${whole[@]}"
+    tried "$fails" '' '' full_error unproved "$work/copy/$name" "${whole[@]}"
+    tried "$fails" '' '' closed_error unproved "$work/copy/$name" "${whole[@]}"
     grep -q 'Proof.antt:12:1: error: another' "$log" || complain "the log of a failed proof of $name is not whole"
 
     # one file or standard input

@@ -1,12 +1,13 @@
 #!/usr/bin/env bash
 # Builds and runs the example in C, in Rust and in Python over the proved chip. Each stores its chip in a file and goes on from it;
-# what they print and what they store are the same, and are what examples/chip.txt says.
+# what they print and what they store are the same, and are what examples/chip.txt says. Then the example in C that runs a firmware
+# image: it prints what examples/firmware.txt says.
 set -euo pipefail
 cd "$(dirname "$0")/.."
 work=$(mktemp -d)
 trap 'rm -rf "$work"' EXIT
 source scripts/library.sh
-library capi
+library capi firmware_capi
 cc -std=c99 -Wall -Wextra -Werror -Iinclude -o "$work/chip" examples/chip.c target/staticlib/libcapi.a
 cc -shared -o "$work/libnt6861.so" -Wl,--whole-archive target/staticlib/libcapi.a -Wl,--no-whole-archive
 cargo build --offline --quiet --release --features proved --bin chip_example
@@ -18,3 +19,6 @@ for one in c rust python; do
     cmp "$work/c.bin" "$work/$one.bin"
 done
 echo "examples: C, Rust and Python print the same $(wc -l < examples/chip.txt) lines and store the same 128 bytes"
+cc -std=c99 -Wall -Wextra -Werror -Iinclude -o "$work/firmware" examples/firmware.c target/staticlib/libfirmware_capi.a target/staticlib/libcapi.a
+"$work/firmware" images/recall.rom | diff examples/firmware.txt -
+echo "examples: the firmware run from C prints its $(wc -l < examples/firmware.txt) lines"

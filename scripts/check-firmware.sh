@@ -156,7 +156,7 @@ if [ -n "$proved" ]; then
     tried 2 "$work: Is a directory" ./firmware "$work" 1
     tried 2 "$work/missing: No such file or directory" ./firmware -t images/sort.rom 1 "$work/missing"
     tried 2 "$work: Is a directory" ./firmware images/sort.rom 1 "$work"
-    tried 2 '/dev/stdin: Illegal seek' piped_list
+    tried 2 '/dev/stdin: cannot be read twice; give a file' piped_list
     tried 2 "$work/short: 24575 bytes, not 24576" ./firmware "$work/short" 1
     touch "$work/unreadable"
     chmod 000 "$work/unreadable"

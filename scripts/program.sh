@@ -1,27 +1,35 @@
 # Read by the commands at the top of the repository, by whatever link they are called. A command defines `usage`, which prints what it
 # takes, sets `failure`, the status of a read, a write or a proof that fails, where that is not 1, and calls what follows.
-# Wrong arguments end with status 2; a signal, as that of a closed pipe, with its own.
+# Wrong arguments end with status 2; a signal, as that of a closed pipe, with its own. Where standard error is closed or full nothing is told,
+# and the status is the same.
 set -euo pipefail
 top=$(dirname "$(dirname "$(readlink -f "${BASH_SOURCE[0]}")")")
 name=$(basename "$(readlink -f "$0")")
 failure=1
+: 3>&2 || exec 2> /dev/null
+
+tell() {
+    printf '%s\n' "$*" >&2 || true
+}
 
 fail() {
-    echo "$name: $*" >&2
+    tell "$name: $*"
     exit "$failure"
 }
 
 misused() {
-    echo "$name: $*; ./$name -h says what it takes" >&2
+    tell "$name: $*; ./$name -h says what it takes"
     exit 2
 }
 
 # options ARGUMENT..: -h tells the usage; there is no other option
 options() {
+    local status=0
     case ${1:-} in
     -h | --help)
-        usage
-        exit 0
+        usage || status=$?
+        [ "$status" != 1 ] || fail "standard output cannot be written to"
+        exit "$status"
         ;;
     -*) misused "no option $1" ;;
     esac
@@ -49,11 +57,11 @@ made() {
         return
     fi
     command -v rt > /dev/null || fail "the program is not proved yet, and the Rattle toolchain (rt) is not on the PATH"
-    echo "$name: proving the program, crate by crate; this is done once and takes some minutes" >&2
+    tell "$name: proving the program, crate by crate; this is done once and takes some minutes"
     mkdir -p "$top/target"
-    (cd "$top" && rt "$2" "$3" 2>&1) < /dev/null | tee "$log" | { grep --line-buffered '^rt: ' || true; } >&2 || status=$?
+    (cd "$top" && rt "$2" "$3" 2>&1) < /dev/null | tee "$log" | { grep --line-buffered '^rt: ' >&2 || cat > /dev/null; } || status=$?
     if [ "$status" != 0 ]; then
-        grep -m 1 -E ': error|NOT PROVED|FAILED' "$log" >&2 || tail -n 5 "$log" >&2
+        grep -m 1 -E ': error|NOT PROVED|FAILED' "$log" >&2 || tail -n 5 "$log" >&2 || true
         fail "the program is not proved, so it is not run; $log has all that the checker said"
     fi
     touch -c "$1"
@@ -70,7 +78,8 @@ run() {
     ready "$1"
     { said=$("$top/target/bin/$1" "${@:2}" 2>&1 >&3 3>&-) || status=$?; } 3>&1
     if [ -n "$said" ]; then
-        printf '%s\n' "$said" >&2
+        # of a list of events that is a pipe the system says too little
+        tell "${said/%: Illegal seek/: cannot be read twice; give a file}"
         [ "$status" != 0 ] || status=$failure
     fi
     exit "$status"

@@ -516,20 +516,22 @@ fn processor_seconds() -> f64 {
     nanoseconds.expect("nanoseconds") / 1e9
 }
 
-/// Million instructions a second, the best of nine runs of ten million instructions.
-fn rate(count: u32, run: impl Fn(u32) -> u32) -> f64 {
+/// Million instructions a second, in runs of ten million instructions.
+fn rate(count: u32, run: &dyn Fn(u32) -> u32) -> f64 {
     let times = 10_000_000 / count + 1;
-    let mut best: f64 = 0.0;
-    for _ in 0..9 {
-        let begin = processor_seconds();
-        let counted: u64 = (0..times).map(|_| run(count) as u64).sum();
-        best = best.max(counted as f64 / (processor_seconds() - begin));
-    }
-    best / 1e6
+    let begin = processor_seconds();
+    let counted: u64 = (0..times).map(|_| run(count) as u64).sum();
+    counted as f64 / (processor_seconds() - begin) / 1e6
+}
+
+/// The best of nine turns of each.
+fn rates(count: u32, proved: &dyn Fn(u32) -> u32, model: &dyn Fn(u32) -> u32) -> (f64, f64) {
+    let turns = (0..9).map(|_| (rate(count, proved), rate(count, model)));
+    turns.fold((0.0, 0.0), |best, turn| (turn.0.max(best.0), turn.1.max(best.1)))
 }
 
 fn bench() {
-    println!("image, events, proved and model in million instructions a second of processor time, ratio");
+    println!("image, events, events for a hundred instructions, proved and model in million instructions a second of processor time, ratio");
     for (name, list, count) in runs() {
         let rom = image(&name);
         let events = listed(&list);
@@ -542,14 +544,16 @@ fn bench() {
                 answers: vec![0; events.len()],
                 counts: vec![0, 0],
             };
-            let proved = rate(count, |count| {
+            let run_proved = |count| {
                 let mut lent = start.clone();
                 assert_eq!(call(&mut lent, &rom, &words, count), 0);
                 lent.counts[0]
-            });
-            let model = rate(count, |count| firmware::run(&rom, count, events).told.counted);
+            };
+            let run_model = |count| firmware::run(&rom, count, events).told.counted;
+            let (proved, model) = rates(count, &run_proved, &run_model);
             let list = if events.is_empty() { "none" } else { &list };
-            println!("{name}, {list}, {proved:.1}, {model:.1}, {:.2}", proved / model);
+            let hundred = 100.0 * events.len() as f64 / count as f64;
+            println!("{name}, {list}, {hundred:.0}, {proved:.0}, {model:.0}, {:.2}", proved / model);
         }
     }
 }
