@@ -58,12 +58,13 @@ pub pointer-wraps : madeBy (0xB1 ∷ 0xFF ∷ []) (start 0x000001FF00 (ramWith 1
 unfolding opened
 pointer-wraps = refl
 
--- JMP (01FF) has its high byte at 0100; JMP (A0FF) has its own opcode for it, and not the byte at A100
+-- JMP (01FF) has its high byte at 0100
 pub jump-wraps : _≡_ {A = List Access × (ℕ × ℕ)} (madeBy (0x6C ∷ 0xFF ∷ 0x01 ∷ []) (start 0 (ramWith 127 0x341200)), after (0x6C ∷ 0xFF ∷ 0x01 ∷ []) (start 0 (ramWith 127 0x341200)))
     (readAt 0xA000 (Byte 0x6C) ∷ readAt 0xA001 (Byte 0xFF) ∷ readAt 0xA002 (Byte 0x01) ∷ readAt 0x1FF (Byte 0x34) ∷ readAt 0x100 (Byte 0x12) ∷ [], (0, 0x1234))
 unfolding opened
 jump-wraps = refl
 
+-- JMP (A0FF) at A000 has its own opcode for a high byte, and not the byte at A100
 abbrev jumping : List ℕ
 jumping = 0x6C ∷ 0xFF ∷ 0xA0 ∷ (replicate 252 0 ++ (0x34 ∷ 0x12 ∷ []))
 
