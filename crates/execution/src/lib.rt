@@ -407,7 +407,7 @@ fn instruction_of(e: u32, c: Cpu, seen: &[u16; 38], ram: &mut [u8; 256], rom: &[
 
 // The instruction at PC, by a table of opcodes, with its store in RAM: the CPU that it leaves and its cycles, a register to be written, or
 // the number of its first access that fails.
-// Wrong answers: PC not moved; base cycles counted twice; a branch that costs two more; a JSR to its bytes exchanged; RTS to the address pulled.
+// Wrong answers: PC not moved; a crossed page that costs no cycle; a branch that costs two more; the pushes of JSR seen two places lower; RTS to the address pulled.
 pub fn instruction_at(
     c: Cpu,
     table: &[u32; 256],

@@ -1,2 +1,3 @@
 pub mod Firmware
 pub mod Tests
+pub mod Instructions
