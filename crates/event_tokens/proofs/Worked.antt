@@ -7,8 +7,8 @@ use mathlib.Core.Path.{_≡_, refl}
 use mathlib.Core.List.{List, [], _∷_}
 use Rattle.event_lines.specs.declared.Meaning.{Meaning}
 use Rattle.event_lines.specs.declared.Meaning.the-variants as meaning
-use Rattle.event_lines.specs.Lines.{letterOf, symbolOf, numberGrown, wordGrown, wordEnded, readOn, lineMeans}
-use Rattle.event_list.specs.Lists.{oneMore, opened as openedList, lineEnded, checkedByte, checkedOn, endsWell}
+use Rattle.event_lines.specs.Lines.{letterOf, symbolOf, numberGrown, wordGrown, wordEnded, lineStart, readOn, lineMeans}
+use Rattle.event_list.specs.Lists.{oneMore, opened as openedList, lineEnded, checkedByte, checkedOn, endsWell, readByte, foundAs, foundOn}
 use Rattle.event_tokens.specs.Tokens.{Value, none, some, toldBy}
 
 unfoldable pub codes : String → List ℕ
@@ -17,7 +17,7 @@ codes (c then s) = code c ∷ codes s
 
 -- a proof that names this on its `unfolding` line computes lines and lists
 unfoldable opened : ℕ
-unfolding codes letterOf symbolOf numberGrown wordGrown wordEnded readOn oneMore lineEnded checkedByte checkedOn endsWell
+unfolding codes letterOf symbolOf numberGrown wordGrown wordEnded readOn oneMore lineEnded checkedByte checkedOn endsWell readByte foundOn
 opened = 0
 
 abbrev pub means : String → Meaning
@@ -164,3 +164,16 @@ none-behind = refl
 pub last-told : told "0 01000600\n\n8\n" ≡ some 3
 unfolding opened
 last-told = refl
+
+-- the first line that means something, and the place behind it; nothing where a line has not ended
+pub first-found : foundOn lineStart 0 (codes "# a\n\n5 01000600\n7 04000000\n") ≡ foundAs lineStart 16 (event 5 0x01000600)
+unfolding opened
+first-found = refl
+
+pub malformed-found : foundOn lineStart 0 (codes "\n5\n7 04000000\n") ≡ foundAs lineStart 3 meaning.Malformed
+unfolding opened
+malformed-found = refl
+
+pub not-ended : foundOn lineStart 4 (codes "\n5 01000600") .meaning ≡ meaning.Nothing
+unfolding opened
+not-ended = refl
