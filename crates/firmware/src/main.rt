@@ -7,20 +7,26 @@ ghost use lib.ListN.{length};
 use chip::Chip;
 use event_lines::Meaning;
 use event_lines::Reader;
+use event_list::Checked;
 use libc::STDERR_FILENO;
 use libc::STDOUT_FILENO;
 use memory::Loaded;
 use operations::Cpu;
 use vcd_text::Number;
 
-// A run: the number of the next instruction, 0 or the number of a refusal, how many events were given, and whether all was printed.
-struct Run {
-    cpu: Cpu,
-    chip: Chip,
+// What a run has done: the number of the next instruction, 0 or the number of a refusal, how many events were given, and whether all was
+// printed.
+struct Done {
     next: u32,
     number: u8,
     given: u64,
     printed: bool,
+}
+
+struct Run {
+    cpu: Cpu,
+    chip: Chip,
+    done: Done,
 }
 
 // What is asked of a run: how many instructions, and whether a trace.
@@ -35,13 +41,6 @@ struct Listed {
     reader: Reader,
     more: bool,
     changed: bool,
-}
-
-// The line that is being read, its number, and whether it is malformed.
-struct Checked {
-    reader: Reader,
-    line: u64,
-    malformed: bool,
 }
 
 // A block checked, and whether another may follow or a read failed.
@@ -70,28 +69,6 @@ fn tell(text: &[u8]) {
     io::write_all(STDERR_FILENO, text);
 }
 
-fn tell_number(n: u64) {
-    io::print_decimal(STDERR_FILENO, n);
-}
-
-fn tell_usage() {
-    tell(b"usage: firmware [-t] ROM COUNT [EVENTS]\n");
-}
-
-fn tell_length(name: &[u8], n: u64) {
-    tell(name);
-    tell(b": ");
-    tell_number(n);
-    tell(b" bytes, not 24576\n");
-}
-
-fn tell_line(name: &[u8], line: u64) {
-    tell(name);
-    tell(b":");
-    tell_number(line);
-    tell(b": not NUMBER WORD\n");
-}
-
 // ---- lines on standard output
 
 fn print(text: &[u8]) -> bool {
@@ -107,47 +84,73 @@ fn print_registers(cpu: Cpu) -> bool {
     print(&line)
 }
 
-fn print_word(w: u32) -> bool {
-    let line = hex::hex_line(w);
-    print(&line[..8])
-}
-
-fn print_answer(answer: u32) -> bool {
-    let line = hex::hex_line(answer);
-    print(&line)
-}
-
 fn print_event(next: u32, word: u32, answer: u32) -> bool {
-    print_number(next as u64)
-        & print(b" event ")
-        & print_word(word)
-        & print(b" ")
-        & print_answer(answer)
+    let text = firmware_lines::event_text(word, answer);
+    print_number(next as u64) & print(&text)
 }
 
-fn print_interrupt(next: u32, cpu: Cpu) -> bool {
-    print_number(next as u64) & print(b" interrupt ") & print_registers(cpu)
+// The number of an instruction, a text, and the registers.
+fn print_line(next: u32, text: &[u8], cpu: Cpu) -> bool {
+    print_number(next as u64) & print(text) & print_registers(cpu)
 }
 
-fn print_instruction(next: u32, pc: u16, opcode: u8, cpu: Cpu) -> bool {
-    let text = firmware_lines::instruction_text(pc, opcode);
-    print_number(next as u64) & print(&text) & print_registers(cpu)
+// The line of an instruction that was done: from where RESET is low it has no opcode.
+fn print_done(next: u32, pc: u16, high: bool, opcode: Loaded, cpu: Cpu) -> bool {
+    if !high {
+        let text = firmware_lines::idle_text(pc);
+        return print_line(next, &text, cpu);
+    }
+    match opcode {
+        Loaded::Byte(b) => {
+            let text = firmware_lines::instruction_text(pc, b);
+            print_line(next, &text, cpu)
+        }
+        Loaded::Refused(_) => true,
+    }
 }
 
-fn print_idle(next: u32, cpu: Cpu) -> bool {
-    let text = firmware_lines::idle_text(cpu.pc);
-    print_number(next as u64) & print(&text) & print_registers(cpu)
+fn print_given(traced: bool, next: u32, word: u32, answer: u32) -> bool {
+    if traced {
+        print_event(next, word, answer)
+    } else {
+        let line = hex::hex_line(answer);
+        print(&line)
+    }
 }
 
-fn print_end(run: Run) -> bool {
-    let cpu = run.cpu;
+fn print_end(cpu: Cpu, done: Done) -> bool {
     let counts = print(b"number ")
-        & print_number(run.number as u64)
+        & print_number(done.number as u64)
         & print(b" counted ")
-        & print_number(run.next as u64)
+        & print_number(done.next as u64)
         & print(b" given ")
-        & print_number(run.given);
+        & print_number(done.given);
     counts & print(b" ") & print_registers(cpu)
+}
+
+// ---- what a run has done
+
+// Another instruction may follow.
+fn goes_on(done: Done, count: u32) -> bool {
+    (done.number == 0) & (done.next < count) & done.printed
+}
+
+fn counted(done: Done, number: u8, instructions: u32, printed: bool) -> Done {
+    Done {
+        next: std::num::wrapping_add_u32(done.next, instructions),
+        number,
+        given: done.given,
+        printed,
+    }
+}
+
+fn one_given(done: Done, printed: bool) -> Done {
+    Done {
+        next: done.next,
+        number: 0,
+        given: std::num::wrapping_add_u64(done.given, 1),
+        printed,
+    }
 }
 
 // ---- the run
@@ -156,26 +159,18 @@ fn power_up(rom: &[u8; 24576]) -> Run {
     Run {
         cpu: firmware_steps::power_up(rom),
         chip: chip::fresh(),
-        next: 0,
-        number: 0,
-        given: 0,
-        printed: true,
+        done: Done {
+            next: 0,
+            number: 0,
+            given: 0,
+            printed: true,
+        },
     }
 }
 
-// The line of an instruction that was done: from where RESET is low it has no opcode.
-fn print_done(next: u32, before: Cpu, high: bool, opcode: Loaded, after: Cpu) -> bool {
-    if !high {
-        return print_idle(next, after);
-    }
-    match opcode {
-        Loaded::Byte(b) => print_instruction(next, before.pc, b, after),
-        Loaded::Refused(_) => true,
-    }
-}
-
-// The instruction of number `next` and what comes before it, each with its line.
-fn trace_turn(run: Run, ram: &mut [u8; 256], rom: &[u8; 24576], next: u32) -> Run {
+// An instruction and what comes before it, each with its line.
+fn trace_turn(run: Run, ram: &mut [u8; 256], rom: &[u8; 24576]) -> Run {
+    let done = run.done;
     let cpu = run.cpu;
     let chip = run.chip;
     let before = firmware_steps::interrupt(cpu, chip, ram, rom);
@@ -183,7 +178,7 @@ fn trace_turn(run: Run, ram: &mut [u8; 256], rom: &[u8; 24576], next: u32) -> Ru
     let clocked = before.chip;
     let core = clocked.core;
     let told = if before.taken {
-        print_interrupt(next, entered)
+        print_line(done.next, b" interrupt ", entered)
     } else {
         true
     };
@@ -192,27 +187,25 @@ fn trace_turn(run: Run, ram: &mut [u8; 256], rom: &[u8; 24576], next: u32) -> Ru
     let after = r.cpu;
     let moved = r.chip;
     let shown = if r.number == 0 {
-        print_done(next, entered, core.reset, opcode, after)
+        print_done(done.next, entered.pc, core.reset, opcode, after)
     } else {
         true
     };
     Run {
         cpu: after,
         chip: moved,
-        next: std::num::wrapping_add_u32(next, r.counted),
-        number: r.number,
-        given: run.given,
-        printed: told & shown,
+        done: counted(done, r.number, r.counted, told & shown),
     }
 }
 
-// Instructions up to the one of number `to`, each with its line.
-fn trace_to(start: Run, ram: &mut [u8; 256], rom: &[u8; 24576], to: u32) -> Run {
+// Some instructions, each with its line.
+fn trace_on(start: Run, ram: &mut [u8; 256], rom: &[u8; 24576], instructions: u32) -> Run {
     let mut run = start;
-    let mut i = start.next;
-    while i < to {
-        run = trace_turn(run, ram, rom, i);
-        if (run.number != 0) | !run.printed {
+    let mut i = 0;
+    while i < instructions {
+        run = trace_turn(run, ram, rom);
+        let done = run.done;
+        if (done.number != 0) | !done.printed {
             return run;
         }
         i += 1;
@@ -220,57 +213,44 @@ fn trace_to(start: Run, ram: &mut [u8; 256], rom: &[u8; 24576], to: u32) -> Run 
     run
 }
 
-// Instructions up to the one of number `to`.
-fn run_to(run: Run, ram: &mut [u8; 256], rom: &[u8; 24576], to: u32) -> Run {
-    if to <= run.next {
-        return run;
-    }
+fn run_on(run: Run, ram: &mut [u8; 256], rom: &[u8; 24576], instructions: u32) -> Run {
+    let done = run.done;
     let cpu = run.cpu;
     let chip = run.chip;
-    let r = firmware_steps::run_on(cpu, chip, ram, rom, to - run.next);
+    let r = firmware_steps::run_on(cpu, chip, ram, rom, instructions);
     let after = r.cpu;
     let moved = r.chip;
     Run {
         cpu: after,
         chip: moved,
-        next: std::num::wrapping_add_u32(run.next, r.counted),
-        number: r.number,
-        given: run.given,
-        printed: run.printed,
+        done: counted(done, r.number, r.counted, done.printed),
     }
 }
 
+// Instructions up to the one of number `to`.
 fn proceed(run: Run, ram: &mut [u8; 256], rom: &[u8; 24576], traced: bool, to: u32) -> Run {
-    if traced {
-        trace_to(run, ram, rom, to)
+    let done = run.done;
+    if to <= done.next {
+        run
+    } else if traced {
+        trace_on(run, ram, rom, to - done.next)
     } else {
-        run_to(run, ram, rom, to)
+        run_on(run, ram, rom, to - done.next)
     }
-}
-
-// Another instruction may follow.
-fn goes_on(run: Run, count: u32) -> bool {
-    (run.number == 0) & (run.next < count) & run.printed
 }
 
 fn give(run: Run, rom: &[u8; 24576], traced: bool, word: u32) -> Run {
+    let done = run.done;
     let cpu = run.cpu;
     let chip = run.chip;
     let g = firmware_steps::give(cpu, chip, rom, word);
     let after = g.cpu;
     let moved = g.chip;
-    let printed = if traced {
-        print_event(run.next, word, g.answer)
-    } else {
-        print_answer(g.answer)
-    };
+    let printed = print_given(traced, done.next, word, g.answer);
     Run {
         cpu: after,
         chip: moved,
-        next: run.next,
-        number: 0,
-        given: std::num::wrapping_add_u64(run.given, 1),
-        printed,
+        done: one_given(done, printed),
     }
 }
 
@@ -283,14 +263,44 @@ fn take_event(run: Run, ram: &mut [u8; 256], rom: &[u8; 24576], asked: Asked, ev
     let number = (event / 4294967296) as u32;
     let word = (event % 4294967296) as u32;
     let r = proceed(run, ram, rom, asked.traced, least(asked.count, number));
-    if goes_on(r, asked.count) {
+    let done = r.done;
+    if goes_on(done, asked.count) {
         give(r, rom, asked.traced, word)
     } else {
         r
     }
 }
 
-fn listed_at(run: Run, reader: Reader, more: bool, changed: bool) -> Listed {
+// The events of a block, until no instruction follows. That every line is well formed was checked before.
+fn take_block(
+    start: Listed,
+    ram: &mut [u8; 256],
+    rom: &[u8; 24576],
+    asked: Asked,
+    block: &[u8],
+) -> Listed {
+    let mut run = start.run;
+    let mut reader = start.reader;
+    let mut changed = start.changed;
+    let mut more = start.more;
+    let mut i = 0;
+    while more & (i < block.len()) {
+        let found = event_list::next_event(reader, block, i);
+        let meaning = found.meaning;
+        reader = found.reader;
+        i = found.at;
+        match meaning {
+            Meaning::Nothing => {}
+            Meaning::Event(e) => {
+                run = take_event(run, ram, rom, asked, e);
+            }
+            Meaning::Malformed => {
+                changed = true;
+            }
+        }
+        let done = run.done;
+        more = goes_on(done, asked.count) & !changed;
+    }
     Listed {
         run,
         reader,
@@ -299,84 +309,24 @@ fn listed_at(run: Run, reader: Reader, more: bool, changed: bool) -> Listed {
     }
 }
 
-// The end of a line. That every line is well formed was checked before.
-fn end_line(
-    run: Run,
-    ram: &mut [u8; 256],
-    rom: &[u8; 24576],
-    asked: Asked,
-    reader: Reader,
-) -> Listed {
-    let line = reader.line;
-    let meaning = event_lines::meaning_of(line);
-    let start = event_lines::line_start();
-    match meaning {
-        Meaning::Nothing => listed_at(run, start, true, false),
-        Meaning::Event(e) => {
-            let r = take_event(run, ram, rom, asked, e);
-            listed_at(r, start, goes_on(r, asked.count), false)
-        }
-        Meaning::Malformed => listed_at(run, start, false, true),
-    }
-}
-
-// A block of a list, until no instruction follows.
-fn take_bytes(
-    start: Listed,
-    ram: &mut [u8; 256],
-    rom: &[u8; 24576],
-    asked: Asked,
-    bytes: &[u8],
-) -> Listed {
-    let mut at = start;
-    let mut i = 0;
-    while i < bytes.len() {
-        let b = bytes[i];
-        let run = at.run;
-        let reader = at.reader;
-        if b == 10 {
-            at = end_line(run, ram, rom, asked, reader);
-            if !at.more {
-                return at;
-            }
-        } else {
-            at = listed_at(run, event_lines::next(reader, b), true, false);
-        }
-        i += 1;
-    }
-    at
-}
-
-// The end of the file ends its last line.
-fn take_block(
-    start: Listed,
-    ram: &mut [u8; 256],
-    rom: &[u8; 24576],
-    asked: Asked,
-    fd: i32,
-) -> Listed {
-    let mut block = io::large_buffer();
-    let filled = input::fill(fd, &mut block);
-    let n = filled.count;
-    let taken = take_bytes(start, ram, rom, asked, &block[..n]);
-    if (n == 65536) | !taken.more {
-        return taken;
-    }
-    let run = taken.run;
-    let reader = taken.reader;
-    let last = end_line(run, ram, rom, asked, reader);
-    let r = last.run;
-    listed_at(r, reader, false, last.changed | filled.failed)
-}
-
 // The events of a list. A proved loop has to end, and nothing says that a list does, so the loop counts blocks down, from a number that no
 // run uses up.
 fn take_list(start: Run, ram: &mut [u8; 256], rom: &[u8; 24576], asked: Asked, fd: i32) -> Listed {
-    let mut at = listed_at(start, event_lines::line_start(), true, false);
+    let mut at = Listed {
+        run: start,
+        reader: event_lines::line_start(),
+        more: true,
+        changed: false,
+    };
     let mut blocks = u64::MAX;
     while blocks > 0 {
-        at = take_block(at, ram, rom, asked, fd);
-        if !at.more {
+        let mut block = io::large_buffer();
+        let filled = input::fill(fd, &mut block);
+        let n = filled.count;
+        at = take_block(at, ram, rom, asked, &block[..n]);
+        at.changed = at.changed | (at.more & filled.failed);
+        at.more = at.more & !filled.failed;
+        if (n < 65536) | !at.more {
             return at;
         }
         blocks -= 1;
@@ -386,12 +336,19 @@ fn take_list(start: Run, ram: &mut [u8; 256], rom: &[u8; 24576], asked: Asked, f
 
 // The instructions past the last event, and the last line.
 fn finish(run: Run, ram: &mut [u8; 256], rom: &[u8; 24576], asked: Asked) {
-    let last = if goes_on(run, asked.count) {
+    let done = run.done;
+    let last = if goes_on(done, asked.count) {
         proceed(run, ram, rom, asked.traced, asked.count)
     } else {
         run
     };
-    let printed = if last.printed { print_end(last) } else { false };
+    let cpu = last.cpu;
+    let end = last.done;
+    let printed = if end.printed {
+        print_end(cpu, end)
+    } else {
+        false
+    };
     if !printed {
         os::fail(b"firmware: standard output");
     }
@@ -399,50 +356,11 @@ fn finish(run: Run, ram: &mut [u8; 256], rom: &[u8; 24576], asked: Asked) {
 
 // ---- the list, checked before anything runs
 
-fn is_malformed(reader: Reader) -> bool {
-    let line = reader.line;
-    let meaning = event_lines::meaning_of(line);
-    match meaning {
-        Meaning::Nothing => false,
-        Meaning::Event(_) => false,
-        Meaning::Malformed => true,
-    }
-}
-
-// A block, until a line is malformed.
-fn check_bytes(start: Checked, bytes: &[u8]) -> Checked {
-    let mut reader = start.reader;
-    let mut line = start.line;
-    let mut i = 0;
-    while i < bytes.len() {
-        let b = bytes[i];
-        if b == 10 {
-            if is_malformed(reader) {
-                return Checked {
-                    reader,
-                    line,
-                    malformed: true,
-                };
-            }
-            reader = event_lines::line_start();
-            line = std::num::wrapping_add_u64(line, 1);
-        } else {
-            reader = event_lines::next(reader, b);
-        }
-        i += 1;
-    }
-    Checked {
-        reader,
-        line,
-        malformed: false,
-    }
-}
-
 fn check_block(start: Checked, fd: i32) -> Turn {
     let mut block = io::large_buffer();
     let filled = input::fill(fd, &mut block);
     let n = filled.count;
-    let checked = check_bytes(start, &block[..n]);
+    let checked = event_list::check(start, &block[..n]);
     Turn {
         checked,
         more: (n == 65536) & !checked.malformed,
@@ -453,11 +371,7 @@ fn check_block(start: Checked, fd: i32) -> Turn {
 // Every line; the end of the file ends its last line.
 fn check_lines(fd: i32) -> Turn {
     let mut turn = Turn {
-        checked: Checked {
-            reader: event_lines::line_start(),
-            line: 1,
-            malformed: false,
-        },
+        checked: event_list::opened(),
         more: true,
         failed: false,
     };
@@ -485,9 +399,11 @@ fn check_list(fd: i32, name: &[u8]) -> bool {
         return false;
     }
     let checked = turn.checked;
-    let reader = checked.reader;
-    if checked.malformed | is_malformed(reader) {
-        tell_line(name, checked.line);
+    if !event_list::is_well_formed(checked) {
+        tell(name);
+        tell(b":");
+        io::print_decimal(STDERR_FILENO, checked.line);
+        tell(b": not NUMBER WORD\n");
         return false;
     }
     if libc::lseek(fd, 0, libc::SEEK_SET) < 0 {
@@ -533,7 +449,10 @@ fn read_image(fd: i32, name: &[u8], rom: &mut [u8; 24576]) -> bool {
     if n == 24576 {
         return true;
     }
-    tell_length(name, n);
+    tell(name);
+    tell(b": ");
+    io::print_decimal(STDERR_FILENO, n);
+    tell(b" bytes, not 24576\n");
     false
 }
 
@@ -577,7 +496,9 @@ fn take_count(at: usize) -> u64 {
 fn run_list(fd: i32, name: &[u8], rom: &[u8; 24576], asked: Asked) {
     if check_list(fd, name) {
         let mut ram = [0u8; 256];
-        let at = take_list(power_up(rom), &mut ram, rom, asked, fd);
+        let read = take_list(power_up(rom), &mut ram, rom, asked, fd);
+        // the end of the file ends its last line
+        let at = take_block(read, &mut ram, rom, asked, b"\n");
         if at.changed {
             tell(name);
             tell(b": not the same when it was read again\n");
@@ -618,7 +539,7 @@ fn start(first: usize, traced: bool)
 {
     let arguments = os::arg_count();
     if (arguments < first + 2) | (arguments > first + 3) {
-        tell_usage();
+        tell(b"usage: firmware [-t] ROM COUNT [EVENTS]\n");
         return;
     }
     let mut rom = [0u8; 24576];

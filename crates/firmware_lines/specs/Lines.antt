@@ -1,8 +1,9 @@
 -- What is printed of a firmware run, as bytes; hex digits are in upper case.
 use Prim.Native.Nat.{ℕ, _-_, _/_, _%_}
 use mathlib.Core.Bool.{false}
-use mathlib.Core.List.{List, [], _∷_}
-use Rattle.hex.specs.Hex.{hexDigit}
+use mathlib.Core.List.{List, [], _∷_, _++_}
+use lib.ListN.{take}
+use Rattle.hex.specs.Hex.{hexDigit, hexLine}
 use Rattle.arithmetic.specs.declared.Flags.{Flags}
 use Rattle.operations.specs.declared.Cpu.{Cpu}
 use Rattle.operations.specs.Operations.{pushedP}
@@ -35,3 +36,7 @@ instructionText pc opcode = 32 ∷ addressThen pc (32 ∷ byteThen opcode (32 �
 
 unfoldable pub idleText : ℕ → List ℕ
 idleText pc = 32 ∷ addressThen pc (32 ∷ 45 ∷ 45 ∷ 32 ∷ [])
+
+-- ` event `, the eight digits of the word, a space, and the answer's line
+unfoldable pub eventText : ℕ → ℕ → List ℕ
+eventText word answer = 32 ∷ 101 ∷ 118 ∷ 101 ∷ 110 ∷ 116 ∷ 32 ∷ (take 8 (hexLine word) ++ (32 ∷ hexLine answer))

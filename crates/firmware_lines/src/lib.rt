@@ -2,7 +2,7 @@
 ghost use mathlib.Core.Path.{_≡_};
 ghost use Prim.Native.Nat.{_/_, _%_};
 ghost use Rattle.hex.specs.Hex.{hexDigit};
-ghost use Rattle.firmware_lines.specs.Lines.{shownP, registerLine, instructionText, idleText};
+ghost use Rattle.firmware_lines.specs.Lines.{shownP, registerLine, instructionText, idleText, eventText};
 use arithmetic::Flags;
 use operations::Cpu;
 
@@ -118,5 +118,41 @@ pub fn idle_text(pc: u16) -> [u8; 9]
         45,
         45,
         32,
+    ]
+}
+
+// An event and its answer, each in eight digits: ` event WWWWWWWW AAAAAAAA` and a newline.
+// Wrong answers: the answer's first digit for the word's; the word's last digit for the answer's.
+pub fn event_text(word: u32, answer: u32) -> [u8; 25]
+    ensures { λ r. ⌜ r ≡ eventText word answer ⌝ }
+{
+    let w = hex::hex_line(word);
+    let a = hex::hex_line(answer);
+    [
+        32,
+        101,
+        118,
+        101,
+        110,
+        116,
+        32,
+        w[0],
+        w[1],
+        w[2],
+        w[3],
+        w[4],
+        w[5],
+        w[6],
+        w[7],
+        32,
+        a[0],
+        a[1],
+        a[2],
+        a[3],
+        a[4],
+        a[5],
+        a[6],
+        a[7],
+        a[8],
     ]
 }

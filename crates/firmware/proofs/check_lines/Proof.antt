@@ -10,8 +10,8 @@ Inv-loop fd turn₀ blocks₀ turn blocks = Unit {0}
 abbrev μ-loop : tie.MeasureT-loop
 μ-loop fd turn₀ blocks₀ turn blocks = blocks
 
-line-start-requires : tie.Need-line-start-requires Inv-loop μ-loop
-line-start-requires c κs = search needs
+opened-requires : tie.Need-opened-requires Inv-loop μ-loop
+opened-requires c κs = search needs
 
 loop-holds : tie.Need-loop-holds Inv-loop μ-loop
 loop-holds c = search needs
@@ -40,7 +40,7 @@ check-lines-spec =
     (tie.spec
     Inv-loop
     μ-loop
-    line-start-requires
+    opened-requires
     loop-holds
     check-block-requires
     returns

@@ -1,15 +1,15 @@
--- `firmware::trace_to` is safe and ends.
+-- `firmware::trace_on` is safe and ends.
 -- Assumes nothing.
 use Prim.Native.Nat.{_-_}
 use borrow.Author.Needs.{needs}
-use Rattle.firmware.proofs.trace_to.Statement.{statement}
-use Rattle.firmware.proofs.trace_to.Tie as tie
+use Rattle.firmware.proofs.trace_on.Statement.{statement}
+use Rattle.firmware.proofs.trace_on.Tie as tie
 
 abbrev Inv-loop : tie.InvT-loop
-Inv-loop ram₀ rom to run₀ i₀ ram run i = Unit {0}
+Inv-loop ram₀ rom instructions run₀ i₀ ram run i = Unit {0}
 
 abbrev μ-loop : tie.MeasureT-loop
-μ-loop ram₀ rom to run₀ i₀ ram run i = to - i
+μ-loop ram₀ rom instructions run₀ i₀ ram run i = instructions - i
 
 loop-holds : tie.Need-loop-holds Inv-loop μ-loop
 loop-holds c = search needs
@@ -32,8 +32,8 @@ loop-again c = search needs
 returns-2 : tie.Need-returns-2 Inv-loop μ-loop
 returns-2 c = search needs
 
-pub trace-to-spec : {M : Type 1} → statement M
-trace-to-spec =
+pub trace-on-spec : {M : Type 1} → statement M
+trace-on-spec =
     tie.close
     (tie.spec
     Inv-loop

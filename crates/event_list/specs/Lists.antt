@@ -1,0 +1,72 @@
+-- A list of events as text, byte by byte: a newline, 10, ends a line, and so does the end of the text.
+use Prim.Native.Nat.{ℕ, suc, _+_}
+use mathlib.Core.Bool.{Bool, true, false, not}
+use mathlib.Core.List.{List, [], _∷_}
+use lib.Dec.{eqb, ltb}
+use Rattle.bits.specs.Byte.{pick}
+use Rattle.event_lines.specs.declared.Reader.{Reader}
+use Rattle.event_lines.specs.declared.Meaning.{Meaning}
+use Rattle.event_lines.specs.declared.Meaning.the-variants as meaning
+use Rattle.event_lines.specs.Lines.{lineStart, next, meaningOf}
+use Rattle.event_list.specs.declared.Checked.{Checked}
+use Rattle.event_list.specs.declared.Read.{Read}
+use Rattle.event_list.specs.declared.Found.{Found}
+
+abbrev pub isMalformed : Meaning → Bool
+isMalformed meaning.Nothing = false
+isMalformed (meaning.Event e) = false
+isMalformed meaning.Malformed = true
+
+abbrev pub isNothing : Meaning → Bool
+isNothing meaning.Nothing = true
+isNothing (meaning.Event e) = false
+isNothing meaning.Malformed = false
+
+-- ---- every line checked
+
+-- line numbers stop at 64 bits
+unfoldable pub oneMore : ℕ → ℕ
+oneMore n = pick (ltb n 18446744073709551615) (n + 1) n
+
+abbrev pub checked : Reader → ℕ → Bool → Checked
+checked r n m = record { reader = r; line = n; malformed = m }
+
+-- lines are counted from 1
+abbrev pub opened : Checked
+opened = checked lineStart 1 false
+
+-- a line that ends is malformed, or the next one begins
+unfoldable pub lineEnded : Reader → ℕ → Checked
+lineEnded r n = pick (isMalformed (meaningOf (r .line))) (checked r n true) (checked lineStart (oneMore n) false)
+
+unfoldable pub checkedByte : Reader → ℕ → ℕ → Checked
+checkedByte r n b = pick (eqb b 10) (lineEnded r n) (checked (next r b) n false)
+
+-- the bytes up to the end of the first malformed line, where it is told
+unfoldable pub checkedOn : Checked → List ℕ → Checked
+checkedOn c [] = c
+checkedOn c (b ∷ bs) = pick (c .malformed) c (checkedOn (checkedByte (c .reader) (c .line) b) bs)
+
+-- at the end of the text: every line is well formed, the last one too
+unfoldable pub endsWell : Checked → Bool
+endsWell c = pick (c .malformed) false (not (isMalformed (meaningOf (c .reader .line))))
+
+-- ---- event by event
+
+abbrev pub readAs : Reader → Meaning → Read
+readAs r m = record { reader = r; meaning = m }
+
+-- the reader behind a byte, and what the line that it ended means
+unfoldable pub readByte : Reader → ℕ → Read
+readByte r b = pick (eqb b 10) (readAs lineStart (meaningOf (r .line))) (readAs (next r b) meaning.Nothing)
+
+abbrev pub foundAs : Reader → ℕ → Meaning → Found
+foundAs r i m = record { reader = r; at = i; meaning = m }
+
+-- from place i on, where the bytes begin: the first line that means something, and the place behind it
+unfoldable pub foundOn : Reader → ℕ → List ℕ → Found
+foundOn r i [] = foundAs r i meaning.Nothing
+foundOn r i (b ∷ bs) =
+    pick (isNothing (readByte r b .meaning))
+    (foundOn (readByte r b .reader) (i + 1) bs)
+    (foundAs (readByte r b .reader) (i + 1) (readByte r b .meaning))
