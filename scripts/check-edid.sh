@@ -26,7 +26,7 @@ status=0
 echo "edid: refused blocks are told by ./edid and ./feed"
 
 # the commands of README's section, each with the lines that it prints
-sed -n '/^## An EDID base block/,/^## A run case/p' README.md | sed -n 's/^    //p' > "$work/example"
+awk '/^## / { on = /^## An EDID base block/ } on' README.md | sed -n 's/^    //p' > "$work/example"
 grep '^\$ ' "$work/example" | sed 's/^\$ //' | while IFS= read -r command; do
     echo "\$ $command"
     bash -c "$command" || true
