@@ -9,11 +9,8 @@ turns=${1:-9}
 work=$(mktemp -d)
 trap 'rm -rf "$work"' EXIT
 rt check firmware > "$work/log" || { cat "$work/log"; exit 1; }
-for library in capi firmware_capi; do
-    rt staticlib "$library" > "$work/log" 2>&1 || { cat "$work/log"; exit 1; }
-done
-# cargo does not look at a library's age
-! [ -d target/cargo/release/deps ] || find target/cargo/release/deps -name 'firmware_compare-*' ! -newer target/staticlib/libfirmware_capi.a -delete
+source scripts/library.sh
+library capi firmware_capi
 cargo build --offline --quiet --release --features proved,area --bin firmware_compare
 
 # a row for each image; one with two lists of events has two ratios with them

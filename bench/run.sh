@@ -10,7 +10,6 @@ source scripts/library.sh
 bash scripts/check-instructions.sh
 rt check replay > "$work/log" || { cat "$work/log"; exit 1; }
 library capi
-! [ -d target/cargo/release/deps ] || find target/cargo/release/deps -name 'bench-*' ! -newer target/staticlib/libcapi.a -delete
 cargo build --offline --quiet --release --features proved --bin bench --bin model
 model=target/cargo/release/model
 target/cargo/release/bench "$seed"

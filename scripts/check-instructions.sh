@@ -16,8 +16,6 @@ replay_ceiling=150
 
 library capi
 rt check replay > "$work/log" 2>&1 || { cat "$work/log"; exit 1; }
-# cargo does not see that a static library has changed
-! [ -d target/cargo/release/deps ] || find target/cargo/release/deps -name 'bench-*' ! -newer target/staticlib/libcapi.a -delete
 cargo build --offline --quiet --release --features proved --bin bench --bin model
 target/cargo/release/model words 1 "$words" > "$work/words"
 
