@@ -1,5 +1,6 @@
 pub mod Registers
 pub mod Chips
+pub mod Lines
 pub mod Running
 pub mod Going
 pub mod Parts

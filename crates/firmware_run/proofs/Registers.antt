@@ -39,13 +39,29 @@ knows-set-by false seen k r l h q g e = rw (getD-set-other seen r q (knownReadin
 pub knows-set : (seen : List ℕ) (k : Chip) (r : ℕ) → length seen ≡ 38 → Knows seen k → Knows (set seen r (knownReading (reading k r))) k
 knows-set seen k r l h q g = knows-set-by (eqb q r) seen k r l h q g refl
 
-known-as : (k l : Chip) (r v : ℕ) → reading l r ≡ reading k r → Known k r v → Known l r v
+pub known-as : (k l : Chip) (r v : ℕ) → reading l r ≡ reading k r → Known k r v → Known l r v
 known-as k l r v e (unseen u) = unseen u
 known-as k l r v e (read u) = read (u ∙ ap knownReading (sym e))
 
 -- where all that is read is as before, what was known is known
 pub knows-as : (seen : List ℕ) (k l : Chip) → ((r : ℕ) → reading l r ≡ reading k r) → Knows seen k → Knows seen l
 knows-as seen k l e h r g = known-as k l r (getD seen r 0) (e r) (h r g)
+
+-- ---- one more forgotten
+
+module _ (k : Chip) where
+  forgets-by : (b : Bool) (p : ℕ) (seen : List ℕ) → length seen ≡ 38 → (q : ℕ) → q < 38 → eqb q p ≡ b
+      → (b ≡ false → Known k q (getD seen q 0)) → Known k q (getD (set seen p (notSeen p)) q 0)
+  forgets-by true p seen l q g e h =
+      let z : q ≡ p = eqb-true q p e in
+      rw z (unseen (getD-set-same seen p (notSeen p) 0 (omega arith)))
+  forgets-by false p seen l q g e h = rw (getD-set-other seen p q (notSeen p) 0 (eqb-false q p e)) (h refl)
+
+  pub forgets : (p : ℕ) (seen : List ℕ) → length seen ≡ 38 → (q : ℕ) → q < 38 → (eqb q p ≡ false → Known k q (getD seen q 0)) → Known k q (getD (set seen p (notSeen p)) q 0)
+  forgets p seen l q g h = forgets-by (eqb q p) p seen l q g refl h
+
+pub forgotten-length : (p : ℕ) (seen : List ℕ) → length seen ≡ 38 → length (forgotten p seen) ≡ 38
+forgotten-length p seen l = length-set seen p (notSeen p) ∙ l
 
 -- ---- after a store in the array
 
@@ -61,20 +77,6 @@ module _ (registers : List ℕ) (core : Core) (a v : ℕ) where
   abbrev stored : Chip
   stored = chipOf (set registers a v) core
 
-  -- one more forgotten
-  forgets-by : (b : Bool) (p : ℕ) (seen : List ℕ) → length seen ≡ 38 → (q : ℕ) → q < 38 → eqb q p ≡ b
-      → (b ≡ false → Known stored q (getD seen q 0)) → Known stored q (getD (set seen p (notSeen p)) q 0)
-  forgets-by true p seen l q g e h =
-      let z : q ≡ p = eqb-true q p e in
-      rw z (unseen (getD-set-same seen p (notSeen p) 0 (omega arith)))
-  forgets-by false p seen l q g e h = rw (getD-set-other seen p q (notSeen p) 0 (eqb-false q p e)) (h refl)
-
-  forgets : (p : ℕ) (seen : List ℕ) → length seen ≡ 38 → (q : ℕ) → q < 38 → (eqb q p ≡ false → Known stored q (getD seen q 0)) → Known stored q (getD (set seen p (notSeen p)) q 0)
-  forgets p seen l q g h = forgets-by (eqb q p) p seen l q g refl h
-
-  forgotten-length : (p : ℕ) (seen : List ℕ) → length seen ≡ 38 → length (forgotten p seen) ≡ 38
-  forgotten-length p seen l = length-set seen p (notSeen p) ∙ l
-
   ports-known : (seen : List ℕ) → length seen ≡ 38 → Knows seen (chipOf registers core) → (q : ℕ) → q < 38 → eqb q a ≡ false → Known stored q (getD (portsForgotten seen) q 0)
   ports-known seen l h q g n =
       let s₀ : List ℕ = forgotten PT0 seen in
@@ -83,7 +85,7 @@ module _ (registers : List ℕ) (core : Core) (a v : ℕ) where
       let l₀ : length s₀ ≡ 38 = forgotten-length PT0 seen l in
       let l₁ : length s₁ ≡ 38 = forgotten-length PT1 s₀ l₀ in
       let l₂ : length s₂ ≡ 38 = forgotten-length PT2 s₁ l₁ in
-      forgets PT3 s₂ l₂ q g (λ e₃. forgets PT2 s₁ l₁ q g (λ e₂. forgets PT1 s₀ l₀ q g (λ e₁. forgets PT0 seen l q g
+      forgets stored PT3 s₂ l₂ q g (λ e₃. forgets stored PT2 s₁ l₁ q g (λ e₂. forgets stored PT1 s₀ l₀ q g (λ e₁. forgets stored PT0 seen l q g
       (λ e₀. known-as (chipOf registers core) stored q (getD seen q 0) (stored-other registers core a v q (e₀, e₁, e₂, e₃) n) (h q g)))))
 
   ports-length : (seen : List ℕ) → length seen ≡ 38 → length (portsForgotten seen) ≡ 38

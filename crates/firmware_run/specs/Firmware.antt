@@ -1,14 +1,17 @@
 -- The parts that a firmware call is made of, as the code has them: the chip is its array of stored registers and its core, and what is known of
 -- its registers is kept for as long as it holds. What the call comes to is in the crate machine.
 use Prim.Native.Nat.{ℕ, zero, suc, _+_}
-use mathlib.Core.Bool.{Bool, true, false, not}
+use mathlib.Core.Bool.{Bool, true, false, not, _||_}
 use mathlib.Core.List.{List, [], _∷_}
 use lib.Bits.{bitAnd}
 use lib.Dec.{eqb, ltb}
 use lib.ListN.{set}
 use Rattle.bits.specs.Byte.{pick}
-use Rattle.registers.specs.Names.{PT0, PT1, PT2, PT3}
+use Rattle.registers.specs.Names.{PT0, PT1, PT2, PT3, MDCON, IRQX, IIDAT, IISTS}
+use Rattle.events.specs.Pins as pin
 use Rattle.events.specs.Clocks as clock
+use Rattle.events.specs.declared.Decoded.{Decoded}
+use Rattle.events.specs.declared.Decoded.the-variants as event
 use Rattle.events.specs.Word.{decode}
 use Rattle.sync.specs.declared.Sync.{Sync}
 use Rattle.chip.specs.declared.Core.{Core}
@@ -64,6 +67,23 @@ forgotten r seen = set seen r (notSeen r)
 -- the ports show other registers too: a store may move what they read
 abbrev pub portsForgotten : List ℕ → List ℕ
 portsForgotten seen = forgotten PT3 (forgotten PT2 (forgotten PT1 (forgotten PT0 seen)))
+
+-- edges of the bus move what five registers show
+abbrev pub busForgotten : List ℕ → List ℕ
+busForgotten seen = forgotten IISTS (forgotten IIDAT (forgotten IRQX (forgotten MDCON (forgotten PT3 seen))))
+
+-- a level put to SCL or SDA
+unfoldable pub isBus : Decoded → Bool
+isBus (event.Read a) = false
+isBus (event.Write a b) = false
+isBus (event.Pin p level) = eqb p pin.SCL || eqb p pin.SDA
+isBus (event.Clock k) = false
+isBus (event.Polarity vertical level) = false
+isBus (event.Refused n) = false
+
+-- any other event may move all that is read
+unfoldable pub seenAfterEvent : List ℕ → Decoded → List ℕ
+seenAfterEvent seen e = pick (isBus e) (busForgotten seen) noneSeen
 
 -- the register stands in the array
 unfoldable pub isStored : Target → Bool

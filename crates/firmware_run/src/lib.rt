@@ -17,8 +17,8 @@ ghost use Rattle.instruction.specs.Instruction.{interrupted};
 ghost use Rattle.execution.specs.Execution.{stored};
 ghost use Rattle.machine.specs.Machine.{machine, isRequesting};
 ghost use Rattle.machine.specs.Run.{wordOf, called, runs, isWellFormed, firmware as firmwareOf};
-ghost use Rattle.machine.specs.Seen.{knownReading};
-ghost use Rattle.firmware_run.specs.Firmware.{resultOf, refusedResult, occurredWith, until as untilOf, noneSeen, portsForgotten, isStored, seenAfterWrite, sameBool, sameCounts, ticked, seenAfterClock, watchdogAfter, isDac, seenAfterDac, coreAfterCycles, afterInterrupted, settledEnd};
+ghost use Rattle.machine.specs.Seen.{knownReading, Knows};
+ghost use Rattle.firmware_run.specs.Firmware.{resultOf, refusedResult, occurredWith, until as untilOf, noneSeen, portsForgotten, busForgotten, isBus, seenAfterEvent, isStored, seenAfterWrite, sameBool, sameCounts, ticked, seenAfterClock, watchdogAfter, isDac, seenAfterDac, coreAfterCycles, afterInterrupted, settledEnd};
 use batch::Turn;
 use chip::Chip;
 use chip::Core;
@@ -26,12 +26,18 @@ use chip::Kept;
 use events::Decoded;
 use events::PERIOD;
 use events::RESET;
+use events::SCL;
+use events::SDA;
 use events::WATCHDOG;
 use operations::Cpu;
 use reads::Reading;
 use registers::CLRWDT;
 use registers::DACH0;
 use registers::IEX;
+use registers::IIDAT;
+use registers::IISTS;
+use registers::IRQX;
+use registers::MDCON;
 use registers::PT0;
 use registers::PT1;
 use registers::PT2;
@@ -69,6 +75,10 @@ pub struct Settled {
     pub number: u32,
     pub refusal: u8,
 }
+
+const SCL_LOW: u32 = 0x0300_1900;
+
+const SCL_HIGH: u32 = 0x0300_1901;
 
 // Of no register anything is known: 320 and its own number.
 const NONE_SEEN: [u16; 38] = [
@@ -114,6 +124,17 @@ const NONE_SEEN: [u16; 38] = [
 
 // ---- events
 
+// The words of SCL's levels, the commonest where a host reads, straight to their event.
+fn decoded(word: u32) -> Decoded
+    ensures { λ r. ⌜ r ≡ decode word ⌝ }
+{
+    match word {
+        SCL_LOW => Decoded::Pin(SCL, false),
+        SCL_HIGH => Decoded::Pin(SCL, true),
+        _ => events::decode(word),
+    }
+}
+
 fn was_reset(registers: &[u8; 38], c: Core, event: Decoded) -> bool
     ensures { λ r. ⌜ r ≡ wasReset (chipOf (now (registers .entry)) c) event ⌝ }
 {
@@ -124,29 +145,6 @@ fn was_reset(registers: &[u8; 38], c: Core, event: Decoded) -> bool
         Decoded::Clock(k) => c.reset & ((k == WATCHDOG) & counters::watchdog_fires(c.watchdog)),
         Decoded::Polarity(_, _) => false,
         Decoded::Refused(_) => false,
-    }
-}
-
-// A word given to the chip; where it resets the chip, the CPU is reset too.
-fn occur(registers: &mut [u8; 38], rom: &[u8], core: Core, cpu: Cpu, word: u32) -> Occurred
-    ensures { λ r. ⌜ (r ≡ occurredWith (now (rom .entry)) cpu (chipOf (now (registers .entry)) core) word) × (now (registers .exit) ≡ nextOf (chipOf (now (registers .entry)) core) (decode word) .registers) ⌝ }
-{
-    let event = events::decode(word);
-    let reset = was_reset(registers, core, event);
-    let done = step::advance_core(registers, core, event);
-    let after = done.core;
-    if reset {
-        Occurred {
-            cpu: instruction::reset(cpu, rom),
-            core: after,
-            answer: done.answer,
-        }
-    } else {
-        Occurred {
-            cpu: cpu,
-            core: after,
-            answer: done.answer,
-        }
     }
 }
 
@@ -221,6 +219,41 @@ fn forget_ports(seen: &mut [u16; 38])
     note(seen, PT3, 324);
 }
 
+// Edges of SCL and SDA move what these registers show.
+fn forget_bus(seen: &mut [u16; 38])
+    ensures { λ _. ⌜ now (seen .exit) ≡ busForgotten (now (seen .entry)) ⌝ }
+{
+    note(seen, PT3, 324);
+    note(seen, MDCON, 325);
+    note(seen, IRQX, 336);
+    note(seen, IIDAT, 340);
+    note(seen, IISTS, 341);
+}
+
+// An edge of the bus.
+fn is_bus(event: Decoded) -> bool
+    ensures { λ r. ⌜ r ≡ isBus event ⌝ }
+{
+    match event {
+        Decoded::Read(_) => false,
+        Decoded::Write(_, _) => false,
+        Decoded::Pin(p, _) => (p == SCL) | (p == SDA),
+        Decoded::Clock(_) => false,
+        Decoded::Polarity(_, _) => false,
+        Decoded::Refused(_) => false,
+    }
+}
+
+fn forget_by(seen: &mut [u16; 38], event: Decoded)
+    ensures { λ _. ⌜ now (seen .exit) ≡ seenAfterEvent (now (seen .entry)) event ⌝ }
+{
+    if is_bus(event) {
+        forget_bus(seen);
+    } else {
+        forget(seen);
+    }
+}
+
 fn forget_written(seen: &mut [u16; 38], a: u8)
     ensures { λ _. ⌜ now (seen .exit) ≡ seenAfterWrite (now (seen .entry)) a ⌝ }
 {
@@ -274,6 +307,39 @@ fn same_counts(s: Sync, t: Sync) -> bool
 }
 
 // ---- what is done with the chip
+
+// A word given to the chip; where it resets the chip, the CPU is reset too.
+fn occur(
+    seen: &mut [u16; 38],
+    registers: &mut [u8; 38],
+    rom: &[u8],
+    core: Core,
+    cpu: Cpu,
+    word: u32,
+) -> Occurred
+    ensures { λ r. ⌜ (r ≡ occurredWith (now (rom .entry)) cpu (chipOf (now (registers .entry)) core) word)
+        × (now (registers .exit) ≡ nextOf (chipOf (now (registers .entry)) core) (decode word) .registers)
+        × (now (seen .exit) ≡ seenAfterEvent (now (seen .entry)) (decode word)) ⌝ }
+{
+    let event = decoded(word);
+    let reset = was_reset(registers, core, event);
+    forget_by(seen, event);
+    let done = step::advance_core(registers, core, event);
+    let after = done.core;
+    if reset {
+        Occurred {
+            cpu: instruction::reset(cpu, rom),
+            core: after,
+            answer: done.answer,
+        }
+    } else {
+        Occurred {
+            cpu: cpu,
+            core: after,
+            answer: done.answer,
+        }
+    }
+}
 
 fn is_requesting(registers: &[u8; 38], core: Core) -> bool
     ensures { λ r. ⌜ r ≡ isRequesting (chipOf (now (registers .entry)) core) ⌝ }
@@ -382,8 +448,8 @@ fn number_after(i: u32, done: bool) -> u32
 
 // ---- instructions one after the other
 
-// Instructions from number `from` to before number `to`, with RESET high and no events between them. While `even` is false instruction i
-// is done but for an 8 µs clock. What the registers read is kept in `seen` for as long as it holds.
+// Instructions from number `from` to before number `to`, with RESET high and no events between them. While `clocked` is false
+// instruction i is done but for the 8 µs clock that is due. What the registers read is kept in `seen` for as long as it holds.
 fn advance(
     table: &[u32; 256],
     registers: &mut [u8; 38],
@@ -393,19 +459,20 @@ fn advance(
     cpu: Cpu,
     from: u32,
     to: u32,
+    seen: &mut [u16; 38],
 ) -> Settled
-    requires { ⌜ (now table ≡ opcodes) × (core .reset ≡ true) ⌝ }
-    ensures { λ r. ⌜ settledEnd r (now (ram .exit)) (now (registers .exit)) ≡ runs (to - from) from (now (rom .entry)) [] (machine cpu (now (ram .entry)) (chipOf (now (registers .entry)) core)) ⌝ }
+    requires { ⌜ (now table ≡ opcodes) × (core .reset ≡ true) × Knows (now seen) (chipOf (now registers) core) × (length (now seen) ≡ 38) ⌝ }
+    ensures { λ r. ⌜ (settledEnd r (now (ram .exit)) (now (registers .exit)) ≡ runs (to - from) from (now (rom .entry)) [] (machine cpu (now (ram .entry)) (chipOf (now (registers .entry)) core)))
+        × Knows (now (seen .exit)) (chipOf (now (registers .exit)) (r .core)) × (length (now (seen .exit)) ≡ 38) ⌝ }
 {
-    let mut seen = NONE_SEEN;
     let mut k = core;
     let mut c = cpu;
     let mut i = from;
-    let mut even = true;
+    let mut clocked = true;
     let mut request = is_requesting(registers, core);
     while i < to {
-        if even {
-            let t = batch::turn_of(table, &seen, ram, rom, request, c);
+        if clocked {
+            let t = batch::turn_of(table, seen, ram, rom, request, c);
             match t {
                 Turn::On(d) => {
                     c = d;
@@ -413,13 +480,13 @@ fn advance(
                 },
                 Turn::Clock(d) => {
                     c = d;
-                    even = false;
+                    clocked = false;
                 },
                 Turn::Interrupt => {
                     let e = interrupt(ram, rom, k, c);
                     c = e.cpu;
                     k = e.core;
-                    forget(&mut seen);
+                    forget(seen);
                     request = is_requesting(registers, k);
                 },
                 Turn::Write(q, n, r, b) => {
@@ -431,12 +498,12 @@ fn advance(
                         k.watchdog = watchdog_after(k.watchdog, b);
                         c = d;
                         i = j;
-                        even = few;
+                        clocked = few;
                     } else if is_dac(r) {
-                        write_dac(&mut seen, registers, r, b);
+                        write_dac(seen, registers, r, b);
                         c = d;
                         i = j;
-                        even = few;
+                        clocked = few;
                     } else {
                         let w = writes::write_number(true, r);
                         if w != 0 {
@@ -447,11 +514,11 @@ fn advance(
                                 refusal: w,
                             };
                         }
-                        k = write_register(&mut seen, registers, k, r, b);
+                        k = write_register(seen, registers, k, r, b);
                         request = is_requesting(registers, k);
                         c = d;
                         i = j;
-                        even = few;
+                        clocked = few;
                     }
                 },
                 Turn::Refused(n) => {
@@ -464,12 +531,12 @@ fn advance(
                         };
                     }
                     let read = reads::read_register(registers, k, n - 64);
-                    note(&mut seen, n - 64, known_reading(read));
+                    note(seen, n - 64, known_reading(read));
                 },
             }
         } else {
-            k = clock(&mut seen, k);
-            even = true;
+            k = clock(seen, k);
+            clocked = true;
             i += 1;
         }
     }
@@ -491,12 +558,14 @@ fn proceed(
     cpu: Cpu,
     from: u32,
     to: u32,
+    seen: &mut [u16; 38],
 ) -> Settled
-    requires { ⌜ (now table ≡ opcodes) × (from < to) ⌝ }
-    ensures { λ r. ⌜ settledEnd r (now (ram .exit)) (now (registers .exit)) ≡ runs (to - from) from (now (rom .entry)) [] (machine cpu (now (ram .entry)) (chipOf (now (registers .entry)) core)) ⌝ }
+    requires { ⌜ (now table ≡ opcodes) × (from < to) × Knows (now seen) (chipOf (now registers) core) × (length (now seen) ≡ 38) ⌝ }
+    ensures { λ r. ⌜ (settledEnd r (now (ram .exit)) (now (registers .exit)) ≡ runs (to - from) from (now (rom .entry)) [] (machine cpu (now (ram .entry)) (chipOf (now (registers .entry)) core)))
+        × Knows (now (seen .exit)) (chipOf (now (registers .exit)) (r .core)) × (length (now (seen .exit)) ≡ 38) ⌝ }
 {
     if core.reset {
-        advance(table, registers, ram, rom, core, cpu, from, to)
+        advance(table, registers, ram, rom, core, cpu, from, to, seen)
     } else {
         Settled {
             cpu: cpu,
@@ -525,6 +594,7 @@ fn run_all(
         × (now (ram .exit) ≡ called (runs instructions 0 (now (rom .entry)) (now (events .entry)) (machine cpu (now (ram .entry)) chip)) (now (answers .entry)) .ram) ⌝ }
 {
     let table = opcodes::table();
+    let mut seen = NONE_SEEN;
     let mut registers = chip.registers;
     let mut core = chip.core;
     let mut c = cpu;
@@ -534,6 +604,7 @@ fn run_all(
         let to = until(events, given, instructions);
         if to <= i {
             let o = occur(
+                &mut seen,
                 &mut registers,
                 rom,
                 core,
@@ -545,7 +616,7 @@ fn run_all(
             c = o.cpu;
             given += 1;
         } else {
-            let s = proceed(&table, &mut registers, ram, rom, core, c, i, to);
+            let s = proceed(&table, &mut registers, ram, rom, core, c, i, to, &mut seen);
             core = s.core;
             c = s.cpu;
             i = s.number;
