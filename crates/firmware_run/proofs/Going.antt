@@ -24,9 +24,10 @@ use Rattle.machine.proofs.Turns.{Later, none, next-at, onEnded, split, runs-nex
 use Rattle.firmware_run.specs.declared.FirmwareResult.{FirmwareResult}
 use Rattle.firmware_run.specs.declared.Occurred.{Occurred}
 use Rattle.firmware_run.specs.declared.Settled.{Settled}
-use Rattle.firmware_run.specs.Firmware.{resultOf, occurredWith, seenAfterEvent, noneSeen, until, settledEnd}
-use Rattle.firmware_run.proofs.Registers.{knows-none}
-use Rattle.firmware_run.proofs.Lines.{knows-event, event-length}
+use Rattle.register_cache.specs.Cache.{seenAfterEvent, noneSeen}
+use Rattle.firmware_run.specs.Firmware.{resultOf, occurredWith, until, settledEnd}
+use Rattle.register_cache.proofs.Registers.{knows-none}
+use Rattle.register_cache.proofs.Lines.{knows-event, event-length}
 
 -- ---- the next event
 

@@ -15,7 +15,8 @@ use Rattle.step.specs.Step.{advance, coreOf}
 use Rattle.operations.specs.declared.Cpu.{Cpu}
 use Rattle.instruction.specs.Instruction.{resetCpu}
 use Rattle.firmware_run.specs.declared.Occurred.{Occurred}
-use Rattle.firmware_run.specs.Firmware.{occurredWith, seenAfterEvent}
+use Rattle.register_cache.specs.Cache.{seenAfterEvent}
+use Rattle.firmware_run.specs.Firmware.{occurredWith}
 
 abbrev pub occurredAs : Cpu → Core → ℕ → Occurred
 occurredAs q core a = record { cpu = q; core = core; answer = a }

@@ -33,9 +33,10 @@ use Rattle.machine.proofs.Interrupts.{interrupt-is, interrupted-masks}
 use Rattle.machine.proofs.Turns.{taken-clear, runs-first, runs-interrupt}
 use Rattle.firmware_run.specs.declared.Interrupted.{Interrupted}
 use Rattle.firmware_run.specs.declared.Settled.{Settled}
-use Rattle.firmware_run.specs.Firmware.{noneSeen, ticked, seenAfterClock, coreAfterCycles, afterInterrupted, settledEnd}
-use Rattle.firmware_run.proofs.Registers.{knows-none, knows-set, unseenOf, unseen-le, unseen-set}
-use Rattle.firmware_run.proofs.Chips.{clock-chip, after-cycles, ticked-high, after-high, clock-requests, knows-clock, clock-length, Changed}
+use Rattle.register_cache.specs.Cache.{noneSeen, ticked, seenAfterClock, coreAfterCycles}
+use Rattle.firmware_run.specs.Firmware.{afterInterrupted, settledEnd}
+use Rattle.register_cache.proofs.Registers.{knows-none, knows-set, unseenOf, unseen-le, unseen-set}
+use Rattle.register_cache.proofs.Chips.{clock-chip, after-cycles, ticked-high, after-high, clock-requests, knows-clock, clock-length, Changed}
 
 -- the run from instruction i on; where `clocked` is false that instruction is done but for a clock of 8 µs, which is due
 abbrev pub remaining : List ℕ → ℕ → Bool → Machine → ℕ → Ended

@@ -4,46 +4,31 @@ ghost use mathlib.Core.Bool.{true};
 ghost use mathlib.Core.List.{[]};
 ghost use Prim.Native.Nat.{_+_, _-_, _<_, _≤_};
 ghost use lib.ListN.{length, drop, getD, set};
-ghost use lib.Bits.{bitAnd};
 ghost use lib.Dec.{ltb};
 ghost use Rattle.bits.specs.Byte.{pick};
-ghost use Rattle.registers.specs.Table.{updated as updatedOf};
 ghost use Rattle.events.specs.Word.{decode};
-ghost use Rattle.chip.specs.State.{chipOf, keep as keepOf, registerAt};
-ghost use Rattle.writes.specs.Writes.{written as writtenOf, storedBy};
+ghost use Rattle.chip.specs.State.{chipOf};
 ghost use Rattle.outcome.specs.Outcome.{next as nextOf, wasReset};
 ghost use Rattle.opcodes.specs.Table.{opcodes};
 ghost use Rattle.instruction.specs.Instruction.{interrupted};
 ghost use Rattle.execution.specs.Execution.{stored};
 ghost use Rattle.machine.specs.Machine.{machine, isRequesting};
 ghost use Rattle.machine.specs.Run.{wordOf, called, runs, isWellFormed, firmware as firmwareOf};
-ghost use Rattle.machine.specs.Seen.{knownReading, Knows};
-ghost use Rattle.firmware_run.specs.Firmware.{resultOf, refusedResult, occurredWith, until as untilOf, noneSeen, portsForgotten, busForgotten, isBus, seenAfterEvent, isStored, seenAfterWrite, sameBool, sameCounts, ticked, seenAfterClock, watchdogAfter, isDac, seenAfterDac, coreAfterCycles, afterInterrupted, settledEnd};
+ghost use Rattle.machine.specs.Seen.{Knows};
+ghost use Rattle.register_cache.specs.Cache.{seenAfterEvent, watchdogAfter, coreAfterCycles};
+ghost use Rattle.firmware_run.specs.Firmware.{resultOf, refusedResult, occurredWith, until as untilOf, afterInterrupted, settledEnd};
 use batch::Turn;
 use chip::Chip;
 use chip::Core;
-use chip::Kept;
 use events::Decoded;
 use events::PERIOD;
 use events::RESET;
 use events::SCL;
-use events::SDA;
 use events::WATCHDOG;
 use operations::Cpu;
-use reads::Reading;
+use register_cache::NONE_SEEN;
 use registers::CLRWDT;
-use registers::DACH0;
 use registers::IEX;
-use registers::IIDAT;
-use registers::IISTS;
-use registers::IRQX;
-use registers::MDCON;
-use registers::PT0;
-use registers::PT1;
-use registers::PT2;
-use registers::PT3;
-use sync::Sync;
-use writes::Target;
 
 // What a firmware call gives back: 0 or the number of the refusal, CPU and chip, how many instructions were counted, and how many of the
 // listed events were given.
@@ -79,48 +64,6 @@ pub struct Settled {
 const SCL_LOW: u32 = 0x0300_1900;
 
 const SCL_HIGH: u32 = 0x0300_1901;
-
-// Of no register anything is known: 320 and its own number.
-const NONE_SEEN: [u16; 38] = [
-    320,
-    321,
-    322,
-    323,
-    324,
-    325,
-    326,
-    327,
-    328,
-    329,
-    330,
-    331,
-    332,
-    333,
-    334,
-    335,
-    336,
-    337,
-    338,
-    339,
-    340,
-    341,
-    342,
-    343,
-    344,
-    345,
-    346,
-    347,
-    348,
-    349,
-    350,
-    351,
-    352,
-    353,
-    354,
-    355,
-    356,
-    357,
-];
 
 // ---- events
 
@@ -182,130 +125,6 @@ fn until(events: &[u64], next: usize, n: u32) -> u32
     }
 }
 
-// ---- what is known of the registers
-
-fn forget(seen: &mut [u16; 38])
-    ensures { λ r. ⌜ now (seen .exit) ≡ noneSeen ⌝ }
-{
-    *seen = NONE_SEEN;
-}
-
-fn known_reading(r: Reading) -> u16
-    ensures { λ v. ⌜ v ≡ knownReading r ⌝ }
-{
-    if r.number == 0 {
-        r.byte as u16
-    } else {
-        256 + (r.number as u16)
-    }
-}
-
-fn note(seen: &mut [u16], r: u8, v: u16)
-    ensures { λ q. ⌜ now (seen .exit) ≡ set (now (seen .entry)) r v ⌝ }
-{
-    let i = r as usize;
-    if i < seen.len() {
-        seen[i] = v;
-    }
-}
-
-// Ports show other registers too.
-fn forget_ports(seen: &mut [u16; 38])
-    ensures { λ _. ⌜ now (seen .exit) ≡ portsForgotten (now (seen .entry)) ⌝ }
-{
-    note(seen, PT0, 320);
-    note(seen, PT1, 321);
-    note(seen, PT2, 323);
-    note(seen, PT3, 324);
-}
-
-// Edges of SCL and SDA move what these registers show.
-fn forget_bus(seen: &mut [u16; 38])
-    ensures { λ _. ⌜ now (seen .exit) ≡ busForgotten (now (seen .entry)) ⌝ }
-{
-    note(seen, PT3, 324);
-    note(seen, MDCON, 325);
-    note(seen, IRQX, 336);
-    note(seen, IIDAT, 340);
-    note(seen, IISTS, 341);
-}
-
-// An edge of the bus.
-fn is_bus(event: Decoded) -> bool
-    ensures { λ r. ⌜ r ≡ isBus event ⌝ }
-{
-    match event {
-        Decoded::Read(_) => false,
-        Decoded::Write(_, _) => false,
-        Decoded::Pin(p, _) => (p == SCL) | (p == SDA),
-        Decoded::Clock(_) => false,
-        Decoded::Polarity(_, _) => false,
-        Decoded::Refused(_) => false,
-    }
-}
-
-fn forget_by(seen: &mut [u16; 38], event: Decoded)
-    ensures { λ _. ⌜ now (seen .exit) ≡ seenAfterEvent (now (seen .entry)) event ⌝ }
-{
-    if is_bus(event) {
-        forget_bus(seen);
-    } else {
-        forget(seen);
-    }
-}
-
-fn forget_written(seen: &mut [u16; 38], a: u8)
-    ensures { λ _. ⌜ now (seen .exit) ≡ seenAfterWrite (now (seen .entry)) a ⌝ }
-{
-    if is_stored(writes::target_of(a)) {
-        forget_ports(seen);
-        note(seen, a, 320 + (a as u16));
-    } else {
-        forget(seen);
-    }
-}
-
-fn is_stored(t: Target) -> bool
-    ensures { λ r. ⌜ r ≡ isStored t ⌝ }
-{
-    match t {
-        Target::Stored => true,
-        Target::Mdcon => false,
-        Target::Hvcon => false,
-        Target::Clrflg => false,
-        Target::Clrwdt => false,
-        Target::Iiadr => false,
-        Target::Iidat => false,
-        Target::Iists => false,
-        Target::Bt => false,
-    }
-}
-
-fn same_bool(a: bool, b: bool) -> bool
-    ensures { λ r. ⌜ r ≡ sameBool a b ⌝ }
-{
-    if a { b } else { !b }
-}
-
-// The registers show the same of both counters.
-fn same_counts(s: Sync, t: Sync) -> bool
-    ensures { λ r. ⌜ r ≡ sameCounts s t ⌝ }
-{
-    if same_bool(s.lines.overflow, t.lines.overflow) {
-        if same_bool(s.periods.overflow, t.periods.overflow) {
-            if s.lines.latch.0 == t.lines.latch.0 {
-                s.periods.latch.0 == t.periods.latch.0
-            } else {
-                false
-            }
-        } else {
-            false
-        }
-    } else {
-        false
-    }
-}
-
 // ---- what is done with the chip
 
 // A word given to the chip; where it resets the chip, the CPU is reset too.
@@ -323,7 +142,7 @@ fn occur(
 {
     let event = decoded(word);
     let reset = was_reset(registers, core, event);
-    forget_by(seen, event);
+    register_cache::forget_by(seen, event);
     let done = step::advance_core(registers, core, event);
     let after = done.core;
     if reset {
@@ -346,53 +165,6 @@ fn is_requesting(registers: &[u8; 38], core: Core) -> bool
 {
     let n = chip::requested(core.irqx, chip::register_at(registers, IEX));
     !(n == 0)
-}
-
-// A clock of 8 µs.
-fn clock(seen: &mut [u16; 38], core: Core) -> Core
-    ensures { λ r. ⌜ (r ≡ ticked core) × (now (seen .exit) ≡ seenAfterClock (now (seen .entry)) core) ⌝ }
-{
-    let before = core.sync;
-    let k = clocks::clocked(0, core, PERIOD);
-    let after = k.sync;
-    if same_counts(before, after) {
-        k
-    } else {
-        forget(seen);
-        k
-    }
-}
-
-fn shown(registers: &[u8; 38], a: u8) -> u8
-    ensures { λ r. ⌜ r ≡ bitAnd (registerAt (now (registers .entry)) a) 255 ⌝ }
-{
-    chip::register_at(registers, a) & 255
-}
-
-fn is_dac(a: u8) -> bool
-    ensures { λ r. ⌜ r ≡ isDac a ⌝ }
-{
-    if a < DACH0 { false } else { a < 38 }
-}
-
-// A DAC is written: it reads as it is stored.
-fn write_dac(seen: &mut [u16; 38], registers: &mut [u8; 38], a: u8, b: u8)
-    ensures { λ _. ⌜ (now (registers .exit) ≡ set (now (registers .entry)) a (updatedOf a (registerAt (now (registers .entry)) a) b))
-        × (now (seen .exit) ≡ seenAfterDac (now (seen .entry)) (now (registers .exit)) a) ⌝ }
-{
-    let v = registers::updated(a, chip::register_at(registers, a), b);
-    chip::keep(registers, Kept::Stored(a, v));
-    forget_ports(seen);
-    note(seen, a, shown(registers, a) as u16);
-}
-
-fn write_register(seen: &mut [u16; 38], registers: &mut [u8; 38], core: Core, a: u8, b: u8) -> Core
-    ensures { λ r. ⌜ (r ≡ writtenOf core a b) × (now (registers .exit) ≡ keepOf (storedBy (now (registers .entry)) a b) (now (registers .entry))) × (now (seen .exit) ≡ seenAfterWrite (now (seen .entry)) a) ⌝ }
-{
-    let kept = writes::stored(registers, a, b);
-    chip::keep(registers, kept);
-    forget_written(seen, a);
-    writes::written(core, a, b)
 }
 
 fn watchdog_after(count: u8, b: u8) -> u8
@@ -486,7 +258,7 @@ fn advance(
                     let e = interrupt(ram, rom, k, c);
                     c = e.cpu;
                     k = e.core;
-                    forget(seen);
+                    register_cache::forget(seen);
                     request = is_requesting(registers, k);
                 },
                 Turn::Write(q, n, r, b) => {
@@ -499,8 +271,8 @@ fn advance(
                         c = d;
                         i = j;
                         clocked = few;
-                    } else if is_dac(r) {
-                        write_dac(seen, registers, r, b);
+                    } else if register_cache::is_dac(r) {
+                        register_cache::write_dac(seen, registers, r, b);
                         c = d;
                         i = j;
                         clocked = few;
@@ -514,7 +286,7 @@ fn advance(
                                 refusal: w,
                             };
                         }
-                        k = write_register(seen, registers, k, r, b);
+                        k = register_cache::write_register(seen, registers, k, r, b);
                         request = is_requesting(registers, k);
                         c = d;
                         i = j;
@@ -531,11 +303,11 @@ fn advance(
                         };
                     }
                     let read = reads::read_register(registers, k, n - 64);
-                    note(seen, n - 64, known_reading(read));
+                    register_cache::note(seen, n - 64, register_cache::known_reading(read));
                 },
             }
         } else {
-            k = clock(seen, k);
+            k = register_cache::clock(seen, k);
             clocked = true;
             i += 1;
         }

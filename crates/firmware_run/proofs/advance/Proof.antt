@@ -4,7 +4,7 @@ use borrow.Author.Needs.{needs}
 use borrow.Author.Tests.{eq-eqb, ne-eqb}
 use Rattle.chip.specs.State.{chipOf}
 use Rattle.machine.specs.Machine.{machine}
-use Rattle.firmware_run.proofs.Chips.{changed-watchdog, watchdog-asked, changed-dac, dac-asked, changed-other}
+use Rattle.register_cache.proofs.Chips.{changed-watchdog, watchdog-asked, changed-dac, dac-asked, changed-other}
 use Rattle.firmware_run.proofs.Running.{Running, measure, begin, finish, ticks, ticks-less, on, on-less, due, due-less, interrupts, interrupts-less, wrote, wrote-less, refused-write, refuses, waits, waits-less}
 use Rattle.firmware_run.proofs.advance.Statement.{statement}
 use Rattle.firmware_run.proofs.advance.Tie as tie
