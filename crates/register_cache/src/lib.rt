@@ -201,7 +201,7 @@ fn same_counts(s: Sync, t: Sync) -> bool
 // ---- changes of the chip
 
 // A clock of 8 µs.
-// Wrong answers: the latch of lines taken for the same; that of fields.
+// Wrong answers: the count of lines compared and not its latch; the same of periods.
 pub fn clock(seen: &mut [u16; 38], core: Core) -> Core
     ensures { λ r. ⌜ (r ≡ ticked core) × (now (seen .exit) ≡ seenAfterClock (now (seen .entry)) core) ⌝ }
 {
