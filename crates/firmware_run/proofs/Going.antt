@@ -18,12 +18,16 @@ use Rattle.outcome.specs.Outcome.{next}
 use Rattle.step.specs.Step.{answered}
 use Rattle.operations.specs.declared.Cpu.{Cpu}
 use Rattle.machine.specs.Machine.{Machine, machine, Turned, turn}
+use Rattle.machine.specs.Seen.{Knows}
 use Rattle.machine.specs.Run.{numberOf, wordOf, occurred, fed, answersBefore, left, Ended, ended, prepended, onTurned, runs, Called, called}
 use Rattle.machine.proofs.Turns.{Later, none, next-at, onEnded, split, runs-next}
 use Rattle.firmware_run.specs.declared.FirmwareResult.{FirmwareResult}
 use Rattle.firmware_run.specs.declared.Occurred.{Occurred}
 use Rattle.firmware_run.specs.declared.Settled.{Settled}
+use Rattle.register_cache.specs.Cache.{seenAfterEvent, noneSeen}
 use Rattle.firmware_run.specs.Firmware.{resultOf, occurredWith, until, settledEnd}
+use Rattle.register_cache.proofs.Registers.{knows-none}
+use Rattle.register_cache.proofs.Lines.{knows-event, event-length}
 
 -- ---- the next event
 
@@ -96,19 +100,21 @@ runs-event n i rom e es m h g =
 -- ---- the loop
 
 -- before instruction i, with `given` events given
-pub record Going (n : ℕ) (rom es places : List ℕ) (whole : Ended) (answers ram registers : List ℕ) (core : Core) (c : Cpu) (i given : ℕ) : Type 0 where
+pub record Going (n : ℕ) (rom es places : List ℕ) (whole : Ended) (answers ram seen registers : List ℕ) (core : Core) (c : Cpu) (i given : ℕ) : Type 0 where
   pub within : i ≤ n
   pub listed : given ≤ length es
   pub same : length answers ≡ length places
   pub total : whole ≡ prepended (take given answers) (runs (n - i) i rom (drop given es) (machine c ram (chipOf registers core)))
   pub rest : drop given answers ≡ drop given places
+  pub knows : Knows seen (chipOf registers core)
+  pub size : length seen ≡ 38
 
 -- what is left to do
 abbrev pub measure : ℕ → List ℕ → ℕ → ℕ → ℕ
 measure n es i given = (length es - given) + (n - i)
 
-module _ (n : ℕ) (rom es places : List ℕ) (whole : Ended) (answers ram registers : List ℕ) (core : Core) (c : Cpu) (i given : ℕ)
-    (room : length es ≤ length places) (h : Going n rom es places whole answers ram registers core c i given) (more : i < n) where
+module _ (n : ℕ) (rom es places : List ℕ) (whole : Ended) (answers ram seen registers : List ℕ) (core : Core) (c : Cpu) (i given : ℕ)
+    (room : length es ≤ length places) (h : Going n rom es places whole answers ram seen registers core c i given) (more : i < n) where
   -- an event was given
   module _ (to : ℕ) (at : to ≡ until n (drop given es)) (reached : to ≤ i) where
     due : until n (drop given es) ≤ i
@@ -120,11 +126,11 @@ module _ (n : ℕ) (rom es places : List ℕ) (whole : Ended) (answers ram regis
     pub fed-less : measure n es i (given + 1) < measure n es i given
     fed-less = omega (arith, some)
 
-    goes-set : (w : ℕ) → w ≡ wordOf (getD es given 0) → (o : Occurred) (r : List ℕ) → o ≡ occurredWith rom c (chipOf registers core) w
-        → r ≡ next (chipOf registers core) (decode w) .registers
-        → Going n rom es places whole (set answers given (o .answer)) ram r (o .core) (o .cpu) i (given + 1)
+    goes-set : (w : ℕ) → w ≡ wordOf (getD es given 0) → (o : Occurred) (r s : List ℕ) → o ≡ occurredWith rom c (chipOf registers core) w
+        → r ≡ next (chipOf registers core) (decode w) .registers → s ≡ seenAfterEvent seen (decode w)
+        → Going n rom es places whole (set answers given (o .answer)) ram s r (o .core) (o .cpu) i (given + 1)
     unfolding occurred occurredWith
-    goes-set w e o r p q =
+    goes-set w e o r s p q u =
         let m = machine c ram (chipOf registers core) in
         let a : given < length answers = omega (arith, some, h .same) in
         let z : drop given es ≡ getD es given 0 ∷ drop (suc given) es = drop-cons es given 0 some in
@@ -138,12 +144,14 @@ module _ (n : ℕ) (rom es places : List ℕ) (whole : Ended) (answers ram regis
               (h .total ∙ ap (prepended (take given answers)) (ap (λ (l : List ℕ). runs (n - i) i rom l m) z ∙ runs-event n i rom (getD es given 0) (drop (suc given) es) m more d)
               ∙ prepended-twice (take given answers) (answered (chipOf registers core) (decode (wordOf (getD es given 0))) ∷ []) _);
           rest = drop-set-lt (given + 1) answers given (o .answer) (omega arith) ∙ sym (drop-drop 1 given answers) ∙ ap (drop 1) (h .rest) ∙ drop-drop 1 given places;
+          knows = rw (p, q, u) (knows-event seen registers core (decode w) (h .size) (h .knows));
+          size = rw u (event-length seen (decode w) (h .size));
         }
 
-    pub fed-goes : (v : ℕ) → v ≡ getD es given 0 → (w : ℕ) → w ≡ wordOf v → (o : Occurred) (r a : List ℕ) → o ≡ occurredWith rom c (chipOf registers core) w
-        → r ≡ next (chipOf registers core) (decode w) .registers → a ≡ set answers given (o .answer)
-        → Going n rom es places whole a ram r (o .core) (o .cpu) i (given + 1)
-    fed-goes v x w e o r a p q y = rw y (goes-set w (e ∙ ap wordOf x) o r p q)
+    pub fed-goes : (v : ℕ) → v ≡ getD es given 0 → (w : ℕ) → w ≡ wordOf v → (o : Occurred) (r s a : List ℕ) → o ≡ occurredWith rom c (chipOf registers core) w
+        → r ≡ next (chipOf registers core) (decode w) .registers → s ≡ seenAfterEvent seen (decode w) → a ≡ set answers given (o .answer)
+        → Going n rom es places whole a ram s r (o .core) (o .cpu) i (given + 1)
+    fed-goes v x w e o r s a p q u y = rw y (goes-set w (e ∙ ap wordOf x) o r s p q u)
 
   -- instructions were done
   module _ (to : ℕ) (at : to ≡ until n (drop given es)) (later : i < to) (s : Settled) (r ram′ : List ℕ)
@@ -165,14 +173,16 @@ module _ (n : ℕ) (rom es places : List ℕ) (whole : Ended) (answers ram regis
     pub on-less : eqb (s .refusal) 0 ≡ true → measure n es (s .number) given < measure n es i given
     on-less z = rw (reaches z) (omega (arith, later, most))
 
-    pub on-goes : eqb (s .refusal) 0 ≡ true → Going n rom es places whole answers ram′ r (s .core) (s .cpu) (s .number) given
-    on-goes z =
+    pub on-goes : eqb (s .refusal) 0 ≡ true → (seen′ : List ℕ) → Knows seen′ (chipOf r (s .core)) → length seen′ ≡ 38 → Going n rom es places whole answers ram′ seen′ r (s .core) (s .cpu) (s .number) given
+    on-goes z seen′ known sized =
         record {
           within = rw (reaches z) most;
           listed = h .listed;
           same = h .same;
           total = h .total ∙ ap (prepended (take given answers)) (on ∙ (rw z));
           rest = h .rest;
+          knows = known;
+          size = sized;
         }
 
     pub on-ends : eqb (s .refusal) 0 ≡ false → whole ≡ prepended (take given answers) (ended (machine (s .cpu) ram′ (chipOf r (s .core))) (s .refusal) (s .number) [])
@@ -180,15 +190,17 @@ module _ (n : ℕ) (rom es places : List ℕ) (whole : Ended) (answers ram regis
 
 -- ---- the end
 
-pub first : (n : ℕ) (rom es places : List ℕ) (c : Cpu) (ram registers : List ℕ) (core : Core)
-    → Going n rom es places (runs n 0 rom es (machine c ram (chipOf registers core))) places ram registers core c 0 0
-first n rom es places c ram registers core =
+pub first : (n : ℕ) (rom es places : List ℕ) (c : Cpu) (ram registers : List ℕ) (core : Core) (seen : List ℕ) → seen ≡ noneSeen
+    → Going n rom es places (runs n 0 rom es (machine c ram (chipOf registers core))) places ram seen registers core c 0 0
+first n rom es places c ram registers core seen e =
     record {
       within = omega arith;
       listed = omega arith;
       same = refl;
       total = ap (λ (x : ℕ). runs x 0 rom es (machine c ram (chipOf registers core))) (let z : n ≡ n - 0 = omega arith in z);
       rest = refl;
+      knows = rw e (knows-none (chipOf registers core));
+      size = rw e refl;
     }
 
 abbrev pub outcome : ℕ → Cpu → Chip → ℕ → ℕ → FirmwareResult
@@ -214,16 +226,16 @@ runs-done n i rom es m h g =
     let z : n - i ≡ 0 = omega arith in
     rw z
 
-pub finish : (n : ℕ) (rom es places : List ℕ) (whole : Ended) (answers ram registers : List ℕ) (core : Core) (c : Cpu) (i given : ℕ)
-    → length es ≤ length places → Going n rom es places whole answers ram registers core c i given → n ≤ i
+pub finish : (n : ℕ) (rom es places : List ℕ) (whole : Ended) (answers ram seen registers : List ℕ) (core : Core) (c : Cpu) (i given : ℕ)
+    → length es ≤ length places → Going n rom es places whole answers ram seen registers core c i given → n ≤ i
     → (outcome 0 c (chipOf registers core) i given ≡ resultOf (called whole places)) × (answers ≡ called whole places .answers) × (ram ≡ called whole places .ram)
-finish n rom es places whole answers ram registers core c i given room h l =
+finish n rom es places whole answers ram seen registers core c i given room h l =
     ends es places whole answers given room (h .listed) (h .same) (h .rest) c ram (chipOf registers core) 0 i
     (h .total ∙ ap (prepended (take given answers)) (runs-done n i rom (drop given es) (machine c ram (chipOf registers core)) l (h .within)))
 
-pub stop : (n : ℕ) (rom es places : List ℕ) (whole : Ended) (answers ram registers : List ℕ) (core : Core) (c : Cpu) (i given : ℕ)
-    → length es ≤ length places → Going n rom es places whole answers ram registers core c i given
+pub stop : (n : ℕ) (rom es places : List ℕ) (whole : Ended) (answers ram seen registers : List ℕ) (core : Core) (c : Cpu) (i given : ℕ)
+    → length es ≤ length places → Going n rom es places whole answers ram seen registers core c i given
     → (d : Cpu) (ram′ : List ℕ) (k : Chip) (x j : ℕ) → whole ≡ prepended (take given answers) (ended (machine d ram′ k) x j [])
     → (outcome x d k j given ≡ resultOf (called whole places)) × (answers ≡ called whole places .answers) × (ram′ ≡ called whole places .ram)
-stop n rom es places whole answers ram registers core c i given room h d ram′ k x j e =
+stop n rom es places whole answers ram seen registers core c i given room h d ram′ k x j e =
     ends es places whole answers given room (h .listed) (h .same) (h .rest) d ram′ k x j e

@@ -5,7 +5,8 @@ use mathlib.Core.Bool.{Bool, true, false}
 use mathlib.Core.List.{List}
 use Rattle.bits.specs.Byte.{pick}
 use Rattle.events.specs.declared.Decoded.{Decoded}
-use Rattle.events.specs.Word.{decode}
+use Rattle.events.specs.Word.{decode, noEvent, noPlace, badByte, event}
+use Rattle.events.specs.declared.Decoded.the-variants.{Pin}
 use Rattle.chip.specs.declared.Core.{Core}
 use Rattle.chip.specs.State.{chipOf}
 use Rattle.outcome.specs.Outcome.{next, wasReset}
@@ -14,6 +15,7 @@ use Rattle.step.specs.Step.{advance, coreOf}
 use Rattle.operations.specs.declared.Cpu.{Cpu}
 use Rattle.instruction.specs.Instruction.{resetCpu}
 use Rattle.firmware_run.specs.declared.Occurred.{Occurred}
+use Rattle.register_cache.specs.Cache.{seenAfterEvent}
 use Rattle.firmware_run.specs.Firmware.{occurredWith}
 
 abbrev pub occurredAs : Cpu → Core → ℕ → Occurred
@@ -22,6 +24,16 @@ occurredAs q core a = record { cpu = q; core = core; answer = a }
 pub occurs : (t : Bool) (rom : List ℕ) (c q : Cpu) (registers : List ℕ) (core : Core) (w : ℕ) (e : Decoded) → e ≡ decode w
     → (b : Bool) → b ≡ wasReset (chipOf registers core) e → b ≡ t → q ≡ pick t (resetCpu rom c) c
     → (d : CoreStepped) → d ≡ coreOf (advance (chipOf registers core) e) → (r : List ℕ) → r ≡ advance (chipOf registers core) e .chip .registers
-    → (occurredAs q (d .core) (d .answer) ≡ occurredWith rom c (chipOf registers core) w) × (r ≡ next (chipOf registers core) (decode w) .registers)
+    → (seen s′ : List ℕ) → s′ ≡ seenAfterEvent seen e
+    → (occurredAs q (d .core) (d .answer) ≡ occurredWith rom c (chipOf registers core) w) × (r ≡ next (chipOf registers core) (decode w) .registers) × (s′ ≡ seenAfterEvent seen (decode w))
 unfolding occurredWith advance
-occurs t rom c q registers core w e p b s u v d x r y = rw (v, x, y, ← p, ← s, u) (refl, refl)
+occurs t rom c q registers core w e p b s u v d x r y seen s′ z = rw (v, x, y, z, ← p, ← s, u) (refl, refl, refl)
+
+-- the words of SCL's levels
+pub scl-low : decode 0x03001900 ≡ Pin 25 false
+unfolding decode noEvent noPlace badByte event
+scl-low = refl
+
+pub scl-high : decode 0x03001901 ≡ Pin 25 true
+unfolding decode noEvent noPlace badByte event
+scl-high = refl

@@ -33,23 +33,24 @@ use Rattle.machine.proofs.Interrupts.{interrupt-is, interrupted-masks}
 use Rattle.machine.proofs.Turns.{taken-clear, runs-first, runs-interrupt}
 use Rattle.firmware_run.specs.declared.Interrupted.{Interrupted}
 use Rattle.firmware_run.specs.declared.Settled.{Settled}
-use Rattle.firmware_run.specs.Firmware.{noneSeen, ticked, seenAfterClock, coreAfterCycles, afterInterrupted, settledEnd}
-use Rattle.firmware_run.proofs.Registers.{knows-none, knows-set, unseenOf, unseen-le, unseen-set}
-use Rattle.firmware_run.proofs.Chips.{clock-chip, after-cycles, ticked-high, after-high, clock-requests, knows-clock, clock-length, Changed}
+use Rattle.register_cache.specs.Cache.{noneSeen, ticked, seenAfterClock, coreAfterCycles}
+use Rattle.firmware_run.specs.Firmware.{afterInterrupted, settledEnd}
+use Rattle.register_cache.proofs.Registers.{knows-none, knows-set, unseenOf, unseen-le, unseen-set}
+use Rattle.register_cache.proofs.Chips.{clock-chip, after-cycles, ticked-high, after-high, clock-requests, knows-clock, clock-length, Changed}
 
--- the run from instruction i on; where `even` is false that instruction is done but for a clock of 8 µs
+-- the run from instruction i on; where `clocked` is false that instruction is done but for a clock of 8 µs, which is due
 abbrev pub remaining : List ℕ → ℕ → Bool → Machine → ℕ → Ended
 remaining rom to true m i = runs (to - i) i rom [] m
 remaining rom to false m i = runs (to - (i + 1)) (i + 1) rom [] (machine (m .cpu) (m .ram) (next (m .chip) (event.Clock clock.period)))
 
-pub record Running (rom : List ℕ) (from to : ℕ) (start : Machine) (ram seen registers : List ℕ) (core : Core) (c : Cpu) (i : ℕ) (even request : Bool) : Type 0 where
+pub record Running (rom : List ℕ) (from to : ℕ) (start : Machine) (ram seen registers : List ℕ) (core : Core) (c : Cpu) (i : ℕ) (clocked request : Bool) : Type 0 where
   pub small : to < 4294967296
-  pub total : remaining rom to even (machine c ram (chipOf registers core)) i ≡ runs (to - from) from rom [] start
+  pub total : remaining rom to clocked (machine c ram (chipOf registers core)) i ≡ runs (to - from) from rom [] start
   pub knows : Knows seen (chipOf registers core)
   pub size : length seen ≡ 38
   pub high : core .reset ≡ true
   pub asked : request ≡ isRequesting (chipOf registers core)
-  pub begun : even ≡ false → i < to
+  pub begun : clocked ≡ false → i < to
 
 -- ---- what is left to do
 
@@ -82,12 +83,12 @@ unseen-38 seen l = omega (arith, unseen-le seen, l)
 
 -- ---- the steps of the loop
 
-pub begin : (rom : List ℕ) (from to : ℕ) (ram seen registers : List ℕ) (core : Core) (c : Cpu) (request : Bool) → to < 4294967296 → seen ≡ noneSeen → core .reset ≡ true → request ≡ isRequesting (chipOf registers core)
+pub begin : (rom : List ℕ) (from to : ℕ) (ram seen registers : List ℕ) (core : Core) (c : Cpu) (request : Bool) → to < 4294967296 → Knows seen (chipOf registers core) → length seen ≡ 38 → core .reset ≡ true → request ≡ isRequesting (chipOf registers core)
     → Running rom from to (machine c ram (chipOf registers core)) ram seen registers core c from true request
-begin rom from to ram seen registers core c request s u h q =
-    record { small = s; total = refl; knows = rw u (knows-none (chipOf registers core)); size = rw u refl; high = h; asked = q; begun = λ z. absurd (true≢false z) }
+begin rom from to ram seen registers core c request s u l h q =
+    record { small = s; total = refl; knows = u; size = l; high = h; asked = q; begun = λ z. absurd (true≢false z) }
 
-module _ (rom : List ℕ) (from to : ℕ) (start : Machine) (ram seen registers : List ℕ) (core : Core) (c : Cpu) (i : ℕ) (even request : Bool) (h : Running rom from to start ram seen registers core c i even request) where
+module _ (rom : List ℕ) (from to : ℕ) (start : Machine) (ram seen registers : List ℕ) (core : Core) (c : Cpu) (i : ℕ) (clocked request : Bool) (h : Running rom from to start ram seen registers core c i clocked request) where
   abbrev k : Chip
   k = chipOf registers core
 
@@ -95,7 +96,7 @@ module _ (rom : List ℕ) (from to : ℕ) (start : Machine) (ram seen registers 
   whole = runs (to - from) from rom [] start
 
   -- the end
-  finish-by : (b : Bool) → even ≡ b → to ≤ i → ended (machine c ram k) 0 i [] ≡ whole
+  finish-by : (b : Bool) → clocked ≡ b → to ≤ i → ended (machine c ram k) 0 i [] ≡ whole
   unfolding runs
   finish-by true e l =
       let z : to - i ≡ 0 = omega arith in
@@ -104,11 +105,11 @@ module _ (rom : List ℕ) (from to : ℕ) (start : Machine) (ram seen registers 
   finish-by false e l = absurd (omega (arith, h .begun e))
 
   pub finish : to ≤ i → ended (machine c ram k) 0 i [] ≡ whole
-  finish l = finish-by even refl l
+  finish l = finish-by clocked refl l
 
   module _ (l : i < to) where
     -- the clock
-    module _ (e : even ≡ false) where
+    module _ (e : clocked ≡ false) where
       ticks-at : Running rom from to start ram (seenAfterClock seen core) registers (ticked core) c (i + 1) true request
       ticks-at =
           record {
@@ -124,11 +125,11 @@ module _ (rom : List ℕ) (from to : ℕ) (start : Machine) (ram seen registers 
       pub ticks : (core′ : Core) (seen′ : List ℕ) → core′ ≡ ticked core → seen′ ≡ seenAfterClock seen core → Running rom from to start ram seen′ registers core′ c (i + 1) true request
       ticks core′ seen′ x y = rw (x, y) ticks-at
 
-      pub ticks-less : (core′ : Core) (seen′ : List ℕ) → core′ ≡ ticked core → seen′ ≡ seenAfterClock seen core → measure to (i + 1) true c seen′ < measure to i even c seen
+      pub ticks-less : (core′ : Core) (seen′ : List ℕ) → core′ ≡ ticked core → seen′ ≡ seenAfterClock seen core → measure to (i + 1) true c seen′ < measure to i clocked c seen
       ticks-less core′ seen′ x y = rw e (omega (arith, l, clear-le c, unseen-38 seen′ (ticks core′ seen′ x y .size)))
 
     -- a turn
-    module _ (e : even ≡ true) (table : List ℕ) (tabled : table ≡ opcodes) (t : Turn) (ram′ : List ℕ) (p : t ≡ turnOf table seen rom request c ram) (p′ : ram′ ≡ ramAfter table seen rom request c ram) where
+    module _ (e : clocked ≡ true) (table : List ℕ) (tabled : table ≡ opcodes) (t : Turn) (ram′ : List ℕ) (p : t ≡ turnOf table seen rom request c ram) (p′ : ram′ ≡ ramAfter table seen rom request c ram) where
       seen-turn : Shows seen c ram k t ram′ (turn rom (machine c ram k))
       seen-turn = rw (p, p′, tabled, h .asked) (shows seen c ram k rom (h .knows) (h .high))
 
@@ -138,11 +139,11 @@ module _ (rom : List ℕ) (from to : ℕ) (start : Machine) (ram seen registers 
       after : (x : Turned) → turn rom (machine c ram k) ≡ x → onTurned x i (λ (x : Machine). runs (to - (i + 1)) (i + 1) rom [] x) ≡ whole
       after x z = ap (λ (x : Turned). onTurned x i (λ (x : Machine). runs (to - (i + 1)) (i + 1) rom [] x)) (sym z) ∙ opened
 
-      pub on : (d : Cpu) → t ≡ On d → Running rom from to start ram′ seen registers core d (i + 1) even request
+      pub on : (d : Cpu) → t ≡ On d → Running rom from to start ram′ seen registers core d (i + 1) clocked request
       on d q =
           rw e (record { small = h .small; total = after (turned (machine d ram′ k) 0) (rw q at seen-turn); knows = h .knows; size = h .size; high = h .high; asked = h .asked; begun = λ z. absurd (true≢false z) })
 
-      pub on-less : (d : Cpu) → measure to (i + 1) even d seen < measure to i even c seen
+      pub on-less : (d : Cpu) → measure to (i + 1) clocked d seen < measure to i clocked c seen
       on-less d = rw e (omega (arith, l, clear-le d, unseen-38 seen (h .size)))
 
       pub due : (d : Cpu) → t ≡ Clock d → Running rom from to start ram′ seen registers core d i false request
@@ -157,7 +158,7 @@ module _ (rom : List ℕ) (from to : ℕ) (start : Machine) (ram seen registers 
             begun = λ z. l;
           }
 
-      pub due-less : (to - i) * 160 < measure to i even c seen
+      pub due-less : (to - i) * 160 < measure to i clocked c seen
       due-less = rw e (omega arith)
 
       -- an interrupt
@@ -182,10 +183,10 @@ module _ (rom : List ℕ) (from to : ℕ) (start : Machine) (ram seen registers 
             }
 
         pub interrupts : (x : Interrupted) → x ≡ afterInterrupted rom core c → (ram₂ : List ℕ) → ram₂ ≡ stored ram′ (interrupted rom c .store) → (s : List ℕ) → s ≡ noneSeen
-            → (a : Bool) → a ≡ isRequesting (chipOf registers (x .core)) → Running rom from to start ram₂ s registers (x .core) (x .cpu) i even a
+            → (a : Bool) → a ≡ isRequesting (chipOf registers (x .core)) → Running rom from to start ram₂ s registers (x .core) (x .cpu) i clocked a
         interrupts x u ram₂ v s w a z = rw (e, z, w, v, u, struck .0) interrupts-at
 
-        pub interrupts-less : (x : Interrupted) → x ≡ afterInterrupted rom core c → (s : List ℕ) → s ≡ noneSeen → measure to i even (x .cpu) s < measure to i even c seen
+        pub interrupts-less : (x : Interrupted) → x ≡ afterInterrupted rom core c → (s : List ℕ) → s ≡ noneSeen → measure to i clocked (x .cpu) s < measure to i clocked c seen
         interrupts-less x u s w =
             rw (e, u, w) (omega (arith, clear-clear c (taken-clear (isRequesting k) c (struck .1)), clear-set (counted (interrupted rom c)) (interrupted-masks rom c), unseen-le noneSeen))
 
@@ -223,11 +224,11 @@ module _ (rom : List ℕ) (from to : ℕ) (start : Machine) (ram seen registers 
               → Running rom from to start ram′ seen′ registers′ core′ d j f a
           wrote x u d v f m j o a y = rw (o, v, writing .0) (wrote-at x u f m a y)
 
-          wrote-less-by : (f : Bool) (d : Cpu) → measure to (pick f (i + 1) i) f d seen′ < measure to i even c seen
+          wrote-less-by : (f : Bool) (d : Cpu) → measure to (pick f (i + 1) i) f d seen′ < measure to i clocked c seen
           wrote-less-by true d = rw e (omega (arith, l, clear-le d, unseen-38 seen′ (g .size)))
           wrote-less-by false d = rw e (omega arith)
 
-          pub wrote-less : (x : ℕ) (d : Cpu) → d ≡ setOver (x % 32) q → (f : Bool) → f ≡ ltb x 32 → (j : ℕ) → j ≡ pick f (i + 1) i → measure to j f d seen′ < measure to i even c seen
+          pub wrote-less : (x : ℕ) (d : Cpu) → d ≡ setOver (x % 32) q → (f : Bool) → f ≡ ltb x 32 → (j : ℕ) → j ≡ pick f (i + 1) i → measure to j f d seen′ < measure to i clocked c seen
           wrote-less x d v f m j o = rw o (wrote-less-by f d)
 
         -- refused by the chip
@@ -256,7 +257,7 @@ module _ (rom : List ℕ) (from to : ℕ) (start : Machine) (ram seen registers 
         waiting-by (refusal g z u) s = absurd (true≢false (sym g ∙ le-ltb n 64 s))
         waiting-by (wait g u) s = u
 
-        pub waits : 64 ≤ n → (x : Reading) → x ≡ reading k (n - 64) → (v : ℕ) → v ≡ knownReading x → (s : List ℕ) → s ≡ set seen (n - 64) v → Running rom from to start ram′ s registers core c i even request
+        pub waits : 64 ≤ n → (x : Reading) → x ≡ reading k (n - 64) → (v : ℕ) → v ≡ knownReading x → (s : List ℕ) → s ≡ set seen (n - 64) v → Running rom from to start ram′ s registers core c i clocked request
         waits o x y v z s u =
             rw (e, u, z, y, refusing .0)
             (record {
@@ -269,7 +270,7 @@ module _ (rom : List ℕ) (from to : ℕ) (start : Machine) (ram seen registers 
               begun = λ z. absurd (true≢false z);
             })
 
-        pub waits-less : 64 ≤ n → (x : Reading) → x ≡ reading k (n - 64) → (v : ℕ) → v ≡ knownReading x → (s : List ℕ) → s ≡ set seen (n - 64) v → measure to i even c s < measure to i even c seen
+        pub waits-less : 64 ≤ n → (x : Reading) → x ≡ reading k (n - 64) → (v : ℕ) → v ≡ knownReading x → (s : List ℕ) → s ≡ set seen (n - 64) v → measure to i clocked c s < measure to i clocked c seen
         waits-less o x y v z s u =
             let m = waiting-by (refusing .1) o in
             rw (u, z, y, e) (omega (arith, unseen-set seen k (n - 64) (omega (arith, m .below-38, h .size)) (m .not-seen)))

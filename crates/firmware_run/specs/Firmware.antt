@@ -1,31 +1,20 @@
--- The parts that a firmware call is made of, as the code has them: the chip is its array of stored registers and its core, and what is known of
--- its registers is kept for as long as it holds. What the call comes to is in the crate machine.
-use Prim.Native.Nat.{ℕ, zero, suc, _+_}
-use mathlib.Core.Bool.{Bool, true, false, not}
+-- The parts that a firmware call is made of, as the code has them: the chip is its array of stored registers and its core. What the call comes to is in the crate machine.
+use Prim.Native.Nat.{ℕ}
 use mathlib.Core.List.{List, [], _∷_}
-use lib.Bits.{bitAnd}
-use lib.Dec.{eqb, ltb}
-use lib.ListN.{set}
+use lib.Dec.{ltb}
 use Rattle.bits.specs.Byte.{pick}
-use Rattle.registers.specs.Names.{PT0, PT1, PT2, PT3}
-use Rattle.events.specs.Clocks as clock
 use Rattle.events.specs.Word.{decode}
-use Rattle.sync.specs.declared.Sync.{Sync}
 use Rattle.chip.specs.declared.Core.{Core}
 use Rattle.chip.specs.declared.Chip.{Chip}
-use Rattle.chip.specs.State.{chipOf, registerAt}
-use Rattle.writes.specs.declared.Target.{Target}
-use Rattle.writes.specs.declared.Target.the-variants as to
-use Rattle.writes.specs.Writes.{target}
-use Rattle.clocks.specs.Clocks.{clocked}
+use Rattle.chip.specs.State.{chipOf}
 use Rattle.outcome.specs.Outcome.{next, wasReset}
 use Rattle.step.specs.Step.{answered}
 use Rattle.operations.specs.declared.Cpu.{Cpu}
-use Rattle.memory.specs.Memory.{notSeen}
 use Rattle.instruction.specs.Instruction.{interrupted, resetCpu}
 use Rattle.batch.specs.Batch.{cyclesWith, counted}
 use Rattle.machine.specs.Machine.{machine}
 use Rattle.machine.specs.Run.{numberOf, Ended, ended, Called}
+use Rattle.register_cache.specs.Cache.{coreAfterCycles}
 use Rattle.firmware_run.specs.declared.FirmwareResult.{FirmwareResult}
 use Rattle.firmware_run.specs.declared.Interrupted.{Interrupted}
 use Rattle.firmware_run.specs.declared.Occurred.{Occurred}
@@ -47,76 +36,6 @@ occurredWith rom c k w = record { cpu = pick (wasReset k (decode w)) (resetCpu r
 unfoldable pub until : ℕ → List ℕ → ℕ
 until n [] = n
 until n (e ∷ es) = pick (ltb (numberOf e) n) (numberOf e) n
-
--- n numbers from v on; of no register anything is known
-abbrev pub counting : ℕ → ℕ → List ℕ
-counting zero v = []
-counting (suc n) v = v ∷ counting n (v + 1)
-
-abbrev pub noneSeen : List ℕ
-noneSeen = counting 38 320
-
--- ---- what is known of the registers, after a change of the chip
-
-abbrev pub forgotten : ℕ → List ℕ → List ℕ
-forgotten r seen = set seen r (notSeen r)
-
--- the ports show other registers too: a store may move what they read
-abbrev pub portsForgotten : List ℕ → List ℕ
-portsForgotten seen = forgotten PT3 (forgotten PT2 (forgotten PT1 (forgotten PT0 seen)))
-
--- the register stands in the array
-unfoldable pub isStored : Target → Bool
-isStored to.Stored = true
-isStored to.Mdcon = false
-isStored to.Hvcon = false
-isStored to.Clrflg = false
-isStored to.Clrwdt = false
-isStored to.Iiadr = false
-isStored to.Iidat = false
-isStored to.Iists = false
-isStored to.Bt = false
-
--- a stored register moves itself and the ports; any other write may move all that is read
-abbrev pub seenAfterWrite : List ℕ → ℕ → List ℕ
-seenAfterWrite seen a = pick (isStored (target a)) (forgotten a (portsForgotten seen)) noneSeen
-
-abbrev pub sameBool : Bool → Bool → Bool
-sameBool true b = b
-sameBool false b = not b
-
--- DACH0 to DACH13 read as they are stored
-unfoldable pub isDac : ℕ → Bool
-isDac a = pick (ltb a 24) false (ltb a 38)
-
-abbrev pub seenAfterDac : List ℕ → List ℕ → ℕ → List ℕ
-seenAfterDac seen registers a = set (portsForgotten seen) a (bitAnd (registerAt registers a) 255)
-
--- the registers show the same of both counters
-unfoldable pub sameCounts : Sync → Sync → Bool
-sameCounts s t =
-    pick (sameBool (s .lines .overflow) (t .lines .overflow))
-    (pick (sameBool (s .periods .overflow) (t .periods .overflow))
-    (pick (eqb (s .lines .latch .0) (t .lines .latch .0)) (eqb (s .periods .latch .0) (t .periods .latch .0)) false)
-    false)
-    false
-
--- the core after a clock of 8 µs
-abbrev pub ticked : Core → Core
-ticked c = clocked 0 c clock.period
-
-unfoldable pub seenAfterClock : List ℕ → Core → List ℕ
-seenAfterClock seen c = pick (sameCounts (c .sync) (ticked c .sync)) seen noneSeen
-
--- ---- parts of the chip's rules, as the code has them
-
--- CLRWDT: 55H clears the watchdog
-unfoldable pub watchdogAfter : ℕ → ℕ → ℕ
-watchdogAfter count b = pick (eqb b 0x55) 0 count
-
--- the core after n cycles: a clock where they are 32
-unfoldable pub coreAfterCycles : ℕ → Core → Core
-coreAfterCycles n c = pick (ltb n 32) c (ticked c)
 
 abbrev pub afterInterrupted : List ℕ → Core → Cpu → Interrupted
 afterInterrupted rom core c = record { cpu = counted (interrupted rom c); core = coreAfterCycles (cyclesWith (interrupted rom c)) core }

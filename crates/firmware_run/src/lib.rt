@@ -4,40 +4,31 @@ ghost use mathlib.Core.Bool.{true};
 ghost use mathlib.Core.List.{[]};
 ghost use Prim.Native.Nat.{_+_, _-_, _<_, _≤_};
 ghost use lib.ListN.{length, drop, getD, set};
-ghost use lib.Bits.{bitAnd};
 ghost use lib.Dec.{ltb};
 ghost use Rattle.bits.specs.Byte.{pick};
-ghost use Rattle.registers.specs.Table.{updated as updatedOf};
 ghost use Rattle.events.specs.Word.{decode};
-ghost use Rattle.chip.specs.State.{chipOf, keep as keepOf, registerAt};
-ghost use Rattle.writes.specs.Writes.{written as writtenOf, storedBy};
+ghost use Rattle.chip.specs.State.{chipOf};
 ghost use Rattle.outcome.specs.Outcome.{next as nextOf, wasReset};
 ghost use Rattle.opcodes.specs.Table.{opcodes};
 ghost use Rattle.instruction.specs.Instruction.{interrupted};
 ghost use Rattle.execution.specs.Execution.{stored};
 ghost use Rattle.machine.specs.Machine.{machine, isRequesting};
 ghost use Rattle.machine.specs.Run.{wordOf, called, runs, isWellFormed, firmware as firmwareOf};
-ghost use Rattle.machine.specs.Seen.{knownReading};
-ghost use Rattle.firmware_run.specs.Firmware.{resultOf, refusedResult, occurredWith, until as untilOf, noneSeen, portsForgotten, isStored, seenAfterWrite, sameBool, sameCounts, ticked, seenAfterClock, watchdogAfter, isDac, seenAfterDac, coreAfterCycles, afterInterrupted, settledEnd};
+ghost use Rattle.machine.specs.Seen.{Knows};
+ghost use Rattle.register_cache.specs.Cache.{seenAfterEvent, watchdogAfter, coreAfterCycles};
+ghost use Rattle.firmware_run.specs.Firmware.{resultOf, refusedResult, occurredWith, until as untilOf, afterInterrupted, settledEnd};
 use batch::Turn;
 use chip::Chip;
 use chip::Core;
-use chip::Kept;
 use events::Decoded;
 use events::PERIOD;
 use events::RESET;
+use events::SCL;
 use events::WATCHDOG;
 use operations::Cpu;
-use reads::Reading;
+use register_cache::NONE_SEEN;
 use registers::CLRWDT;
-use registers::DACH0;
 use registers::IEX;
-use registers::PT0;
-use registers::PT1;
-use registers::PT2;
-use registers::PT3;
-use sync::Sync;
-use writes::Target;
 
 // What a firmware call gives back: 0 or the number of the refusal, CPU and chip, how many instructions were counted, and how many of the
 // listed events were given.
@@ -70,49 +61,22 @@ pub struct Settled {
     pub refusal: u8,
 }
 
-// Of no register anything is known: 320 and its own number.
-const NONE_SEEN: [u16; 38] = [
-    320,
-    321,
-    322,
-    323,
-    324,
-    325,
-    326,
-    327,
-    328,
-    329,
-    330,
-    331,
-    332,
-    333,
-    334,
-    335,
-    336,
-    337,
-    338,
-    339,
-    340,
-    341,
-    342,
-    343,
-    344,
-    345,
-    346,
-    347,
-    348,
-    349,
-    350,
-    351,
-    352,
-    353,
-    354,
-    355,
-    356,
-    357,
-];
+const SCL_LOW: u32 = 0x0300_1900;
+
+const SCL_HIGH: u32 = 0x0300_1901;
 
 // ---- events
+
+// The words of SCL's levels, the commonest where a host reads, straight to their event.
+fn decoded(word: u32) -> Decoded
+    ensures { λ r. ⌜ r ≡ decode word ⌝ }
+{
+    match word {
+        SCL_LOW => Decoded::Pin(SCL, false),
+        SCL_HIGH => Decoded::Pin(SCL, true),
+        _ => events::decode(word),
+    }
+}
 
 fn was_reset(registers: &[u8; 38], c: Core, event: Decoded) -> bool
     ensures { λ r. ⌜ r ≡ wasReset (chipOf (now (registers .entry)) c) event ⌝ }
@@ -124,29 +88,6 @@ fn was_reset(registers: &[u8; 38], c: Core, event: Decoded) -> bool
         Decoded::Clock(k) => c.reset & ((k == WATCHDOG) & counters::watchdog_fires(c.watchdog)),
         Decoded::Polarity(_, _) => false,
         Decoded::Refused(_) => false,
-    }
-}
-
-// A word given to the chip; where it resets the chip, the CPU is reset too.
-fn occur(registers: &mut [u8; 38], rom: &[u8], core: Core, cpu: Cpu, word: u32) -> Occurred
-    ensures { λ r. ⌜ (r ≡ occurredWith (now (rom .entry)) cpu (chipOf (now (registers .entry)) core) word) × (now (registers .exit) ≡ nextOf (chipOf (now (registers .entry)) core) (decode word) .registers) ⌝ }
-{
-    let event = events::decode(word);
-    let reset = was_reset(registers, core, event);
-    let done = step::advance_core(registers, core, event);
-    let after = done.core;
-    if reset {
-        Occurred {
-            cpu: instruction::reset(cpu, rom),
-            core: after,
-            answer: done.answer,
-        }
-    } else {
-        Occurred {
-            cpu: cpu,
-            core: after,
-            answer: done.answer,
-        }
     }
 }
 
@@ -184,149 +125,46 @@ fn until(events: &[u64], next: usize, n: u32) -> u32
     }
 }
 
-// ---- what is known of the registers
+// ---- what is done with the chip
 
-fn forget(seen: &mut [u16; 38])
-    ensures { λ r. ⌜ now (seen .exit) ≡ noneSeen ⌝ }
+// A word given to the chip; where it resets the chip, the CPU is reset too.
+fn occur(
+    seen: &mut [u16; 38],
+    registers: &mut [u8; 38],
+    rom: &[u8],
+    core: Core,
+    cpu: Cpu,
+    word: u32,
+) -> Occurred
+    ensures { λ r. ⌜ (r ≡ occurredWith (now (rom .entry)) cpu (chipOf (now (registers .entry)) core) word)
+        × (now (registers .exit) ≡ nextOf (chipOf (now (registers .entry)) core) (decode word) .registers)
+        × (now (seen .exit) ≡ seenAfterEvent (now (seen .entry)) (decode word)) ⌝ }
 {
-    *seen = NONE_SEEN;
-}
-
-fn known_reading(r: Reading) -> u16
-    ensures { λ v. ⌜ v ≡ knownReading r ⌝ }
-{
-    if r.number == 0 {
-        r.byte as u16
-    } else {
-        256 + (r.number as u16)
-    }
-}
-
-fn note(seen: &mut [u16], r: u8, v: u16)
-    ensures { λ q. ⌜ now (seen .exit) ≡ set (now (seen .entry)) r v ⌝ }
-{
-    let i = r as usize;
-    if i < seen.len() {
-        seen[i] = v;
-    }
-}
-
-// Ports show other registers too.
-fn forget_ports(seen: &mut [u16; 38])
-    ensures { λ _. ⌜ now (seen .exit) ≡ portsForgotten (now (seen .entry)) ⌝ }
-{
-    note(seen, PT0, 320);
-    note(seen, PT1, 321);
-    note(seen, PT2, 323);
-    note(seen, PT3, 324);
-}
-
-fn forget_written(seen: &mut [u16; 38], a: u8)
-    ensures { λ _. ⌜ now (seen .exit) ≡ seenAfterWrite (now (seen .entry)) a ⌝ }
-{
-    if is_stored(writes::target_of(a)) {
-        forget_ports(seen);
-        note(seen, a, 320 + (a as u16));
-    } else {
-        forget(seen);
-    }
-}
-
-fn is_stored(t: Target) -> bool
-    ensures { λ r. ⌜ r ≡ isStored t ⌝ }
-{
-    match t {
-        Target::Stored => true,
-        Target::Mdcon => false,
-        Target::Hvcon => false,
-        Target::Clrflg => false,
-        Target::Clrwdt => false,
-        Target::Iiadr => false,
-        Target::Iidat => false,
-        Target::Iists => false,
-        Target::Bt => false,
-    }
-}
-
-fn same_bool(a: bool, b: bool) -> bool
-    ensures { λ r. ⌜ r ≡ sameBool a b ⌝ }
-{
-    if a { b } else { !b }
-}
-
-// The registers show the same of both counters.
-fn same_counts(s: Sync, t: Sync) -> bool
-    ensures { λ r. ⌜ r ≡ sameCounts s t ⌝ }
-{
-    if same_bool(s.lines.overflow, t.lines.overflow) {
-        if same_bool(s.periods.overflow, t.periods.overflow) {
-            if s.lines.latch.0 == t.lines.latch.0 {
-                s.periods.latch.0 == t.periods.latch.0
-            } else {
-                false
-            }
-        } else {
-            false
+    let event = decoded(word);
+    let reset = was_reset(registers, core, event);
+    register_cache::forget_by(seen, event);
+    let done = step::advance_core(registers, core, event);
+    let after = done.core;
+    if reset {
+        Occurred {
+            cpu: instruction::reset(cpu, rom),
+            core: after,
+            answer: done.answer,
         }
     } else {
-        false
+        Occurred {
+            cpu: cpu,
+            core: after,
+            answer: done.answer,
+        }
     }
 }
-
-// ---- what is done with the chip
 
 fn is_requesting(registers: &[u8; 38], core: Core) -> bool
     ensures { λ r. ⌜ r ≡ isRequesting (chipOf (now (registers .entry)) core) ⌝ }
 {
     let n = chip::requested(core.irqx, chip::register_at(registers, IEX));
     !(n == 0)
-}
-
-// A clock of 8 µs.
-fn clock(seen: &mut [u16; 38], core: Core) -> Core
-    ensures { λ r. ⌜ (r ≡ ticked core) × (now (seen .exit) ≡ seenAfterClock (now (seen .entry)) core) ⌝ }
-{
-    let before = core.sync;
-    let k = clocks::clocked(0, core, PERIOD);
-    let after = k.sync;
-    if same_counts(before, after) {
-        k
-    } else {
-        forget(seen);
-        k
-    }
-}
-
-fn shown(registers: &[u8; 38], a: u8) -> u8
-    ensures { λ r. ⌜ r ≡ bitAnd (registerAt (now (registers .entry)) a) 255 ⌝ }
-{
-    chip::register_at(registers, a) & 255
-}
-
-fn is_dac(a: u8) -> bool
-    ensures { λ r. ⌜ r ≡ isDac a ⌝ }
-{
-    if a < DACH0 { false } else { a < 38 }
-}
-
-// A DAC is written: it reads as it is stored.
-fn write_dac(seen: &mut [u16; 38], registers: &mut [u8; 38], a: u8, b: u8)
-    ensures { λ _. ⌜ (now (registers .exit) ≡ set (now (registers .entry)) a (updatedOf a (registerAt (now (registers .entry)) a) b))
-        × (now (seen .exit) ≡ seenAfterDac (now (seen .entry)) (now (registers .exit)) a) ⌝ }
-{
-    let v = registers::updated(a, chip::register_at(registers, a), b);
-    chip::keep(registers, Kept::Stored(a, v));
-    forget_ports(seen);
-    note(seen, a, shown(registers, a) as u16);
-}
-
-fn write_register(seen: &mut [u16; 38], registers: &mut [u8; 38], core: Core, a: u8, b: u8) -> Core
-    ensures { λ r. ⌜ (r ≡ writtenOf core a b) × (now (registers .exit) ≡ keepOf (storedBy (now (registers .entry)) a b) (now (registers .entry))) × (now (seen .exit) ≡ seenAfterWrite (now (seen .entry)) a) ⌝ }
-{
-    let kept = writes::stored(registers, a, b);
-    chip::keep(registers, kept);
-    forget_written(seen, a);
-    writes::written(core, a, b)
 }
 
 fn watchdog_after(count: u8, b: u8) -> u8
@@ -382,8 +220,8 @@ fn number_after(i: u32, done: bool) -> u32
 
 // ---- instructions one after the other
 
-// Instructions from number `from` to before number `to`, with RESET high and no events between them. While `even` is false instruction i
-// is done but for an 8 µs clock. What the registers read is kept in `seen` for as long as it holds.
+// Instructions from number `from` to before number `to`, with RESET high and no events between them. While `clocked` is false
+// instruction i is done but for the 8 µs clock that is due. What the registers read is kept in `seen` for as long as it holds.
 fn advance(
     table: &[u32; 256],
     registers: &mut [u8; 38],
@@ -393,19 +231,20 @@ fn advance(
     cpu: Cpu,
     from: u32,
     to: u32,
+    seen: &mut [u16; 38],
 ) -> Settled
-    requires { ⌜ (now table ≡ opcodes) × (core .reset ≡ true) ⌝ }
-    ensures { λ r. ⌜ settledEnd r (now (ram .exit)) (now (registers .exit)) ≡ runs (to - from) from (now (rom .entry)) [] (machine cpu (now (ram .entry)) (chipOf (now (registers .entry)) core)) ⌝ }
+    requires { ⌜ (now table ≡ opcodes) × (core .reset ≡ true) × Knows (now seen) (chipOf (now registers) core) × (length (now seen) ≡ 38) ⌝ }
+    ensures { λ r. ⌜ (settledEnd r (now (ram .exit)) (now (registers .exit)) ≡ runs (to - from) from (now (rom .entry)) [] (machine cpu (now (ram .entry)) (chipOf (now (registers .entry)) core)))
+        × Knows (now (seen .exit)) (chipOf (now (registers .exit)) (r .core)) × (length (now (seen .exit)) ≡ 38) ⌝ }
 {
-    let mut seen = NONE_SEEN;
     let mut k = core;
     let mut c = cpu;
     let mut i = from;
-    let mut even = true;
+    let mut clocked = true;
     let mut request = is_requesting(registers, core);
     while i < to {
-        if even {
-            let t = batch::turn_of(table, &seen, ram, rom, request, c);
+        if clocked {
+            let t = batch::turn_of(table, seen, ram, rom, request, c);
             match t {
                 Turn::On(d) => {
                     c = d;
@@ -413,13 +252,13 @@ fn advance(
                 },
                 Turn::Clock(d) => {
                     c = d;
-                    even = false;
+                    clocked = false;
                 },
                 Turn::Interrupt => {
                     let e = interrupt(ram, rom, k, c);
                     c = e.cpu;
                     k = e.core;
-                    forget(&mut seen);
+                    register_cache::forget(seen);
                     request = is_requesting(registers, k);
                 },
                 Turn::Write(q, n, r, b) => {
@@ -431,12 +270,12 @@ fn advance(
                         k.watchdog = watchdog_after(k.watchdog, b);
                         c = d;
                         i = j;
-                        even = few;
-                    } else if is_dac(r) {
-                        write_dac(&mut seen, registers, r, b);
+                        clocked = few;
+                    } else if register_cache::is_dac(r) {
+                        register_cache::write_dac(seen, registers, r, b);
                         c = d;
                         i = j;
-                        even = few;
+                        clocked = few;
                     } else {
                         let w = writes::write_number(true, r);
                         if w != 0 {
@@ -447,11 +286,11 @@ fn advance(
                                 refusal: w,
                             };
                         }
-                        k = write_register(&mut seen, registers, k, r, b);
+                        k = register_cache::write_register(seen, registers, k, r, b);
                         request = is_requesting(registers, k);
                         c = d;
                         i = j;
-                        even = few;
+                        clocked = few;
                     }
                 },
                 Turn::Refused(n) => {
@@ -464,12 +303,12 @@ fn advance(
                         };
                     }
                     let read = reads::read_register(registers, k, n - 64);
-                    note(&mut seen, n - 64, known_reading(read));
+                    register_cache::note(seen, n - 64, register_cache::known_reading(read));
                 },
             }
         } else {
-            k = clock(&mut seen, k);
-            even = true;
+            k = register_cache::clock(seen, k);
+            clocked = true;
             i += 1;
         }
     }
@@ -491,12 +330,14 @@ fn proceed(
     cpu: Cpu,
     from: u32,
     to: u32,
+    seen: &mut [u16; 38],
 ) -> Settled
-    requires { ⌜ (now table ≡ opcodes) × (from < to) ⌝ }
-    ensures { λ r. ⌜ settledEnd r (now (ram .exit)) (now (registers .exit)) ≡ runs (to - from) from (now (rom .entry)) [] (machine cpu (now (ram .entry)) (chipOf (now (registers .entry)) core)) ⌝ }
+    requires { ⌜ (now table ≡ opcodes) × (from < to) × Knows (now seen) (chipOf (now registers) core) × (length (now seen) ≡ 38) ⌝ }
+    ensures { λ r. ⌜ (settledEnd r (now (ram .exit)) (now (registers .exit)) ≡ runs (to - from) from (now (rom .entry)) [] (machine cpu (now (ram .entry)) (chipOf (now (registers .entry)) core)))
+        × Knows (now (seen .exit)) (chipOf (now (registers .exit)) (r .core)) × (length (now (seen .exit)) ≡ 38) ⌝ }
 {
     if core.reset {
-        advance(table, registers, ram, rom, core, cpu, from, to)
+        advance(table, registers, ram, rom, core, cpu, from, to, seen)
     } else {
         Settled {
             cpu: cpu,
@@ -525,6 +366,7 @@ fn run_all(
         × (now (ram .exit) ≡ called (runs instructions 0 (now (rom .entry)) (now (events .entry)) (machine cpu (now (ram .entry)) chip)) (now (answers .entry)) .ram) ⌝ }
 {
     let table = opcodes::table();
+    let mut seen = NONE_SEEN;
     let mut registers = chip.registers;
     let mut core = chip.core;
     let mut c = cpu;
@@ -534,6 +376,7 @@ fn run_all(
         let to = until(events, given, instructions);
         if to <= i {
             let o = occur(
+                &mut seen,
                 &mut registers,
                 rom,
                 core,
@@ -545,7 +388,7 @@ fn run_all(
             c = o.cpu;
             given += 1;
         } else {
-            let s = proceed(&table, &mut registers, ram, rom, core, c, i, to);
+            let s = proceed(&table, &mut registers, ram, rom, core, c, i, to, &mut seen);
             core = s.core;
             c = s.cpu;
             i = s.number;
@@ -599,7 +442,7 @@ fn is_well_formed(cpu: Cpu, chip: Chip) -> bool
 
 // The firmware call: `instructions` instructions from the CPU, with the events of the list between them. Where it is refused before anything
 // runs, all that is lent is left as it was.
-// Wrong answers: a ROM of 24,575 bytes asked for; 8 where there are fewer answer places than events.
+// Wrong answers: a ROM of 24,575 bytes asked for; every answer put in the first place.
 pub fn run(
     cpu: Cpu,
     ram: &mut [u8; 256],

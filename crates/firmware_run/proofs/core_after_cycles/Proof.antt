@@ -1,5 +1,5 @@
 use borrow.Author.Tests.{lt-ltb, le-ltb, eq-eqb, ne-eqb}
-use Rattle.firmware_run.specs.Firmware.{coreAfterCycles}
+use Rattle.register_cache.specs.Cache.{coreAfterCycles}
 use borrow.Author.Needs.{needs}
 use Rattle.firmware_run.proofs.core_after_cycles.Statement.{statement}
 use Rattle.firmware_run.proofs.core_after_cycles.Tie as tie

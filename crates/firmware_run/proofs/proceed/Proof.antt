@@ -7,6 +7,6 @@ pub proceed-spec : {M : Type 1} → statement M
 proceed-spec =
     tie.close
     (tie.spec
-    (λ c κs. (c .before .before .before .before .pre .0, c .before .before .if1 .taken))
+    (λ c κs. (c .before .before .before .before .before .pre .0, c .before .before .before .if1 .taken, c .before .before .before .before .before .pre .2, c .before .before .before .before .before .pre .3))
     (λ c. c .advance .ensures)
-    (λ c. sym (runs-low _ _ _ _ (c .before .before .pre .1) (c .if1 .left))))
+    (λ c. (sym (runs-low _ _ _ _ (c .before .before .pre .1) (c .if1 .left)), c .before .before .pre .2, c .before .before .pre .3)))

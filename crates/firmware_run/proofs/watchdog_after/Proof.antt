@@ -1,5 +1,5 @@
 use borrow.Author.Tests.{lt-ltb, le-ltb, eq-eqb, ne-eqb}
-use Rattle.firmware_run.specs.Firmware.{watchdogAfter}
+use Rattle.register_cache.specs.Cache.{watchdogAfter}
 use borrow.Author.Needs.{needs}
 use Rattle.firmware_run.proofs.watchdog_after.Statement.{statement}
 use Rattle.firmware_run.proofs.watchdog_after.Tie as tie

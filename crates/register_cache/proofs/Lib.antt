@@ -1,0 +1,3 @@
+pub mod Registers
+pub mod Chips
+pub mod Lines
