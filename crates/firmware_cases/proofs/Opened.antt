@@ -27,7 +27,7 @@ use Rattle.memory.specs.Reads.{then}
 use Rattle.addressing.specs.Addressing.{branchTarget, branchTo, locate}
 use Rattle.instruction.specs.Program.{andThen, perform, accesses}
 use Rattle.instruction.specs.Instruction.{trap, execute, instructionOf, instructionBy, interrupted, resetCpu}
-use Rattle.batch.specs.Batch.{destination, stored}
+use Rattle.instruction_turn.specs.InstructionTurn.{destination, stored}
 use Rattle.machine.specs.Machine.{load, instruct, isRequesting, interruptTaken, afterInterrupt, turn}
 use Rattle.machine.specs.Run.{occurred, fed, answersBefore, left, runs}
 use Rattle.isolation.specs.Foreign.{observe, permitted, untouched}

@@ -7,7 +7,7 @@ use Rattle.events.specs.Word.{decode}
 use Rattle.step.specs.Step.{answered}
 use Rattle.instruction.specs.Program.{Access, accesses}
 use Rattle.instruction.specs.Instruction.{instruction, interrupt}
-use Rattle.batch.specs.Batch.{isInterrupted}
+use Rattle.instruction_turn.specs.InstructionTurn.{isInterrupted}
 use Rattle.machine.specs.Machine.{Machine, load, isRequesting, afterInterrupt, turn}
 use Rattle.machine.specs.Run.{numberOf, wordOf, occurred, fed, left}
 

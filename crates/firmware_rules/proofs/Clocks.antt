@@ -26,7 +26,7 @@ use Rattle.instruction.specs.Program.{Instruction, leaves, rejected, reads, pus
 use Rattle.instruction.specs.Instruction.{instruction, instructionBy, instructionOf, interrupt, interrupted, trap, resetCpu}
 use Rattle.execution.specs.declared.Destination.{Destination}
 use Rattle.execution.specs.declared.Destination.the-variants as to
-use Rattle.batch.specs.Batch.{destination, stored, cyclesWith, counted, isInterrupted}
+use Rattle.instruction_turn.specs.InstructionTurn.{destination, stored, cyclesWith, counted, isInterrupted}
 use Rattle.machine.specs.Machine.{Machine, machine, turned, load, finished, storedTo, completed, instruct, isRequesting, interruptTaken, afterInterrupt, turn}
 use Rattle.machine.specs.Run.{Ended, ended, runs, fed, left, occurred, numberOf, wordOf, isWellFormed}
 use Rattle.firmware_rules.specs.History.{Given, listed, written, clocked, eventOf, chipAfter, clocksIn, clockDue, givenTo, givenWith, cyclesTo, cyclesBy, instructionResult, interruptResult, interruptGiven, interruptCycles, instructionGiven, instructionCycles, turnGiven, turnCycles, givenBefore, history, cyclesCounted}

@@ -13,7 +13,7 @@ use Rattle.chip.specs.State.{requests}
 use Rattle.outcome.specs.Outcome.{next, wasReset}
 use Rattle.operations.specs.declared.Cpu.{Cpu}
 use Rattle.instruction.specs.Instruction.{interrupted, resetCpu}
-use Rattle.batch.specs.Batch.{stored, isInterrupted}
+use Rattle.instruction_turn.specs.InstructionTurn.{stored, isInterrupted}
 use Rattle.machine.specs.Machine.{Machine, machine, turned, instruct, isRequesting, interruptTaken, afterInterrupt, turn}
 use Rattle.machine.specs.Run.{occurred}
 use Rattle.machine.proofs.Interrupts.{interrupt-is}

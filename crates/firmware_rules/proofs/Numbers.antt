@@ -26,7 +26,7 @@ use Rattle.instruction.specs.Program.{Instruction, leaves, rejected, reads, pus
 use Rattle.instruction.specs.Instruction.{instruction, instructionBy, instructionOf, interrupted}
 use Rattle.execution.specs.declared.Destination.{Destination}
 use Rattle.execution.specs.declared.Destination.the-variants as to
-use Rattle.batch.specs.Batch.{destinationAt, destination, cyclesWith, isInterrupted}
+use Rattle.instruction_turn.specs.InstructionTurn.{destinationAt, destination, cyclesWith, isInterrupted}
 use Rattle.machine.specs.Machine.{Machine, machine, Turned, turned, registerRead, loadAt, load, finished, storedTo, completed, instruct, isRequesting, interruptTaken, afterInterrupt, turn}
 use Rattle.machine.specs.Run.{Ended, ended, runs, fed, left}
 use Rattle.machine.proofs.Interrupts.{interrupt-is, clock-reset}

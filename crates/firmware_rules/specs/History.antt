@@ -16,7 +16,7 @@ use Rattle.instruction.specs.Program.{perform}
 use Rattle.instruction.specs.Instruction.{instruction, interrupt}
 use Rattle.execution.specs.declared.Destination.{Destination}
 use Rattle.execution.specs.declared.Destination.the-variants as to
-use Rattle.batch.specs.Batch.{destination, cyclesWith, isInterrupted}
+use Rattle.instruction_turn.specs.InstructionTurn.{destination, cyclesWith, isInterrupted}
 use Rattle.machine.specs.Machine.{Machine, load, isRequesting, afterInterrupt, turn}
 use Rattle.machine.specs.Run.{numberOf, wordOf, fed, left}
 

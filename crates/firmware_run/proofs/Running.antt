@@ -22,9 +22,9 @@ use Rattle.operations.specs.declared.Cpu.{Cpu}
 use Rattle.operations.specs.Operations.{setOver}
 use Rattle.instruction.specs.Instruction.{interrupted}
 use Rattle.execution.specs.Execution.{stored}
-use Rattle.batch.specs.declared.Turn.{Turn}
-use Rattle.batch.specs.declared.Turn.the-variants.{On, Clock, Interrupt, Write, Refused}
-use Rattle.batch.specs.Batch.{cyclesWith, counted, turnOf, ramAfter}
+use Rattle.instruction_turn.specs.declared.Turn.{Turn}
+use Rattle.instruction_turn.specs.declared.Turn.the-variants.{On, Clock, Interrupt, Write, Refused}
+use Rattle.instruction_turn.specs.InstructionTurn.{cyclesWith, counted, turnOf, ramAfter}
 use Rattle.machine.specs.Machine.{Machine, machine, Turned, turned, clockAfter, isRequesting, interruptTaken, turn}
 use Rattle.machine.specs.Run.{Ended, ended, onTurned, runs}
 use Rattle.machine.specs.Seen.{Knows, Waiting, knownReading}

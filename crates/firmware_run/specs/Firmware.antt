@@ -11,7 +11,7 @@ use Rattle.outcome.specs.Outcome.{next, wasReset}
 use Rattle.step.specs.Step.{answered}
 use Rattle.operations.specs.declared.Cpu.{Cpu}
 use Rattle.instruction.specs.Instruction.{interrupted, resetCpu}
-use Rattle.batch.specs.Batch.{cyclesWith, counted}
+use Rattle.instruction_turn.specs.InstructionTurn.{cyclesWith, counted}
 use Rattle.machine.specs.Machine.{machine}
 use Rattle.machine.specs.Run.{numberOf, Ended, ended, Called}
 use Rattle.register_cache.specs.Cache.{coreAfterCycles}

@@ -17,7 +17,6 @@ ghost use Rattle.machine.specs.Run.{wordOf, called, runs, isWellFormed, firmwar
 ghost use Rattle.machine.specs.Seen.{Knows};
 ghost use Rattle.register_cache.specs.Cache.{seenAfterEvent, watchdogAfter, coreAfterCycles};
 ghost use Rattle.firmware_run.specs.Firmware.{resultOf, refusedResult, occurredWith, until as untilOf, afterInterrupted, settledEnd};
-use batch::Turn;
 use chip::Chip;
 use chip::Core;
 use events::Decoded;
@@ -25,6 +24,7 @@ use events::PERIOD;
 use events::RESET;
 use events::SCL;
 use events::WATCHDOG;
+use instruction_turn::Turn;
 use operations::Cpu;
 use register_cache::NONE_SEEN;
 use registers::CLRWDT;
@@ -244,7 +244,7 @@ fn advance(
     let mut request = is_requesting(registers, core);
     while i < to {
         if clocked {
-            let t = batch::turn_of(table, seen, ram, rom, request, c);
+            let t = instruction_turn::turn_of(table, seen, ram, rom, request, c);
             match t {
                 Turn::On(d) => {
                     c = d;

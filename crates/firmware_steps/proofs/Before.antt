@@ -15,7 +15,7 @@ use Rattle.memory.specs.Memory.{stackPlace, below}
 use Rattle.instruction.specs.declared.Effect.{Effect}
 use Rattle.instruction.specs.Instruction.{interrupted}
 use Rattle.execution.specs.Execution.{stored}
-use Rattle.batch.specs.Batch.{cyclesWith, counted, isInterrupted}
+use Rattle.instruction_turn.specs.InstructionTurn.{cyclesWith, counted, isInterrupted}
 use Rattle.machine.specs.Machine.{Machine, machine, clockAfter, isRequesting, interruptTaken, afterInterrupt, turn}
 use Rattle.machine.proofs.Interrupts.{interrupt-is, interrupt-turn}
 use Rattle.firmware_steps.specs.Steps.{isDue, beforeInstruction, interruptedWith, interruptedBy}

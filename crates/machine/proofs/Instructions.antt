@@ -27,10 +27,10 @@ use Rattle.instruction.specs.Program.{perform}
 use Rattle.instruction.specs.Instruction.{instruction}
 use Rattle.execution.specs.declared.Destination.{Destination}
 use Rattle.execution.specs.declared.Destination.the-variants as to
-use Rattle.batch.specs.declared.Turn.{Turn}
-use Rattle.batch.specs.declared.Turn.the-variants.{On, Clock, Interrupt, Write, Refused}
+use Rattle.instruction_turn.specs.declared.Turn.{Turn}
+use Rattle.instruction_turn.specs.declared.Turn.the-variants.{On, Clock, Interrupt, Write, Refused}
 use Rattle.execution.specs.Execution.{destinationAt, storedAt, destination, stored, ramWith}
-use Rattle.batch.specs.Batch.{cyclesWith, counted, isInterrupted, turnTo, turnWith, turnOf, ramAfter}
+use Rattle.instruction_turn.specs.InstructionTurn.{cyclesWith, counted, isInterrupted, turnTo, turnWith, turnOf, ramAfter}
 use Rattle.machine.specs.Machine.{Machine, machine, Turned, turned, load, clockAfter, finished, storedTo, completed, instruct, isRequesting, interruptTaken, afterInterrupt, turn}
 use Rattle.machine.specs.Seen.{Knows, Waiting}
 use Rattle.machine.proofs.Loads.{sees, Gets, same, waits, gets, Numbered, LowResult, low}

@@ -15,7 +15,7 @@ use Rattle.memory.specs.Memory.{place, afterPush}
 use Rattle.instruction.specs.Program.{andThen, perform}
 use Rattle.instruction.specs.Instruction.{trap, interrupted}
 use Rattle.execution.specs.Execution.{destination, stored}
-use Rattle.batch.specs.Batch.{cyclesWith, counted, isInterrupted}
+use Rattle.instruction_turn.specs.InstructionTurn.{cyclesWith, counted, isInterrupted}
 use Rattle.machine.specs.Machine.{Machine, machine, turned, load, clockAfter, instruct, isRequesting, interruptTaken, afterInterrupt, turn}
 use Rattle.machine.proofs.Instructions.{turn-plain}
 

@@ -9,7 +9,7 @@ use borrow.Author.Tests.{lt-ltb}
 use Rattle.bits.specs.Byte.{pick}
 use Rattle.chip.specs.declared.Chip.{Chip}
 use Rattle.operations.specs.declared.Cpu.{Cpu}
-use Rattle.batch.specs.Batch.{isInterrupted}
+use Rattle.instruction_turn.specs.InstructionTurn.{isInterrupted}
 use Rattle.machine.specs.Machine.{Machine, machine, Turned, isRequesting, interruptTaken, turn}
 use Rattle.machine.specs.Run.{numberOf, fed, answersBefore, left, Ended, ended, onTurned, runs}
 use Rattle.machine.proofs.Interrupts.{interrupt-turn}

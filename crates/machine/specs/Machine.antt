@@ -26,7 +26,7 @@ use Rattle.instruction.specs.Instruction.{instruction, interrupt}
 use Rattle.execution.specs.declared.Destination.{Destination}
 use Rattle.execution.specs.declared.Destination.the-variants as to
 use Rattle.execution.specs.Execution.{destination, stored}
-use Rattle.batch.specs.Batch.{cyclesWith, counted, isInterrupted}
+use Rattle.instruction_turn.specs.InstructionTurn.{cyclesWith, counted, isInterrupted}
 
 pub record Machine : Type 0 where
   pub cpu : Cpu

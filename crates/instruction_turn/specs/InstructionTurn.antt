@@ -18,8 +18,8 @@ use Rattle.execution.specs.declared.Destination.{Destination}
 use Rattle.execution.specs.declared.Destination.the-variants as to
 use Rattle.execution.specs.declared.Executed.{Executed}
 use Rattle.execution.specs.declared.Executed.the-variants as executed
-use Rattle.batch.specs.declared.Turn.{Turn}
-use Rattle.batch.specs.declared.Turn.the-variants as turn
+use Rattle.instruction_turn.specs.declared.Turn.{Turn}
+use Rattle.instruction_turn.specs.declared.Turn.the-variants as turn
 
 -- ---- cycles
 

@@ -1,8 +1,8 @@
-use Rattle.batch.specs.Batch.{turnFrom}
+use Rattle.instruction_turn.specs.InstructionTurn.{turnFrom}
 use borrow.Author.Tests.{lt-ltb, le-ltb}
 use borrow.Author.Needs.{needs}
-use Rattle.batch.proofs.turn_from.Statement.{statement}
-use Rattle.batch.proofs.turn_from.Tie as tie
+use Rattle.instruction_turn.proofs.turn_from.Statement.{statement}
+use Rattle.instruction_turn.proofs.turn_from.Tie as tie
 
 pub turn-from-spec : {M : Type 1} → statement M
 unfolding turnFrom

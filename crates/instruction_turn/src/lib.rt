@@ -1,6 +1,6 @@
 // An instruction without the chip: what it reads of the registers is what is known of them (document 02, Wish 5).
 ghost use mathlib.Core.Path.{_≡_};
-ghost use Rattle.batch.specs.Batch.{turnFrom, isInterrupted, turnOf, ramAfter};
+ghost use Rattle.instruction_turn.specs.InstructionTurn.{turnFrom, isInterrupted, turnOf, ramAfter};
 use execution::Executed;
 use operations::Cpu;
 

@@ -1,9 +1,9 @@
 use mathlib.Core.Path.{refl}
-use Rattle.batch.proofs.Turns.{turn-with}
-use Rattle.batch.specs.Batch.{turnOf, ramAfter}
+use Rattle.instruction_turn.proofs.Turns.{turn-with}
+use Rattle.instruction_turn.specs.InstructionTurn.{turnOf, ramAfter}
 use borrow.Author.Needs.{needs}
-use Rattle.batch.proofs.turn_of.Statement.{statement}
-use Rattle.batch.proofs.turn_of.Tie as tie
+use Rattle.instruction_turn.proofs.turn_of.Statement.{statement}
+use Rattle.instruction_turn.proofs.turn_of.Tie as tie
 
 pub turn-of-spec : {M : Type 1} → statement M
 unfolding turnOf ramAfter

@@ -5,7 +5,7 @@ use Rattle.instruction.specs.declared.Effect.{Effect}
 use Rattle.execution.specs.declared.Destination.{Destination}
 use Rattle.execution.specs.declared.Destination.the-variants as to
 use Rattle.execution.specs.Execution.{destination, executedTo, executedWith}
-use Rattle.batch.specs.Batch.{turnFrom, turnTo, turnWith}
+use Rattle.instruction_turn.specs.InstructionTurn.{turnFrom, turnTo, turnWith}
 
 turn-to : (k : Destination) (e : Effect) → turnFrom (executedTo k (e .cpu) (e .cycles)) ≡ turnTo k e
 unfolding executedTo turnFrom turnTo
