@@ -10,8 +10,10 @@ use lib.ListN.{length, drop, getD, drop-of-length-le}
 use lib.Seq.{drop-cons}
 use Rattle.event_lines.specs.declared.Reader.{Reader}
 use Rattle.event_lines.specs.declared.Meaning.the-variants as meaning
+use Rattle.event_lines.specs.Lines.{lineStart, next, meaningOf}
+use lib.Dec.{eqb}
 use Rattle.event_list.specs.declared.Checked.{Checked}
-use Rattle.event_list.specs.Lists.{isNothing, checkedByte, checkedOn, readByte, foundAs, foundOn}
+use Rattle.event_list.specs.Lists.{isSomething, checkedByte, checkedOn, tells, behind, foundAs, foundOn}
 
 -- ---- every line checked
 
@@ -45,37 +47,39 @@ check-append c (b ∷ xs) ys = block-step c b xs ys (c .malformed) refl (check-a
 
 -- ---- event by event
 
-module _ (r : Reader) (t : List ℕ) (i : ℕ) where
-  pub found-next : i < length t → isNothing (readByte r (getD t i 0) .meaning) ≡ true
-      → foundOn (readByte r (getD t i 0) .reader) (i + 1) (drop (i + 1) t) ≡ foundOn r i (drop i t)
+module _ (r : Reader) (t : List ℕ) (i : ℕ) (h : i < length t) where
+  pub found-within : eqb (getD t i 0) 10 ≡ false → foundOn (next r (getD t i 0)) (i + 1) (drop (i + 1) t) ≡ foundOn r i (drop i t)
   unfolding foundOn
-  found-next h m = rw (drop-cons t i 0 h) (simp (m, add-one))
+  found-within e = rw (drop-cons t i 0 h) (simp (e, add-one))
 
-  pub found-stop : i < length t → isNothing (readByte r (getD t i 0) .meaning) ≡ false
-      → foundAs (readByte r (getD t i 0) .reader) (i + 1) (readByte r (getD t i 0) .meaning) ≡ foundOn r i (drop i t)
+  pub found-nothing : eqb (getD t i 0) 10 ≡ true → isSomething (meaningOf (r .line)) ≡ false
+      → foundOn lineStart (i + 1) (drop (i + 1) t) ≡ foundOn r i (drop i t)
   unfolding foundOn
-  found-stop h m = rw (drop-cons t i 0 h) (simp m)
+  found-nothing e m = rw (drop-cons t i 0 h) (simp (e, m, add-one))
 
-  pub found-end : length t ≤ i → foundAs r i meaning.Nothing ≡ foundOn r i (drop i t)
+  pub found-something : eqb (getD t i 0) 10 ≡ true → isSomething (meaningOf (r .line)) ≡ true
+      → foundAs lineStart (i + 1) (meaningOf (r .line)) ≡ foundOn r i (drop i t)
   unfolding foundOn
-  found-end h = rw (drop-of-length-le t {i = i} h) refl
+  found-something e m = rw (drop-cons t i 0 h) (simp (e, m))
+
+pub found-end : (r : Reader) (t : List ℕ) (i : ℕ) → length t ≤ i → foundAs r i meaning.Nothing ≡ foundOn r i (drop i t)
+unfolding foundOn
+found-end r t i h = rw (drop-of-length-le t {i = i} h) refl
 
 -- what is found lies behind where the reading began
-from-step : (r : Reader) (i b : ℕ) (bs : List ℕ) (m : Bool) → isNothing (readByte r b .meaning) ≡ m
-    → i + 1 ≤ foundOn (readByte r b .reader) (i + 1) bs .at → i + 1 ≤ foundOn r i (b ∷ bs) .at
+from-step : (r : Reader) (i b : ℕ) (bs : List ℕ) (m : Bool) → tells r b ≡ m → i + 1 ≤ foundOn (behind r b) (i + 1) bs .at → i + 1 ≤ foundOn r i (b ∷ bs) .at
 unfolding foundOn
-from-step r i b bs true m h = simp m h
-from-step r i b bs false m h = simp m (omega arith)
+from-step r i b bs true m h = simp m (omega arith)
+from-step r i b bs false m h = simp m h
 
 found-from : (bs : List ℕ) (r : Reader) (i : ℕ) → i ≤ foundOn r i bs .at
 unfolding foundOn
 found-from [] r i = omega arith
-found-from (b ∷ bs) r i =
-    let later = from-step r i b bs (isNothing (readByte r b .meaning)) refl (found-from bs (readByte r b .reader) (i + 1)) in omega arith
+found-from (b ∷ bs) r i = let later = from-step r i b bs (tells r b) refl (found-from bs (behind r b) (i + 1)) in omega arith
 
 pub found-later : (r : Reader) (t : List ℕ) (i : ℕ) → i < length t → i < foundOn r i (drop i t) .at
 found-later r t i h =
+    let b = getD t i 0 in
     rw
     (drop-cons t i 0 h)
-    (let later = from-step r i (getD t i 0) (drop (suc i) t) (isNothing (readByte r (getD t i 0) .meaning)) refl (found-from (drop (suc i) t) (readByte r (getD t i 0) .reader) (i + 1)) in
-    omega arith)
+    (let later = from-step r i b (drop (suc i) t) (tells r b) refl (found-from (drop (suc i) t) (behind r b) (i + 1)) in omega arith)

@@ -9,7 +9,6 @@ use Rattle.event_lines.specs.declared.Meaning.{Meaning}
 use Rattle.event_lines.specs.declared.Meaning.the-variants as meaning
 use Rattle.event_lines.specs.Lines.{lineStart, next, meaningOf}
 use Rattle.event_list.specs.declared.Checked.{Checked}
-use Rattle.event_list.specs.declared.Read.{Read}
 use Rattle.event_list.specs.declared.Found.{Found}
 
 abbrev pub isMalformed : Meaning → Bool
@@ -17,10 +16,10 @@ isMalformed meaning.Nothing = false
 isMalformed (meaning.Event e) = false
 isMalformed meaning.Malformed = true
 
-abbrev pub isNothing : Meaning → Bool
-isNothing meaning.Nothing = true
-isNothing (meaning.Event e) = false
-isNothing meaning.Malformed = false
+abbrev pub isSomething : Meaning → Bool
+isSomething meaning.Nothing = false
+isSomething (meaning.Event e) = true
+isSomething meaning.Malformed = true
 
 -- ---- every line checked
 
@@ -53,20 +52,21 @@ endsWell c = pick (c .malformed) false (not (isMalformed (meaningOf (c .reader .
 
 -- ---- event by event
 
-abbrev pub readAs : Reader → Meaning → Read
-readAs r m = record { reader = r; meaning = m }
-
--- the reader behind a byte, and what the line that it ended means
-unfoldable pub readByte : Reader → ℕ → Read
-readByte r b = pick (eqb b 10) (readAs lineStart (meaningOf (r .line))) (readAs (next r b) meaning.Nothing)
-
 abbrev pub foundAs : Reader → ℕ → Meaning → Found
 foundAs r i m = record { reader = r; at = i; meaning = m }
+
+-- whether a byte ends a line that means something
+abbrev pub tells : Reader → ℕ → Bool
+tells r b = pick (eqb b 10) (isSomething (meaningOf (r .line))) false
+
+-- the reader behind a byte
+abbrev pub behind : Reader → ℕ → Reader
+behind r b = pick (eqb b 10) lineStart (next r b)
 
 -- from place i on, where the bytes begin: the first line that means something, and the place behind it
 unfoldable pub foundOn : Reader → ℕ → List ℕ → Found
 foundOn r i [] = foundAs r i meaning.Nothing
 foundOn r i (b ∷ bs) =
-    pick (isNothing (readByte r b .meaning))
-    (foundOn (readByte r b .reader) (i + 1) bs)
-    (foundAs (readByte r b .reader) (i + 1) (readByte r b .meaning))
+    pick (tells r b)
+    (foundAs lineStart (i + 1) (meaningOf (r .line)))
+    (foundOn (behind r b) (i + 1) bs)

@@ -1,7 +1,7 @@
 // A list of events as text: lines that a newline ends, the last one by the end of the text too. It is read in blocks, whose borders mean nothing.
 ghost use mathlib.Core.Path.{_≡_};
 ghost use lib.ListN.{drop};
-ghost use Rattle.event_list.specs.Lists.{isMalformed, isNothing, oneMore, opened as openedOf, lineEnded, checkedByte, checkedOn, endsWell, readByte, foundOn};
+ghost use Rattle.event_list.specs.Lists.{isMalformed, isSomething, oneMore, opened as openedOf, lineEnded, checkedByte, checkedOn, endsWell, foundOn};
 use event_lines::Line;
 use event_lines::Meaning;
 use event_lines::Reader;
@@ -11,12 +11,6 @@ pub struct Checked {
     pub reader: Reader,
     pub line: u64,
     pub malformed: bool,
-}
-
-// The reader behind a byte, and what the line that the byte ended means.
-struct Read {
-    reader: Reader,
-    meaning: Meaning,
 }
 
 // The reader behind the end of a line or of a block, the place of the byte behind, and what the line means; nothing where the block ended first.
@@ -36,13 +30,13 @@ fn is_malformed(m: Meaning) -> bool
     }
 }
 
-fn is_nothing(m: Meaning) -> bool
-    ensures { λ r. ⌜ r ≡ isNothing m ⌝ }
+fn is_something(m: Meaning) -> bool
+    ensures { λ r. ⌜ r ≡ isSomething m ⌝ }
 {
     match m {
-        Meaning::Nothing => true,
-        Meaning::Event(_) => false,
-        Meaning::Malformed => false,
+        Meaning::Nothing => false,
+        Meaning::Event(_) => true,
+        Meaning::Malformed => true,
     }
 }
 
@@ -134,43 +128,29 @@ pub fn is_well_formed(c: Checked) -> bool
 
 // ---- event by event
 
-fn read_byte(reader: Reader, b: u8) -> Read
-    ensures { λ r. ⌜ r ≡ readByte reader b ⌝ }
-{
-    let line = reader.line;
-    if b == 10 {
-        Read {
-            reader: event_lines::line_start(),
-            meaning: event_lines::meaning_of(line),
-        }
-    } else {
-        Read {
-            reader: event_lines::next(reader, b),
-            meaning: Meaning::Nothing,
-        }
-    }
-}
-
 // Reads on in a block from a place, up to the end of the next line that means an event or is malformed.
-// Wrong answers: the block read from its first byte; a line taken for malformed before its end.
+// Wrong answers: the block read from its first byte; a line ended by a carriage return.
 pub fn next_event(start: Reader, bytes: &[u8], from: usize) -> Found
     ensures { λ r. ⌜ r ≡ foundOn start from (drop from (now (bytes .entry))) ⌝ }
 {
     let mut reader = start;
     let mut i = from;
     while i < bytes.len() {
-        let read = read_byte(reader, bytes[i]);
+        let b = bytes[i];
         i += 1;
-        let behind = read.reader;
-        let meaning = read.meaning;
-        if is_nothing(meaning) {
-            reader = behind;
+        if b == 10 {
+            let line = reader.line;
+            let meaning = event_lines::meaning_of(line);
+            reader = event_lines::line_start();
+            if is_something(meaning) {
+                return Found {
+                    reader,
+                    at: i,
+                    meaning,
+                };
+            }
         } else {
-            return Found {
-                reader: behind,
-                at: i,
-                meaning,
-            };
+            reader = event_lines::next(reader, b);
         }
     }
     Found {

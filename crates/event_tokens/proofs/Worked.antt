@@ -8,7 +8,7 @@ use mathlib.Core.List.{List, [], _∷_}
 use Rattle.event_lines.specs.declared.Meaning.{Meaning}
 use Rattle.event_lines.specs.declared.Meaning.the-variants as meaning
 use Rattle.event_lines.specs.Lines.{letterOf, symbolOf, numberGrown, wordGrown, wordEnded, lineStart, readOn, lineMeans}
-use Rattle.event_list.specs.Lists.{oneMore, opened as openedList, lineEnded, checkedByte, checkedOn, endsWell, readByte, foundAs, foundOn}
+use Rattle.event_list.specs.Lists.{oneMore, opened as openedList, lineEnded, checkedByte, checkedOn, endsWell, foundAs, foundOn}
 use Rattle.event_tokens.specs.Tokens.{Value, none, some, toldBy}
 
 unfoldable pub codes : String → List ℕ
@@ -17,7 +17,7 @@ codes (c then s) = code c ∷ codes s
 
 -- a proof that names this on its `unfolding` line computes lines and lists
 unfoldable opened : ℕ
-unfolding codes letterOf symbolOf numberGrown wordGrown wordEnded readOn oneMore lineEnded checkedByte checkedOn endsWell readByte foundOn
+unfolding codes letterOf symbolOf numberGrown wordGrown wordEnded readOn oneMore lineEnded checkedByte checkedOn endsWell foundOn
 opened = 0
 
 abbrev pub means : String → Meaning

@@ -2,13 +2,15 @@
 -- Assumes nothing.
 use mathlib.Core.Path.{_≡_, refl, sym, ap, _∙_}
 use mathlib.Core.Bool.{true, false}
-use Prim.Native.Nat.{_+_, _-_, _≤_}
+use Prim.Native.Nat.{_+_, _-_}
 use native.Mathlib.Omega.{arith}
 use borrow.Author.Needs.{needs}
-use lib.ListN.{length, drop, getD}
-use Rattle.event_list.specs.declared.Read.{Read}
-use Rattle.event_list.specs.Lists.{isNothing, readByte, foundAs, foundOn}
-use Rattle.event_list.proofs.Reading.{found-next, found-stop, found-end}
+use borrow.Author.Tests.{eq-eqb, ne-eqb}
+use lib.ListN.{length, drop}
+use Rattle.event_lines.specs.declared.Reader.{Reader}
+use Rattle.event_lines.specs.Lines.{lineStart, meaningOf}
+use Rattle.event_list.specs.Lists.{isSomething, foundAs, foundOn}
+use Rattle.event_list.proofs.Reading.{found-within, found-nothing, found-something, found-end}
 use Rattle.event_list.proofs.next_event.Statement.{statement}
 use Rattle.event_list.proofs.next_event.Tie as tie
 
@@ -21,26 +23,30 @@ abbrev μ-loop : tie.MeasureT-loop
 loop-holds : tie.Need-loop-holds Inv-loop μ-loop
 loop-holds c = refl
 
-shared-slice-read-read-byte : tie.Need-shared-slice-read-read-byte Inv-loop μ-loop
-shared-slice-read-read-byte c = search needs
-
-read-byte-requires : tie.Need-read-byte-requires Inv-loop μ-loop
-read-byte-requires c κs = search needs
+shared-slice-read-b : tie.Need-shared-slice-read-b Inv-loop μ-loop
+shared-slice-read-b c = search needs
 
 add-i : tie.Need-add-i Inv-loop μ-loop
 add-i c = omega arith
 
-is-nothing-requires : tie.Need-is-nothing-requires Inv-loop μ-loop
-is-nothing-requires c κs = search needs
+meaning-of-requires : tie.Need-meaning-of-requires Inv-loop μ-loop
+meaning-of-requires c κs = search needs
+
+line-start-requires : tie.Need-line-start-requires Inv-loop μ-loop
+line-start-requires c κs = search needs
+
+is-something-requires : tie.Need-is-something-requires Inv-loop μ-loop
+is-something-requires c κs = search needs
 
 returns : tie.Need-returns Inv-loop μ-loop
 returns c =
-    let at = c .before .before .before .before .before .before in
-    let read = c .before .before .before .read-byte in
-    let told : isNothing (readByte (at .loop .reader) (getD (at .before .before .args .bytes .now) (at .loop .i) 0) .meaning) ≡ false =
-    ap (λ (k : Read). isNothing (k .meaning)) (sym (read .ensures)) ∙ sym (c .before .is-nothing .ensures) ∙ c .if1 .left in
-    ap (λ (k : Read). foundAs (k .reader) (at .loop .i + 1) (k .meaning)) (read .ensures)
-    ∙ found-stop (at .loop .reader) _ (at .loop .i) (search needs) told
+    let at = c .before .before .before .before .before .before .before in
+    let r = at .loop .reader in
+    let meaning = c .before .before .before .meaning-of .ensures in
+    let told : isSomething (meaningOf (r .line)) ≡ true = ap isSomething (sym meaning) ∙ sym (c .before .is-something .ensures) ∙ c .if2 .taken in
+    ap (λ (k : Reader). foundAs k (at .loop .i + 1) (c .before .before .before .meaning-of .result)) (c .before .before .line-start .ensures)
+    ∙ ap (foundAs lineStart (at .loop .i + 1)) meaning
+    ∙ found-something r _ (at .loop .i) (search needs) (eq-eqb _ _ (c .before .before .before .before .if1 .taken)) told
     ∙ at .loop .inv
 
 loop-less : tie.Need-loop-less Inv-loop μ-loop
@@ -48,13 +54,26 @@ loop-less c = omega arith
 
 loop-again : tie.Need-loop-again Inv-loop μ-loop
 loop-again c =
-    let at = c .before .before .before .before .before .before in
-    let read = c .before .before .before .read-byte in
+    let at = c .before .before .before .before .before .before .before in
+    let r = at .loop .reader in
     let bytes = at .before .before .args .bytes .now in
-    let told : isNothing (readByte (at .loop .reader) (getD bytes (at .loop .i) 0) .meaning) ≡ true =
-    ap (λ (k : Read). isNothing (k .meaning)) (sym (read .ensures)) ∙ sym (c .before .is-nothing .ensures) ∙ c .if1 .taken in
-    ap (λ (k : Read). foundOn (k .reader) (at .loop .i + 1) (drop (at .loop .i + 1) bytes)) (read .ensures)
-    ∙ found-next (at .loop .reader) bytes (at .loop .i) (search needs) told
+    let told : isSomething (meaningOf (r .line)) ≡ false = ap isSomething (sym (c .before .before .before .meaning-of .ensures)) ∙ sym (c .before .is-something .ensures) ∙ c .if2 .left in
+    ap (λ (k : Reader). foundOn k (at .loop .i + 1) (drop (at .loop .i + 1) bytes)) (c .before .before .line-start .ensures)
+    ∙ found-nothing r bytes (at .loop .i) (search needs) (eq-eqb _ _ (c .before .before .before .before .if1 .taken)) told
+    ∙ at .loop .inv
+
+next-requires : tie.Need-next-requires Inv-loop μ-loop
+next-requires c κs = search needs
+
+loop-less-2 : tie.Need-loop-less-2 Inv-loop μ-loop
+loop-less-2 c = omega arith
+
+loop-again-2 : tie.Need-loop-again-2 Inv-loop μ-loop
+loop-again-2 c =
+    let at = c .before .before .before .before in
+    let bytes = at .before .before .args .bytes .now in
+    ap (λ (k : Reader). foundOn k (at .loop .i + 1) (drop (at .loop .i + 1) bytes)) (c .next .ensures)
+    ∙ found-within (at .loop .reader) bytes (at .loop .i) (search needs) (ne-eqb _ _ (c .before .if1 .left))
     ∙ at .loop .inv
 
 returns-2 : tie.Need-returns-2 Inv-loop μ-loop
@@ -67,11 +86,15 @@ next-event-spec =
     Inv-loop
     μ-loop
     loop-holds
-    shared-slice-read-read-byte
-    read-byte-requires
+    shared-slice-read-b
     add-i
-    is-nothing-requires
+    meaning-of-requires
+    line-start-requires
+    is-something-requires
+    returns
     loop-less
     loop-again
-    returns
+    next-requires
+    loop-less-2
+    loop-again-2
     returns-2)
