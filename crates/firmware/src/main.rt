@@ -4,30 +4,16 @@
 ghost use mathlib.Core.Path.{_≡_};
 ghost use Prim.Native.Nat.{_<_};
 ghost use lib.ListN.{length};
-use chip::Chip;
 use event_lines::Meaning;
 use event_lines::Reader;
 use event_list::Checked;
+use firmware_trace::Fetched;
+use firmware_trace::Run;
 use libc::STDERR_FILENO;
 use libc::STDOUT_FILENO;
 use memory::Loaded;
 use operations::Cpu;
 use vcd_text::Number;
-
-// What a run has done: the number of the next instruction, 0 or the number of a refusal, how many events were given, and whether all was
-// printed.
-struct Done {
-    next: u32,
-    number: u8,
-    given: u64,
-    printed: bool,
-}
-
-struct Run {
-    cpu: Cpu,
-    chip: Chip,
-    done: Done,
-}
 
 // What is asked of a run: how many instructions, and whether a trace.
 struct Asked {
@@ -109,6 +95,23 @@ fn print_done(next: u32, pc: u16, high: bool, opcode: Loaded, cpu: Cpu) -> bool 
     }
 }
 
+// The lines of the interrupt and of the instruction behind it, each where it was done.
+fn print_turn(next: u32, fetched: Fetched, number: u8, after: Cpu) -> bool {
+    let entered = fetched.cpu;
+    let opcode = fetched.opcode;
+    let told = if fetched.taken {
+        print_line(next, b" interrupt ", entered)
+    } else {
+        true
+    };
+    let shown = if number == 0 {
+        print_done(next, entered.pc, fetched.high, opcode, after)
+    } else {
+        true
+    };
+    told & shown
+}
+
 fn print_given(traced: bool, next: u32, word: u32, answer: u32) -> bool {
     if traced {
         print_event(next, word, answer)
@@ -118,94 +121,35 @@ fn print_given(traced: bool, next: u32, word: u32, answer: u32) -> bool {
     }
 }
 
-fn print_end(cpu: Cpu, done: Done) -> bool {
+fn print_end(cpu: Cpu, number: u8, next: u32, given: u64) -> bool {
     let counts = print(b"number ")
-        & print_number(done.number as u64)
+        & print_number(number as u64)
         & print(b" counted ")
-        & print_number(done.next as u64)
+        & print_number(next as u64)
         & print(b" given ")
-        & print_number(done.given);
+        & print_number(given);
     counts & print(b" ") & print_registers(cpu)
-}
-
-// ---- what a run has done
-
-// Another instruction may follow.
-fn goes_on(done: Done, count: u32) -> bool {
-    (done.number == 0) & (done.next < count) & done.printed
-}
-
-fn counted(done: Done, number: u8, instructions: u32, printed: bool) -> Done {
-    Done {
-        next: std::num::wrapping_add_u32(done.next, instructions),
-        number,
-        given: done.given,
-        printed,
-    }
-}
-
-fn one_given(done: Done, printed: bool) -> Done {
-    Done {
-        next: done.next,
-        number: 0,
-        given: std::num::wrapping_add_u64(done.given, 1),
-        printed,
-    }
 }
 
 // ---- the run
 
-fn power_up(rom: &[u8; 24576]) -> Run {
-    Run {
-        cpu: firmware_steps::power_up(rom),
-        chip: chip::fresh(),
-        done: Done {
-            next: 0,
-            number: 0,
-            given: 0,
-            printed: true,
-        },
-    }
+// Another instruction may follow.
+fn goes_on(number: u8, printed: bool, next: u32, count: u32) -> bool {
+    (number == 0) & printed & (next < count)
 }
 
-// An instruction and what comes before it, each with its line.
-fn trace_turn(run: Run, ram: &mut [u8; 256], rom: &[u8; 24576]) -> Run {
-    let done = run.done;
-    let cpu = run.cpu;
-    let chip = run.chip;
-    let before = firmware_steps::interrupt(cpu, chip, ram, rom);
-    let entered = before.cpu;
-    let clocked = before.chip;
-    let core = clocked.core;
-    let told = if before.taken {
-        print_line(done.next, b" interrupt ", entered)
-    } else {
-        true
-    };
-    let opcode = firmware_steps::load(ram, rom, clocked, entered.pc);
-    let r = firmware_steps::run_on(entered, clocked, ram, rom, 1);
-    let after = r.cpu;
-    let moved = r.chip;
-    let shown = if r.number == 0 {
-        print_done(done.next, entered.pc, core.reset, opcode, after)
-    } else {
-        true
-    };
-    Run {
-        cpu: after,
-        chip: moved,
-        done: counted(done, r.number, r.counted, told & shown),
-    }
-}
-
-// Some instructions, each with its line.
-fn trace_on(start: Run, ram: &mut [u8; 256], rom: &[u8; 24576], instructions: u32) -> Run {
+// Some instructions, each with its lines.
+fn trace_on(start: Run, ram: &mut [u8; 256], rom: &[u8], instructions: u32) -> Run {
     let mut run = start;
     let mut i = 0;
     while i < instructions {
-        run = trace_turn(run, ram, rom);
-        let done = run.done;
-        if (done.number != 0) | !done.printed {
+        let next = run.next;
+        let fetched = firmware_trace::fetch(run, ram, rom);
+        run = firmware_trace::run_on(run, ram, rom, 1);
+        let cpu = run.cpu;
+        let printed = print_turn(next, fetched, run.number, cpu);
+        run.printed = printed;
+        if (run.number != 0) | !printed {
             return run;
         }
         i += 1;
@@ -213,45 +157,26 @@ fn trace_on(start: Run, ram: &mut [u8; 256], rom: &[u8; 24576], instructions: u3
     run
 }
 
-fn run_on(run: Run, ram: &mut [u8; 256], rom: &[u8; 24576], instructions: u32) -> Run {
-    let done = run.done;
-    let cpu = run.cpu;
-    let chip = run.chip;
-    let r = firmware_steps::run_on(cpu, chip, ram, rom, instructions);
-    let after = r.cpu;
-    let moved = r.chip;
-    Run {
-        cpu: after,
-        chip: moved,
-        done: counted(done, r.number, r.counted, done.printed),
+// Instructions up to the one of number `to`, where none was refused and all is printed.
+fn proceed(run: Run, ram: &mut [u8; 256], rom: &[u8], traced: bool, to: u32) -> Run {
+    let next = run.next;
+    if (run.number != 0) | !run.printed {
+        return run;
     }
+    if to <= next {
+        return run;
+    }
+    if traced {
+        return trace_on(run, ram, rom, to - next);
+    }
+    firmware_trace::run_on(run, ram, rom, to - next)
 }
 
-// Instructions up to the one of number `to`.
-fn proceed(run: Run, ram: &mut [u8; 256], rom: &[u8; 24576], traced: bool, to: u32) -> Run {
-    let done = run.done;
-    if to <= done.next {
-        run
-    } else if traced {
-        trace_on(run, ram, rom, to - done.next)
-    } else {
-        run_on(run, ram, rom, to - done.next)
-    }
-}
-
-fn give(run: Run, rom: &[u8; 24576], traced: bool, word: u32) -> Run {
-    let done = run.done;
-    let cpu = run.cpu;
-    let chip = run.chip;
-    let g = firmware_steps::give(cpu, chip, rom, word);
-    let after = g.cpu;
-    let moved = g.chip;
-    let printed = print_given(traced, done.next, word, g.answer);
-    Run {
-        cpu: after,
-        chip: moved,
-        done: one_given(done, printed),
-    }
+fn give(run: Run, rom: &[u8], traced: bool, word: u32) -> Run {
+    let mut after = firmware_trace::give(run, rom, word);
+    let printed = print_given(traced, after.next, word, after.answer);
+    after.printed = printed;
+    after
 }
 
 fn least(a: u32, b: u32) -> u32 {
@@ -259,23 +184,21 @@ fn least(a: u32, b: u32) -> u32 {
 }
 
 // The instructions before an event, and the event where another instruction follows.
-fn take_event(run: Run, ram: &mut [u8; 256], rom: &[u8; 24576], asked: Asked, event: u64) -> Run {
+fn take_event(run: Run, ram: &mut [u8; 256], rom: &[u8], asked: Asked, event: u64) -> Run {
     let number = (event / 4294967296) as u32;
     let word = (event % 4294967296) as u32;
     let r = proceed(run, ram, rom, asked.traced, least(asked.count, number));
-    let done = r.done;
-    if goes_on(done, asked.count) {
-        give(r, rom, asked.traced, word)
-    } else {
-        r
+    if goes_on(r.number, r.printed, r.next, asked.count) {
+        return give(r, rom, asked.traced, word);
     }
+    r
 }
 
 // The events of a block, until no instruction follows. That every line is well formed was checked before.
 fn take_block(
     start: Listed,
     ram: &mut [u8; 256],
-    rom: &[u8; 24576],
+    rom: &[u8],
     asked: Asked,
     block: &[u8],
 ) -> Listed {
@@ -298,8 +221,7 @@ fn take_block(
                 changed = true;
             }
         }
-        let done = run.done;
-        more = goes_on(done, asked.count) & !changed;
+        more = goes_on(run.number, run.printed, run.next, asked.count) & !changed;
     }
     Listed {
         run,
@@ -309,11 +231,11 @@ fn take_block(
     }
 }
 
-// The events of a list. A proved loop has to end, and nothing says that a list does, so the loop counts blocks down, from a number that no
+// A run from power up with the events of a list. A proved loop has to end, and nothing says that a list does, so the loop counts blocks down, from a number that no
 // run uses up.
-fn take_list(start: Run, ram: &mut [u8; 256], rom: &[u8; 24576], asked: Asked, fd: i32) -> Listed {
+fn take_list(ram: &mut [u8; 256], rom: &[u8], asked: Asked, fd: i32) -> Listed {
     let mut at = Listed {
-        run: start,
+        run: firmware_trace::power_up(rom),
         reader: event_lines::line_start(),
         more: true,
         changed: false,
@@ -335,17 +257,11 @@ fn take_list(start: Run, ram: &mut [u8; 256], rom: &[u8; 24576], asked: Asked, f
 }
 
 // The instructions past the last event, and the last line.
-fn finish(run: Run, ram: &mut [u8; 256], rom: &[u8; 24576], asked: Asked) {
-    let done = run.done;
-    let last = if goes_on(done, asked.count) {
-        proceed(run, ram, rom, asked.traced, asked.count)
-    } else {
-        run
-    };
+fn finish(run: Run, ram: &mut [u8; 256], rom: &[u8], asked: Asked) {
+    let last = proceed(run, ram, rom, asked.traced, asked.count);
     let cpu = last.cpu;
-    let end = last.done;
-    let printed = if end.printed {
-        print_end(cpu, end)
+    let printed = if last.printed {
+        print_end(cpu, last.number, last.next, last.given)
     } else {
         false
     };
@@ -492,20 +408,28 @@ fn take_count(at: usize) -> u64 {
     count
 }
 
-// A run with the events of an open list, once every line of it is well formed.
-fn run_list(fd: i32, name: &[u8], rom: &[u8; 24576], asked: Asked) {
-    if check_list(fd, name) {
-        let mut ram = [0u8; 256];
-        let read = take_list(power_up(rom), &mut ram, rom, asked, fd);
-        // the end of the file ends its last line
-        let at = take_block(read, &mut ram, rom, asked, b"\n");
-        if at.changed {
-            tell(name);
-            tell(b": not the same when it was read again\n");
-            return;
-        }
-        let run = at.run;
-        finish(run, &mut ram, rom, asked);
+// A run with the events of an open list; whether they are still well formed.
+fn run_events(fd: i32, rom: &[u8], asked: Asked) -> bool {
+    let mut ram = [0u8; 256];
+    let read = take_list(&mut ram, rom, asked, fd);
+    // the end of the file ends its last line
+    let at = take_block(read, &mut ram, rom, asked, b"\n");
+    if at.changed {
+        return false;
+    }
+    let run = at.run;
+    finish(run, &mut ram, rom, asked);
+    true
+}
+
+// The same once every line is well formed.
+fn run_list(fd: i32, name: &[u8], rom: &[u8], asked: Asked) {
+    if !check_list(fd, name) {
+        return;
+    }
+    if !run_events(fd, rom, asked) {
+        tell(name);
+        tell(b": not the same when it was read again\n");
     }
 }
 
@@ -523,7 +447,7 @@ fn run_listed(at: usize, rom: &[u8; 24576], asked: Asked) {
 
 fn run_alone(rom: &[u8; 24576], asked: Asked) {
     let mut ram = [0u8; 256];
-    finish(power_up(rom), &mut ram, rom, asked);
+    finish(firmware_trace::power_up(rom), &mut ram, rom, asked);
 }
 
 // The first argument is -t.

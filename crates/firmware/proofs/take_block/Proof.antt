@@ -46,9 +46,9 @@ goes-on-requires c κs = search needs
 
 loop-less : tie.Need-loop-less Inv-loop μ-loop
 loop-less c =
-    let call = c .before .before .before .before in
+    let call = c .before .before .before in
     let at = call .before .before in
-    let block = at .before .before .before .before .args .block .now in
+    let block = at .before .before .before .before .before .args .block .now in
     let within : at .loop .i < length block = ltb-true _ _ (both (at .loop .more) (ltb (at .loop .i) (length block)) (call .before .loop-test .taken) .1) in
     let found : call .next-event .result .at ≡ foundOn (at .loop .reader) (at .loop .i) (drop (at .loop .i) block) .at =
     ap (λ (f : Found). f .at) (call .next-event .ensures) in

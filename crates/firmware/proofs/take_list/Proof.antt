@@ -15,6 +15,9 @@ Inv-loop ram₀ rom asked fd at₀ blocks₀ ram at blocks = Unit {0}
 abbrev μ-loop : tie.MeasureT-loop
 μ-loop ram₀ rom asked fd at₀ blocks₀ ram at blocks = blocks
 
+power-up-requires : tie.Need-power-up-requires Inv-loop μ-loop
+power-up-requires c κs = search needs
+
 line-start-requires : tie.Need-line-start-requires Inv-loop μ-loop
 line-start-requires c κs = search needs
 
@@ -60,6 +63,7 @@ take-list-spec =
     (tie.spec
     Inv-loop
     μ-loop
+    power-up-requires
     line-start-requires
     loop-holds
     large-buffer-requires

@@ -1,6 +1,7 @@
 -- `firmware::trace_on` is safe and ends.
 -- Assumes nothing.
 use Prim.Native.Nat.{_-_}
+use native.Mathlib.Omega.{arith}
 use borrow.Author.Needs.{needs}
 use Rattle.firmware.proofs.trace_on.Statement.{statement}
 use Rattle.firmware.proofs.trace_on.Tie as tie
@@ -14,14 +15,20 @@ abbrev μ-loop : tie.MeasureT-loop
 loop-holds : tie.Need-loop-holds Inv-loop μ-loop
 loop-holds c = search needs
 
-trace-turn-requires : tie.Need-trace-turn-requires Inv-loop μ-loop
-trace-turn-requires c κs = search needs
+fetch-requires : tie.Need-fetch-requires Inv-loop μ-loop
+fetch-requires c κs = search needs
+
+run-on-requires : tie.Need-run-on-requires Inv-loop μ-loop
+run-on-requires c κs = search needs
+
+print-turn-requires : tie.Need-print-turn-requires Inv-loop μ-loop
+print-turn-requires c κs = search needs
 
 returns : tie.Need-returns Inv-loop μ-loop
 returns c = search needs
 
 add-i : tie.Need-add-i Inv-loop μ-loop
-add-i c = search needs
+add-i c = omega (arith, c .before .before .before .before .before .before .before .before .loop-test .taken, c .before .before .before .before .before .before .before .before .before .before .before .fits .instructions)
 
 loop-less : tie.Need-loop-less Inv-loop μ-loop
 loop-less c = search needs
@@ -39,7 +46,9 @@ trace-on-spec =
     Inv-loop
     μ-loop
     loop-holds
-    trace-turn-requires
+    fetch-requires
+    run-on-requires
+    print-turn-requires
     returns
     add-i
     loop-less
