@@ -15,8 +15,9 @@ library() {
                 old=yes
             fi
             log=$(command rt staticlib "$name" 2>&1 9>&-) || { echo "$log"; exit 1; }
-            # cargo does not look at a library's age: what links the old one is built anew
-            [ -z "$old" ] || cargo clean --offline --quiet --release -p nt6861-model 9>&-
+            # cargo does not look at a library's age: the programs that link one are built anew
+            [ -z "$old" ] || awk -F '"' '/^name/ { name = $2 } /^required-features/ { print name }' Cargo.toml |
+                while read -r program; do rm -f target/cargo/release/deps/"$program"-*; done
         ) 9> "${RT_TURN:-target/turn}" || exit 1
     done
 }
