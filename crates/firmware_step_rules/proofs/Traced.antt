@@ -1,7 +1,7 @@
--- What a trace takes apart, the interrupt and the instruction behind it, is the run.
+-- What a trace does, one instruction at a time, is the run; the interrupt that it shows before an instruction is the one that comes with it.
 -- Assumes nothing.
 use Prim.Native.Nat.{ℕ, zero, suc, _+_}
-use mathlib.Core.Path.{_≡_, refl, ap, _∙_}
+use mathlib.Core.Path.{_≡_, refl, ap}
 use mathlib.Core.Bool.{Bool, true, false}
 use mathlib.Core.List.{List, []}
 use lib.Dec.{eqb}
@@ -30,5 +30,4 @@ unfolding traced runs fed answersBefore left
 traced-run zero i rom m = refl
 traced-run (suc n) i rom m =
     let t = turn rom m in
-    ap (λ (r : Ended). pick (eqb (r .number) 0) (traced n (i + 1) rom (r .machine)) r) (one-before i rom m)
-    ∙ on-one t i (traced n (i + 1) rom) (runs n (i + 1) rom [] (t .machine)) (eqb (t .number) 0) refl (traced-run n (i + 1) rom (t .machine))
+    on-one t i (traced n (i + 1) rom) (runs n (i + 1) rom [] (t .machine)) (eqb (t .number) 0) refl (traced-run n (i + 1) rom (t .machine))

@@ -7,7 +7,6 @@ use Rattle.events.specs.Word.{decode}
 use Rattle.step.specs.Step.{answered}
 use Rattle.machine.specs.Machine.{Machine}
 use Rattle.machine.specs.Run.{numberOf, wordOf, occurred, Ended, ended, prepended, runs}
-use Rattle.firmware_steps.specs.Steps.{beforeInstruction}
 
 -- instructions from number i up to the one of number t
 abbrev pub upTo : ℕ → ℕ → List ℕ → Machine → Ended
@@ -28,10 +27,8 @@ inSteps n i rom (e ∷ es) m =
     onEvent (upTo (least n (numberOf e)) i rom m) n
     (λ (r : Ended). prepended (answered (r .machine .chip) (decode (wordOf e)) ∷ []) (inSteps n (r .next) rom es (occurred rom (r .machine) (wordOf e))))
 
--- n instructions from number i as a trace takes them: perhaps the interrupt, then one instruction from behind it
+-- n instructions from number i as a trace does them: one at a time, up to the first that is refused
 unfoldable pub traced : ℕ → ℕ → List ℕ → Machine → Ended
 traced zero i rom m = ended m 0 i []
 traced (suc n) i rom m =
-    pick (eqb (runs 1 i rom [] (beforeInstruction rom m) .number) 0)
-    (traced n (i + 1) rom (runs 1 i rom [] (beforeInstruction rom m) .machine))
-    (runs 1 i rom [] (beforeInstruction rom m))
+    pick (eqb (runs 1 i rom [] m .number) 0) (traced n (i + 1) rom (runs 1 i rom [] m .machine)) (runs 1 i rom [] m)
