@@ -57,6 +57,11 @@ zeroPage a i = read a (λ (o : ℕ). done (effective ((o + i) % 256) false))
 abbrev pub absolute : ℕ → ℕ → ℕ → Reads Effective
 absolute a b i = then (word a b) (λ (v : ℕ). done (indexed v i))
 
+-- an absolute address; JSR, for which own is true, fetches its operand itself
+abbrev pub absoluteUnless : Bool → ℕ → ℕ → Reads Effective
+absoluteUnless true a b = done (effective 0 false)
+absoluteUnless false a b = absolute a b 0
+
 -- the word at p, whose high byte is in the same page, with an index
 abbrev pub pointer : ℕ → ℕ → Reads Effective
 pointer p i = then (word p (nextInPage p)) (λ (v : ℕ). done (indexed v i))
@@ -71,19 +76,19 @@ absoluteIndirect a b = then (word a b) (λ (v : ℕ). pointer v 0)
 abbrev pub relative : ℕ → ℕ → Reads Effective
 relative a p = read a (λ (o : ℕ). done (branchTo p o))
 
--- the effective address of the instruction at PC; an implied one and one on A have none
-unfoldable pub locate : Mode → Cpu → Reads Effective
-locate Implied c = done (effective 0 false)
-locate Accumulator c = done (effective 0 false)
-locate Immediate c = done (effective (ahead (c .pc) 1) false)
-locate ZeroPage c = zeroPage (ahead (c .pc) 1) 0
-locate ZeroPageX c = zeroPage (ahead (c .pc) 1) (c .x)
-locate ZeroPageY c = zeroPage (ahead (c .pc) 1) (c .y)
-locate Absolute c = absolute (ahead (c .pc) 1) (ahead (c .pc) 2) 0
-locate AbsoluteX c = absolute (ahead (c .pc) 1) (ahead (c .pc) 2) (c .x)
-locate AbsoluteY c = absolute (ahead (c .pc) 1) (ahead (c .pc) 2) (c .y)
-locate AbsoluteIndirect c = absoluteIndirect (ahead (c .pc) 1) (ahead (c .pc) 2)
-locate IndexedIndirect c = zeroPagePointer (ahead (c .pc) 1) (c .x) 0
-locate IndirectIndexed c = zeroPagePointer (ahead (c .pc) 1) 0 (c .y)
-locate Relative c = relative (ahead (c .pc) 1) (ahead (c .pc) 2)
-locate Undocumented c = undocumented
+-- the effective address of the instruction at PC; an implied one, one on A, and one that fetches its own operand have none
+unfoldable pub locate : Bool → Mode → Cpu → Reads Effective
+locate own Implied c = done (effective 0 false)
+locate own Accumulator c = done (effective 0 false)
+locate own Immediate c = done (effective (ahead (c .pc) 1) false)
+locate own ZeroPage c = zeroPage (ahead (c .pc) 1) 0
+locate own ZeroPageX c = zeroPage (ahead (c .pc) 1) (c .x)
+locate own ZeroPageY c = zeroPage (ahead (c .pc) 1) (c .y)
+locate own Absolute c = absoluteUnless own (ahead (c .pc) 1) (ahead (c .pc) 2)
+locate own AbsoluteX c = absolute (ahead (c .pc) 1) (ahead (c .pc) 2) (c .x)
+locate own AbsoluteY c = absolute (ahead (c .pc) 1) (ahead (c .pc) 2) (c .y)
+locate own AbsoluteIndirect c = absoluteIndirect (ahead (c .pc) 1) (ahead (c .pc) 2)
+locate own IndexedIndirect c = zeroPagePointer (ahead (c .pc) 1) (c .x) 0
+locate own IndirectIndexed c = zeroPagePointer (ahead (c .pc) 1) 0 (c .y)
+locate own Relative c = relative (ahead (c .pc) 1) (ahead (c .pc) 2)
+locate own Undocumented c = undocumented

@@ -1,9 +1,10 @@
 // The addressing modes of the 6502 (document 02, Wish 5).
 ghost use mathlib.Core.Path.{_≡_};
-ghost use Prim.Native.Nat.{_+_, _*_, _%_};
+ghost use Prim.Native.Nat.{_+_, _-_, _*_, _%_, _≤_};
+ghost use lib.ListN.{getD};
 ghost use Rattle.memory.specs.Memory.{memory};
 ghost use Rattle.memory.specs.Reads.{run, highByte, word};
-ghost use Rattle.addressing.specs.Addressing.{wordResult, locatedResult, ahead as aheadOf, indexed as indexedOf, branchTarget, branchTo, nextInPage, zeroPage, absolute, pointer, zeroPagePointer, absoluteIndirect, relative, locate as locateOf};
+ghost use Rattle.addressing.specs.Addressing.{wordResult, locatedResult, ahead as aheadOf, indexed as indexedOf, branchTarget, branchTo, nextInPage, zeroPage, absolute, absoluteUnless, pointer, zeroPagePointer, absoluteIndirect, relative, locate as locateOf};
 use memory::Loaded;
 use opcodes::Mode;
 use operations::Cpu;
@@ -135,13 +136,49 @@ fn zero_page(seen: &[u16; 38], ram: &[u8; 256], rom: &[u8], a: u16, i: u8) -> Lo
     }
 }
 
+// The word at two addresses of ROM.
+fn word_in_rom(rom: &[u8], a: u16, b: u16) -> u16
+    requires { ⌜ (0xA000 ≤ a) × (0xA000 ≤ b) ⌝ }
+    ensures { λ r. ⌜ r ≡ getD (now (rom .entry)) (b - 0xA000) 0 * 256 + getD (now (rom .entry)) (a - 0xA000) 0 ⌝ }
+{
+    let l = memory::rom_byte(rom, (a as usize) - 0xA000);
+    let h = memory::rom_byte(rom, (b as usize) - 0xA000);
+    joined(h, l)
+}
+
+// An operand in ROM, where programs are, is read without asking where its bytes lead.
 fn absolute_at(seen: &[u16; 38], ram: &[u8; 256], rom: &[u8], a: u16, b: u16, i: u8) -> Located
     ensures { λ r. ⌜ locatedResult r ≡ run (memory (now (seen .entry)) (now (ram .entry)) (now (rom .entry))) (absolute a b i) ⌝ }
 {
+    if a >= 0xA000 {
+        if b >= 0xA000 {
+            return Located::At(indexed(word_in_rom(rom, a, b), i));
+        }
+    }
     let p = word_at(seen, ram, rom, a, b);
     match p {
         Word::Value(v) => Located::At(indexed(v, i)),
         Word::Refused(n) => Located::Refused(n),
+    }
+}
+
+fn absolute_unless(
+    own: bool,
+    seen: &[u16; 38],
+    ram: &[u8; 256],
+    rom: &[u8],
+    a: u16,
+    b: u16,
+) -> Located
+    ensures { λ r. ⌜ locatedResult r ≡ run (memory (now (seen .entry)) (now (ram .entry)) (now (rom .entry))) (absoluteUnless own a b) ⌝ }
+{
+    if own {
+        Located::At(Effective {
+            address: 0,
+            crossed: false,
+        })
+    } else {
+        absolute_at(seen, ram, rom, a, b, 0)
     }
 }
 
@@ -186,10 +223,11 @@ fn relative_at(seen: &[u16; 38], ram: &[u8; 256], rom: &[u8], a: u16, p: u16) ->
     }
 }
 
-// The effective address of the instruction at PC.
+// The effective address of the instruction at PC. An instruction that fetches its own operand has none; that is asked only where the mode is
+// absolute, as JSR's is.
 // Wrong answers: zero-page indexing that leaves page zero; a pointer at xxFF whose high byte is not at xx00.
-pub fn locate(m: Mode, c: Cpu, seen: &[u16; 38], ram: &[u8; 256], rom: &[u8]) -> Located
-    ensures { λ r. ⌜ locatedResult r ≡ run (memory (now (seen .entry)) (now (ram .entry)) (now (rom .entry))) (locateOf m c) ⌝ }
+pub fn locate(own: bool, m: Mode, c: Cpu, seen: &[u16; 38], ram: &[u8; 256], rom: &[u8]) -> Located
+    ensures { λ r. ⌜ locatedResult r ≡ run (memory (now (seen .entry)) (now (ram .entry)) (now (rom .entry))) (locateOf own m c) ⌝ }
 {
     let pc = c.pc;
     let x = c.x;
@@ -212,7 +250,7 @@ pub fn locate(m: Mode, c: Cpu, seen: &[u16; 38], ram: &[u8; 256], rom: &[u8]) ->
         Mode::ZeroPage => zero_page(seen, ram, rom, a, 0),
         Mode::ZeroPageX => zero_page(seen, ram, rom, a, x),
         Mode::ZeroPageY => zero_page(seen, ram, rom, a, y),
-        Mode::Absolute => absolute_at(seen, ram, rom, a, b, 0),
+        Mode::Absolute => absolute_unless(own, seen, ram, rom, a, b),
         Mode::AbsoluteX => absolute_at(seen, ram, rom, a, b, x),
         Mode::AbsoluteY => absolute_at(seen, ram, rom, a, b, y),
         Mode::AbsoluteIndirect => indirect_at(seen, ram, rom, a, b),

@@ -4,13 +4,14 @@ ghost use Prim.Native.Nat.{_+_, _%_, _<_};
 ghost use Rattle.bits.specs.Byte.{num as numOf};
 ghost use Rattle.arithmetic.specs.Arithmetic.{computed, nz as nzOf, nzc as nzcOf, withCarry, overflow as overflowOf, total as totalOf, sumFlags, digitSum, digitDifference, decimalSum, decimalDifference, adc as adcOf, sbc as sbcOf, compared as comparedOf};
 
-// The flags of P. Bits 5 and 4 exist only in a pushed P.
+// The flags of P. Bits 5 and 4 exist only in a pushed P. Z stands between D and I, so that the compiler does not join these two in one
+// number of 16 bits, to be taken apart again at each instruction.
 pub struct Flags {
     pub n: bool,
     pub v: bool,
     pub d: bool,
-    pub i: bool,
     pub z: bool,
+    pub i: bool,
     pub c: bool,
 }
 

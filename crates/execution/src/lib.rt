@@ -1,13 +1,11 @@
 // An instruction with its store in RAM (document 02, Wish 5).
 ghost use mathlib.Core.Path.{_≡_};
 ghost use Prim.Native.Nat.{_+_, _*_, _/_, _%_, _<_};
-ghost use Rattle.opcodes.specs.Opcodes.{isJsr, lengthOf, modeOf};
+ghost use Rattle.opcodes.specs.Opcodes.{lengthOf};
 ghost use Rattle.operations.specs.Operations.{intoA, modifyOperation, setS, taken as takenOf};
 ghost use Rattle.memory.specs.Memory.{memory, below as belowOf};
-ghost use Rattle.memory.specs.Reads.{run};
-ghost use Rattle.addressing.specs.Addressing.{locatedResult};
 ghost use Rattle.instruction.specs.Program.{perform};
-ghost use Rattle.instruction.specs.Instruction.{reading, modifying, branched, jsr as jsrOf, jsrHigh, rts as rtsOf, rtiWith, rti as rtiOf, brk as brkOf, pla as plaOf, plp as plpOf, execute as executeOf, addressed as addressedOf, instructionOf, instructionBy};
+ghost use Rattle.instruction.specs.Instruction.{reading, modifying, branched, jsr as jsrOf, jsrHigh, rts as rtsOf, rtiWith, rti as rtiOf, brk as brkOf, pla as plaOf, plp as plpOf, execute as executeOf, instructionOf, instructionBy};
 ghost use Rattle.execution.specs.Execution.{destination, stored, executedTo, executedWith, ramWith};
 use addressing::Effective;
 use addressing::Located;
@@ -363,20 +361,6 @@ fn execute(
     }
 }
 
-// The effective address; JSR fetches its operand itself.
-fn addressed(e: u32, c: Cpu, seen: &[u16; 38], ram: &[u8; 256], rom: &[u8]) -> Located
-    ensures { λ r. ⌜ locatedResult r ≡ run (memory (now (seen .entry)) (now (ram .entry)) (now (rom .entry))) (addressedOf (isJsr e) (modeOf e) c) ⌝ }
-{
-    if opcodes::is_jsr(e) {
-        Located::At(Effective {
-            address: 0,
-            crossed: false,
-        })
-    } else {
-        addressing::locate(opcodes::mode_of(e), c, seen, ram, rom)
-    }
-}
-
 fn wide_length(e: u32) -> u16
     ensures { λ r. ⌜ r ≡ lengthOf e ⌝ }
 {
@@ -387,7 +371,7 @@ fn wide_length(e: u32) -> u16
 fn instruction_of(e: u32, c: Cpu, seen: &[u16; 38], ram: &mut [u8; 256], rom: &[u8]) -> Executed
     ensures { λ r. ⌜ (r ≡ executedWith (perform (memory (now (seen .entry)) (now (ram .entry)) (now (rom .entry))) (instructionOf e c))) × (now (ram .exit) ≡ ramWith (perform (memory (now (seen .entry)) (now (ram .entry)) (now (rom .entry))) (instructionOf e c)) (now (ram .entry))) ⌝ }
 {
-    let p = addressed(e, c, seen, ram, rom);
+    let p = addressing::locate(opcodes::is_jsr(e), opcodes::mode_of(e), c, seen, ram, rom);
     match p {
         Located::At(t) => {
             let d = operations::set_pc(addressing::ahead(c.pc, wide_length(e)), c);

@@ -18,7 +18,7 @@ use Rattle.opcodes.specs.declared.Mode.{Mode}
 use Rattle.opcodes.specs.declared.Mode.the-variants as mode
 use Rattle.opcodes.specs.declared.Operation.{Operation}
 use Rattle.opcodes.specs.declared.Operation.the-variants.{Read, Store, Modify, ModifyA, Implied, Branch, Jmp, Jsr, Rts, Rti, Brk, Pha, Php, Pla, Plp, Undocumented}
-use Rattle.opcodes.proofs.Rules.{isUndocumentedMode, undocumented as table-undocumented, cycles-at-most-seven, isJsrOperation, jsr as table-jsr}
+use Rattle.opcodes.proofs.Rules.{isUndocumentedMode, undocumented as table-undocumented, cycles-at-most-seven}
 use Rattle.operations.specs.declared.Cpu.{Cpu}
 use Rattle.operations.specs.Operations.{readOperation, impliedOperation, setPc, taken}
 use Rattle.memory.specs.Memory.{below}
@@ -26,7 +26,7 @@ use Rattle.memory.specs.Reads.{Reads, done, undocumented, read, then}
 use Rattle.addressing.specs.declared.Effective.{Effective}
 use Rattle.addressing.specs.Addressing.{ahead, locate}
 use Rattle.instruction.specs.Program.{Instruction, leaves, rejected, reads, pushes, andThen}
-use Rattle.instruction.specs.Instruction.{trap, branched, execute, addressed, instructionOf}
+use Rattle.instruction.specs.Instruction.{trap, branched, execute, instructionOf}
 
 -- ---- reads that do not end at an opcode that is not documented
 
@@ -127,26 +127,23 @@ execute-regular known Undocumented t n c d h s = true≢false (sym d)
 
 -- ---- the addressing modes of documented opcodes
 
-locate-finds : (m : Mode) (c : Cpu) → isUndocumentedMode m ≡ false → Finds (locate m c)
+locate-finds : (own : Bool) (m : Mode) (c : Cpu) → isUndocumentedMode m ≡ false → Finds (locate own m c)
 unfolding locate then isUndocumentedMode
-locate-finds mode.Implied c h = tt
-locate-finds mode.Accumulator c h = tt
-locate-finds mode.Immediate c h = tt
-locate-finds mode.ZeroPage c h = λ (o : ℕ). tt
-locate-finds mode.ZeroPageX c h = λ (o : ℕ). tt
-locate-finds mode.ZeroPageY c h = λ (o : ℕ). tt
-locate-finds mode.Absolute c h = λ (l k : ℕ). tt
-locate-finds mode.AbsoluteX c h = λ (l k : ℕ). tt
-locate-finds mode.AbsoluteY c h = λ (l k : ℕ). tt
-locate-finds mode.AbsoluteIndirect c h = λ (l k l′ k′ : ℕ). tt
-locate-finds mode.IndexedIndirect c h = λ (o l k : ℕ). tt
-locate-finds mode.IndirectIndexed c h = λ (o l k : ℕ). tt
-locate-finds mode.Relative c h = λ (o : ℕ). tt
-locate-finds mode.Undocumented c h = true≢false h
-
-addressed-finds : (j : Bool) (m : Mode) (c : Cpu) → isUndocumentedMode m ≡ false → Finds (addressed j m c)
-addressed-finds true m c h = tt
-addressed-finds false m c h = locate-finds m c h
+locate-finds own mode.Implied c h = tt
+locate-finds own mode.Accumulator c h = tt
+locate-finds own mode.Immediate c h = tt
+locate-finds own mode.ZeroPage c h = λ (o : ℕ). tt
+locate-finds own mode.ZeroPageX c h = λ (o : ℕ). tt
+locate-finds own mode.ZeroPageY c h = λ (o : ℕ). tt
+locate-finds true mode.Absolute c h = tt
+locate-finds false mode.Absolute c h = λ (l k : ℕ). tt
+locate-finds own mode.AbsoluteX c h = λ (l k : ℕ). tt
+locate-finds own mode.AbsoluteY c h = λ (l k : ℕ). tt
+locate-finds own mode.AbsoluteIndirect c h = λ (l k l′ k′ : ℕ). tt
+locate-finds own mode.IndexedIndirect c h = λ (o l k : ℕ). tt
+locate-finds own mode.IndirectIndexed c h = λ (o l k : ℕ). tt
+locate-finds own mode.Relative c h = λ (o : ℕ). tt
+locate-finds own mode.Undocumented c h = true≢false h
 
 -- ---- the table, past its end too: there the entry is 0
 
@@ -179,17 +176,6 @@ marked-by opcode (inr h) = rw (past opcode h) marked-past
 marked : (opcode : ℕ) → Marked (entryOf opcode)
 marked opcode = marked-by opcode (lt-or-le opcode 256)
 
-abbrev Jumps : ℕ → Type 0
-Jumps e = isJsr e ≡ isJsrOperation (operationOf e)
-
-jumps-past : Jumps 0
-unfolding operations operationNumbered operationOf isJsr isJsrOperation
-jumps-past = refl
-
-jumps-by : (opcode : ℕ) → (opcode < 256) ⊎ (256 ≤ opcode) → Jumps (entryOf opcode)
-jumps-by opcode (inl h) = beq-eq _ _ (at-each (λ (k : ℕ). Bool·beq (isJsr (entryOf k)) (isJsrOperation (operationOf (entryOf k)))) 256 (true-T _ table-jsr) opcode h)
-jumps-by opcode (inr h) = rw (past opcode h) jumps-past
-
 -- ---- an instruction whose opcode is read
 
 pub documented-regular : (known : Bool) (opcode : ℕ) (c : Cpu) → isDocumented (operationOf (entryOf opcode)) ≡ true → (known ≡ true → c .s < 256) → Regular known (c .over) (instructionOf (entryOf opcode) c)
@@ -197,49 +183,29 @@ unfolding instructionOf
 documented-regular known opcode c d s =
     let e = entryOf opcode in
     let k : isUndocumentedMode (modeOf e) ≡ false = marked opcode ∙ ap (λ (b : Bool). Bool·beq b false) d in
-    then-regular known (c .over) (addressed (isJsr e) (modeOf e) c) _ (addressed-finds (isJsr e) (modeOf e) c k)
+    then-regular known (c .over) (locate (isJsr e) (modeOf e) c) _ (locate-finds (isJsr e) (modeOf e) c k)
     (λ (t : Effective). execute-regular known (operationOf e) t (cyclesOf e) (setPc (ahead (c .pc) (lengthOf e)) c) d (few opcode) s)
 
-not-jsr : (o : Operation) → isDocumented o ≡ false → isJsrOperation o ≡ false
-unfolding isJsrOperation
-not-jsr (Read o) h = refl
-not-jsr (Store o) h = refl
-not-jsr (Modify o) h = refl
-not-jsr (ModifyA o) h = refl
-not-jsr (Implied o) h = refl
-not-jsr (Branch o) h = refl
-not-jsr Jmp h = refl
-not-jsr Jsr h = h
-not-jsr Rts h = refl
-not-jsr Rti h = refl
-not-jsr Brk h = refl
-not-jsr Pha h = refl
-not-jsr Php h = refl
-not-jsr Pla h = refl
-not-jsr Plp h = refl
-not-jsr Undocumented h = refl
-
-rejects : (m : Mode) (c : Cpu) (g : Effective → Instruction) → isUndocumentedMode m ≡ true → andThen (locate m c) g ≡ rejected
+rejects : (own : Bool) (m : Mode) (c : Cpu) (g : Effective → Instruction) → isUndocumentedMode m ≡ true → andThen (locate own m c) g ≡ rejected
 unfolding isUndocumentedMode locate andThen
-rejects mode.Implied c g h = absurd (true≢false (sym h))
-rejects mode.Accumulator c g h = absurd (true≢false (sym h))
-rejects mode.Immediate c g h = absurd (true≢false (sym h))
-rejects mode.ZeroPage c g h = absurd (true≢false (sym h))
-rejects mode.ZeroPageX c g h = absurd (true≢false (sym h))
-rejects mode.ZeroPageY c g h = absurd (true≢false (sym h))
-rejects mode.Absolute c g h = absurd (true≢false (sym h))
-rejects mode.AbsoluteX c g h = absurd (true≢false (sym h))
-rejects mode.AbsoluteY c g h = absurd (true≢false (sym h))
-rejects mode.AbsoluteIndirect c g h = absurd (true≢false (sym h))
-rejects mode.IndexedIndirect c g h = absurd (true≢false (sym h))
-rejects mode.IndirectIndexed c g h = absurd (true≢false (sym h))
-rejects mode.Relative c g h = absurd (true≢false (sym h))
-rejects mode.Undocumented c g h = refl
+rejects own mode.Implied c g h = absurd (true≢false (sym h))
+rejects own mode.Accumulator c g h = absurd (true≢false (sym h))
+rejects own mode.Immediate c g h = absurd (true≢false (sym h))
+rejects own mode.ZeroPage c g h = absurd (true≢false (sym h))
+rejects own mode.ZeroPageX c g h = absurd (true≢false (sym h))
+rejects own mode.ZeroPageY c g h = absurd (true≢false (sym h))
+rejects own mode.Absolute c g h = absurd (true≢false (sym h))
+rejects own mode.AbsoluteX c g h = absurd (true≢false (sym h))
+rejects own mode.AbsoluteY c g h = absurd (true≢false (sym h))
+rejects own mode.AbsoluteIndirect c g h = absurd (true≢false (sym h))
+rejects own mode.IndexedIndirect c g h = absurd (true≢false (sym h))
+rejects own mode.IndirectIndexed c g h = absurd (true≢false (sym h))
+rejects own mode.Relative c g h = absurd (true≢false (sym h))
+rejects own mode.Undocumented c g h = refl
 
 pub undocumented-rejected : (opcode : ℕ) (c : Cpu) → isDocumented (operationOf (entryOf opcode)) ≡ false → instructionOf (entryOf opcode) c ≡ rejected
 unfolding instructionOf
 undocumented-rejected opcode c d =
     let e = entryOf opcode in
     let k : isUndocumentedMode (modeOf e) ≡ true = marked opcode ∙ ap (λ (b : Bool). Bool·beq b false) d in
-    let j : isJsr e ≡ false = jumps-by opcode (lt-or-le opcode 256) ∙ not-jsr (operationOf e) d in
-    rw j (rejects (modeOf e) c _ k)
+    rejects (isJsr e) (modeOf e) c _ k

@@ -21,7 +21,7 @@ use Rattle.memory.specs.declared.Store.the-variants.{Nothing, Byte, PushOne, Pu
 use Rattle.memory.specs.Memory.{stack, below, above, romWord}
 use Rattle.memory.specs.Reads.{Reads, done, word}
 use Rattle.addressing.specs.declared.Effective.{Effective}
-use Rattle.addressing.specs.Addressing.{ahead, effective, locate}
+use Rattle.addressing.specs.Addressing.{ahead, locate}
 use Rattle.instruction.specs.declared.Effect.{Effect}
 use Rattle.instruction.specs.Program.{Instruction, leaves, rejected, reads, pushes, andThen}
 
@@ -143,15 +143,11 @@ execute Pla t n c = pla n c
 execute Plp t n c = plp n c
 execute Undocumented t n c = rejected
 
--- the effective address; JSR, for which j is true, fetches its operand itself
-abbrev pub addressed : Bool → Mode → Cpu → Reads Effective
-addressed true m c = done (effective 0 false)
-addressed false m c = locate m c
-
--- an instruction whose opcode is read and has the entry e: the addressing mode, then the operation
+-- an instruction whose opcode is read and has the entry e: the addressing mode, but for JSR, which fetches its operand itself, then the
+-- operation
 unfoldable pub instructionOf : ℕ → Cpu → Instruction
 instructionOf e c =
-    andThen (addressed (isJsr e) (modeOf e) c)
+    andThen (locate (isJsr e) (modeOf e) c)
     (λ (t : Effective). execute (operationOf e) t (cyclesOf e) (setPc (ahead (c .pc) (lengthOf e)) c))
 
 -- the instruction at PC, by a table of opcodes, and by that of the 6502

@@ -27,21 +27,23 @@ pub enum Store {
     PushThree(u8, u8, u8, u8),
 }
 
-// Where an address leads.
+// Where an address leads. ROM is asked for first, and RAM before registers: what is commonest lies on the straight way.
 // Wrong answers: 0200 mapped; 0026 taken for a register.
 pub fn place_of(a: u16) -> Place
     ensures { λ r. ⌜ (r ≡ place a) × Reaches r ⌝ }
 {
-    if a < 0xA000 {
+    if a >= 0xA000 {
+        Place::Rom((a as usize) - 0xA000)
+    } else {
         if a < 0x180 {
-            if a < 0x80 {
+            if a >= 0x80 {
+                Place::Ram((a as usize) - 0x80)
+            } else {
                 if a < 0x26 {
                     Place::Register(a as usize)
                 } else {
                     Place::Unmapped
                 }
-            } else {
-                Place::Ram((a as usize) - 0x80)
             }
         } else {
             if a < 0x200 {
@@ -50,8 +52,6 @@ pub fn place_of(a: u16) -> Place
                 Place::Unmapped
             }
         }
-    } else {
-        Place::Rom((a as usize) - 0xA000)
     }
 }
 
@@ -66,7 +66,8 @@ fn known(v: u16) -> Loaded
 }
 
 // A place of ROM; 0 past its end.
-fn rom_byte(rom: &[u8], i: usize) -> u8
+// Wrong answers: the first place for each; FF past the end.
+pub fn rom_byte(rom: &[u8], i: usize) -> u8
     ensures { λ r. ⌜ r ≡ getD (now (rom .entry)) i 0 ⌝ }
 {
     if i < rom.len() { rom[i] } else { 0 }

@@ -98,3 +98,12 @@ isJsrOperation Undocumented = false
 pub jsr : allBelow (λ (k : ℕ). Bool·beq (isJsr (entryOf k)) (isJsrOperation (operationOf (entryOf k)))) 256 ≡ true
 unfolding opcodes operations operationNumbered operationOf isJsr entryOf isJsrOperation
 jsr = refl
+
+-- JSR is one opcode, 20, and its mode is absolute: there it is asked whether an instruction fetches its operand itself
+pub jsr-one : countBelow (λ (k : ℕ). isJsr (entryOf k)) 256 ≡ 1
+unfolding opcodes isJsr entryOf
+jsr-one = refl
+
+pub jsr-absolute : (isJsr (entryOf 0x20) ≡ true) × (modeOf (entryOf 0x20) ≡ mode.Absolute)
+unfolding opcodes modes modeNumbered modeOf isJsr entryOf
+jsr-absolute = (refl, refl)
