@@ -1,7 +1,7 @@
 //! The proved firmware call, linked from its static library, beside the independent core: every opcode from random states, all
 //! decimal inputs, every refusal, random programs with events, resets and interrupts, and the stored images with their hosts.
 //! Number, counts, CPU, RAM, the chip's bytes and all answer places are compared. Usage: firmware_compare [SEED [ROUNDS]], or
-//! firmware_compare bench, for instructions a second of both.
+//! firmware_compare bench, for instructions a second of both; firmware_compare instructions IMAGE LIST COUNT makes one call.
 
 mod area;
 
@@ -530,6 +530,24 @@ fn rates(count: u32, proved: &dyn Fn(u32) -> u32, model: &dyn Fn(u32) -> u32) ->
     turns.fold((0.0, 0.0), |best, turn| (turn.0.max(best.0), turn.1.max(best.1)))
 }
 
+/// What a call from power up is lent.
+fn powered_up(rom: &[u8; ROM_SIZE], places: usize) -> Lent {
+    Lent {
+        cpu: cpu_bytes(&Cpu::after_power_up(rom)).to_vec(),
+        ram: vec![0; RAM_SIZE],
+        area: area::written(&Chip::fresh()).to_vec(),
+        answers: vec![0; places],
+        counts: vec![0, 0],
+    }
+}
+
+/// One call and nothing else, for a count of its machine instructions; LIST `none` has no events.
+fn counted(name: &str, list: &str, count: u32) {
+    let rom = image(name);
+    let words = if list == "none" { Vec::new() } else { packed(&listed(list)) };
+    assert_eq!(call(&mut powered_up(&rom, words.len()), &rom, &words, count), 0);
+}
+
 fn bench() {
     println!("image, events, events for a hundred instructions, proved and model in million instructions a second of processor time, ratio");
     for (name, list, count) in runs() {
@@ -537,13 +555,7 @@ fn bench() {
         let events = listed(&list);
         for (events, count) in [(&[][..], 10_000_000), (&events[..], count)] {
             let words = packed(events);
-            let start = Lent {
-                cpu: cpu_bytes(&Cpu::after_power_up(&rom)).to_vec(),
-                ram: vec![0; RAM_SIZE],
-                area: area::written(&Chip::fresh()).to_vec(),
-                answers: vec![0; events.len()],
-                counts: vec![0, 0],
-            };
+            let start = powered_up(&rom, events.len());
             let run_proved = |count| {
                 let mut lent = start.clone();
                 assert_eq!(call(&mut lent, &rom, &words, count), 0);
@@ -563,6 +575,10 @@ fn main() {
     if arguments.first().is_some_and(|argument| argument == "bench") {
         bench();
         return;
+    }
+    if let [call, name, list, count] = &arguments[..] {
+        assert_eq!(call, "instructions");
+        return counted(name, list, count.parse().expect("a number"));
     }
     let number = |place: usize, default: u64| match arguments.get(place) {
         Some(text) => text.parse().expect("a number"),
