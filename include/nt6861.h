@@ -125,12 +125,12 @@ uint8_t nt6861_why(const uint8_t *area, size_t area_length, const uint32_t *word
 /* ---- firmware (Wish 5): library firmware_capi
  *
  * Runs `instructions` instructions of a 6502 over the chip in an area of 128 bytes (docs/STATE.md). cpu has eight bytes: A, X, Y, S, P,
- * PC low, PC high, and the cycles since the last 8 us clock (0 to 31); bits 5 and 4 of P are ignored and given back 0. ram has 256 bytes,
- * rom 24,576. An event has in bits 63..32 the number of the instruction that it precedes, counted from 0, and below them its word; its
+ * PC (low byte first), and the cycles since the last 8 us clock (0 to 31); of P bits 5 and 4 count for nothing and come back as 0. ram has
+ * 256 bytes, rom 24,576. An event has in bits 63..32 the number of the instruction that it precedes, counted from 0, and below them its word; its
  * answer goes to the place of the same index. counts has two places: instructions counted, and events given (modulo 2^32).
  *
- * Returns 0, or the number of the refusal of an instruction (5, 6, 20, 21): cpu, ram and area are then written as that instruction's
- * events and interrupt left them, and answers and counts tell what was given. Or nothing is touched, by the first of these that holds: 15
+ * Returns 0: cpu, ram and area are as after the last instruction, and answers and counts tell what was given. Or returns the number of
+ * the refusal of an instruction (5, 6, 20, 21): they are then as that instruction's events and interrupt left them. Or nothing is touched, by the first of these that holds: 15
  * for a wrong length of cpu, ram, area or counts; 8 where the area is not that of a well formed state or the cycles are above 31; 22
  * where rom has another length; 7 for fewer answer places than events. At power up cpu is 0, 0, 0, FF, 04, the bytes at FFFC and FFFD,
  * 0, and ram zeros; examples/firmware.c runs an image from there. */

@@ -13,7 +13,7 @@ use Rattle.machine.specs.Run.{Called, firmware}
 use Rattle.state_bytes.specs.Layout.{bytesOf}
 use Rattle.state_area.specs.Area.{loaded}
 
--- ---- a CPU as eight bytes: A, X, Y, S, P, PC low, PC high, cycles over. Bits 5 and 4 of P are ignored, and given back 0
+-- ---- a CPU as eight bytes: A, X, Y, S, P, PC with its low byte first, cycles over. Of P bits 5 and 4 count for nothing and come back as 0
 
 unfoldable pub cpuOf : List ℕ → Cpu
 cpuOf l = record {

@@ -1,4 +1,5 @@
--- All that happens in a firmware run, in order (document 02, Wish 5): the listed events with their answers, and every access of the CPU.
+-- All that happens in a firmware run, in order (document 02, Wish 5): the listed events with their answers, and every access of the CPU but
+-- the two reads of a reset, of ROM alone.
 use Prim.Native.Nat.{ℕ, zero, suc, _+_}
 use mathlib.Core.List.{List, [], _∷_, _++_}
 use lib.Dec.{eqb, ltb}

@@ -40,6 +40,6 @@ interruptedMachine rom m = machine (interruptedCpu rom (m .cpu)) (interruptedRam
 abbrev pub turnOf : List ℕ → Machine → Turned
 turnOf rom m = pick (m .chip .core .reset) (instruct rom (pick (isTaken m) (interruptedMachine rom m) m)) (turned m 0)
 
--- a reset of the chip sets I and loads PC from FFFC, at no cycles; all else is kept
+-- after a reset of the chip: I set, PC from FFFC, every other register as it was, no cycle counted
 abbrev pub restartedCpu : List ℕ → Cpu → Cpu
 restartedCpu rom c = record { a = c .a; x = c .x; y = c .y; s = c .s; p = putI true (c .p); pc = romWord rom 24572; over = c .over }

@@ -40,7 +40,7 @@ reading o t n c = reads (t .address) (λ (b : ℕ). leaves (effect (readOperatio
 abbrev pub storing : StoreOperation → Effective → ℕ → Cpu → Instruction
 storing o t n c = leaves (effect c n (Byte (t .address) (storeOperation o c)))
 
--- one read, one write of the result
+-- the byte is read once, and what it becomes is written once
 abbrev pub modified : ModifyOperation → Effective → ℕ → Cpu → ℕ → Effect
 modified o t n c b = effect (setP (modifyOperation o b (c .p) .flags) c) n (Byte (t .address) (modifyOperation o b (c .p) .value))
 

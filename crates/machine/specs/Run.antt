@@ -27,8 +27,8 @@ wordOf e = e % 4294967296
 unfoldable pub occurred : List ℕ → Machine → ℕ → Machine
 occurred rom m w = machine (pick (wasReset (m .chip) (decode w)) (resetCpu rom (m .cpu)) (m .cpu)) (m .ram) (next (m .chip) (decode w))
 
--- before instruction i every event at the head of the list is given whose number is at most i: the machine after them, their answers, and
--- the events left. One with a later number holds back all that stand behind it.
+-- the events given before instruction i are those from the head of the list on up to the first with a number above i, which holds back all
+-- behind it: the machine after them, their answers, and the events left
 unfoldable pub fed : List ℕ → ℕ → List ℕ → Machine → Machine
 fed rom i [] m = m
 fed rom i (e ∷ es) m = pick (ltb i (numberOf e)) m (fed rom i es (occurred rom m (wordOf e)))

@@ -26,7 +26,7 @@ abbrev pub numbered : {A : Type 0} → List A → ℕ → ℕ → A → A
 numbered [] i k d = d
 numbered (a ∷ l) i k d = pick (eqb k i) a (numbered l (suc i) k d)
 
--- the operations, numbered from 0; four numbers of six bits are left over
+-- the operations, numbered from 0; from 60 on a number of six bits is that of no documented operation
 unfoldable pub operations : List Operation
 operations =
     Read Lda ∷ Read Ldx ∷ Read Ldy ∷ Read And ∷ Read Ora ∷ Read Eor ∷ Read Adc ∷ Read Sbc ∷ Read Cmp ∷ Read Cpx ∷ Read Cpy ∷ Read Bit ∷
@@ -43,7 +43,7 @@ unfoldable pub operationNumbered : ℕ → Operation
 unfolding operations
 operationNumbered k = numbered operations 0 k Undocumented
 
--- the addressing modes, numbered from 0; three numbers of four bits are left over
+-- the addressing modes, numbered from 0; from 13 on a number of four bits is the mode of opcodes that are not documented
 unfoldable pub modes : List Mode
 modes =
     mode.Implied ∷ mode.Accumulator ∷ mode.Immediate ∷ mode.ZeroPage ∷ mode.ZeroPageX ∷ mode.ZeroPageY ∷ mode.Absolute ∷
