@@ -27,7 +27,7 @@ some-line p b bs false e = simp e (onto-line b (split p bs))
     onto-line b [] = refl
     onto-line b (q ∷ ps) = refl
 
-has-line : (separates : ℕ → Bool) (bs : List ℕ) → split separates bs ≡ first (split separates bs) ∷ rest (split separates bs)
+pub has-line : (separates : ℕ → Bool) (bs : List ℕ) → split separates bs ≡ first (split separates bs) ∷ rest (split separates bs)
 unfolding split first rest
 has-line p [] = refl
 has-line p (b ∷ bs) = some-line p b bs (p b) refl

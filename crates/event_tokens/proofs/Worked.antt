@@ -10,6 +10,7 @@ use Rattle.event_lines.specs.declared.Meaning.the-variants as meaning
 use Rattle.event_lines.specs.Lines.{letterOf, symbolOf, numberGrown, wordGrown, wordEnded, lineStart, readOn, lineMeans}
 use Rattle.event_list.specs.Lists.{oneMore, opened as openedList, lineEnded, checkedByte, checkedOn, endsWell, foundAs, foundOn}
 use Rattle.event_tokens.specs.Tokens.{Value, none, some, toldBy}
+use Rattle.event_tokens.specs.Calls.{callsFrom, callsOn, foundIn}
 
 unfoldable pub codes : String → List ℕ
 codes empty = []
@@ -17,7 +18,7 @@ codes (c then s) = code c ∷ codes s
 
 -- a proof that names this on its `unfolding` line computes lines and lists
 unfoldable opened : ℕ
-unfolding codes letterOf symbolOf numberGrown wordGrown wordEnded readOn oneMore lineEnded checkedByte checkedOn endsWell foundOn
+unfolding codes letterOf symbolOf numberGrown wordGrown wordEnded readOn oneMore lineEnded checkedByte checkedOn endsWell foundOn callsFrom callsOn
 opened = 0
 
 abbrev pub means : String → Meaning
@@ -177,3 +178,12 @@ malformed-found = refl
 pub not-ended : foundOn lineStart 4 (codes "\n5 01000600") .meaning ≡ meaning.Nothing
 unfolding opened
 not-ended = refl
+
+-- blocks that end in a comment, a number and a word, the last one empty; no newline at the end
+pub blocks-found : foundIn (codes "# a l" ∷ codes "ist\n\n1" ∷ codes "2 01000600\r\n7 0400" ∷ codes "0000" ∷ [] ∷ []) ≡ event 12 0x01000600 ∷ event 7 0x04000000 ∷ []
+unfolding opened
+blocks-found = refl
+
+pub malformed-between : foundIn (codes "5 01000600\n6 0" ∷ codes "\n7 04000000" ∷ []) ≡ event 5 0x01000600 ∷ meaning.Malformed ∷ event 7 0x04000000 ∷ []
+unfolding opened
+malformed-between = refl

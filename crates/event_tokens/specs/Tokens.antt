@@ -115,3 +115,18 @@ malformedLine text = malformedAt 1 (split newline text)
 -- what a check of the whole text tells
 abbrev pub toldBy : Checked → Value
 toldBy c = pick (endsWell c) none (some (c .line))
+
+-- ---- what a text means
+
+-- a line before others; one that means nothing is passed over
+abbrev pub listed : Meaning → List Meaning → List Meaning
+listed meaning.Nothing ms = ms
+listed (meaning.Event e) ms = meaning.Event e ∷ ms
+listed meaning.Malformed ms = meaning.Malformed ∷ ms
+
+unfoldable pub linesMeant : List (List ℕ) → List Meaning
+linesMeant [] = []
+linesMeant (l ∷ ls) = listed (lineMeant l) (linesMeant ls)
+
+abbrev pub textMeant : List ℕ → List Meaning
+textMeant text = linesMeant (split newline text)
