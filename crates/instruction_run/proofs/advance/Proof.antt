@@ -5,9 +5,9 @@ use borrow.Author.Tests.{eq-eqb, ne-eqb}
 use Rattle.chip.specs.State.{chipOf}
 use Rattle.machine.specs.Machine.{machine}
 use Rattle.register_cache.proofs.Chips.{changed-watchdog, watchdog-asked, changed-dac, dac-asked, changed-other}
-use Rattle.firmware_run.proofs.Running.{Running, measure, begin, finish, ticks, ticks-less, on, on-less, due, due-less, interrupts, interrupts-less, wrote, wrote-less, refused-write, refuses, waits, waits-less}
-use Rattle.firmware_run.proofs.advance.Statement.{statement}
-use Rattle.firmware_run.proofs.advance.Tie as tie
+use Rattle.instruction_run.proofs.Running.{Running, measure, begin, finish, ticks, ticks-less, on, on-less, due, due-less, interrupts, interrupts-less, wrote, wrote-less, refused-write, refuses, waits, waits-less}
+use Rattle.instruction_run.proofs.advance.Statement.{statement}
+use Rattle.instruction_run.proofs.advance.Tie as tie
 
 abbrev Inv-loop : tie.InvT-loop
 Inv-loop table registers₀ ram₀ rom from to seen₀ k₀ c₀ i₀ clocked₀ request₀ registers ram seen k c i clocked request =

@@ -31,10 +31,10 @@ use Rattle.machine.specs.Seen.{Knows, Waiting, knownReading}
 use Rattle.machine.proofs.Instructions.{Refuses, refusal, wait, written, Shows, shows}
 use Rattle.machine.proofs.Interrupts.{interrupt-is, interrupted-masks}
 use Rattle.machine.proofs.Turns.{taken-clear, runs-first, runs-interrupt}
-use Rattle.firmware_run.specs.declared.Interrupted.{Interrupted}
-use Rattle.firmware_run.specs.declared.Settled.{Settled}
+use Rattle.instruction_run.specs.declared.Interrupted.{Interrupted}
+use Rattle.instruction_run.specs.declared.Settled.{Settled}
 use Rattle.register_cache.specs.Cache.{noneSeen, ticked, seenAfterClock, coreAfterCycles}
-use Rattle.firmware_run.specs.Firmware.{afterInterrupted, settledEnd}
+use Rattle.instruction_run.specs.Instructions.{afterInterrupted, settledEnd}
 use Rattle.register_cache.proofs.Registers.{knows-none, knows-set, unseenOf, unseen-le, unseen-set}
 use Rattle.register_cache.proofs.Chips.{clock-chip, after-cycles, ticked-high, after-high, clock-requests, knows-clock, clock-length, Changed}
 
