@@ -185,7 +185,14 @@ fn advance(
                 },
             }
         } else {
-            k = register_cache::clock(seen, k);
+            // the clock with RESET high, in place: a call that gave the core back would copy all of it
+            let s = k.sync;
+            let counted = register_cache::count_period(seen, chip::hsel(k), s);
+            let b = k.bus;
+            let phase = b.phase;
+            let moved = edges::with_phase(b, ddc2b::phase_at_period(phase));
+            k.sync = counted;
+            k.bus = moved;
             clocked = true;
             i += 1;
         }
