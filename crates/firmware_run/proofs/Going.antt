@@ -23,9 +23,10 @@ use Rattle.machine.specs.Run.{numberOf, wordOf, occurred, fed, answersBefore, l
 use Rattle.machine.proofs.Turns.{Later, none, next-at, onEnded, split, runs-next}
 use Rattle.firmware_run.specs.declared.FirmwareResult.{FirmwareResult}
 use Rattle.firmware_run.specs.declared.Occurred.{Occurred}
-use Rattle.firmware_run.specs.declared.Settled.{Settled}
+use Rattle.instruction_run.specs.declared.Settled.{Settled}
+use Rattle.instruction_run.specs.Instructions.{settledEnd}
 use Rattle.register_cache.specs.Cache.{seenAfterEvent, noneSeen}
-use Rattle.firmware_run.specs.Firmware.{resultOf, occurredWith, until, settledEnd}
+use Rattle.firmware_run.specs.Firmware.{resultOf, occurredWith, until}
 use Rattle.register_cache.proofs.Registers.{knows-none}
 use Rattle.register_cache.proofs.Lines.{knows-event, event-length}
 

@@ -4,21 +4,14 @@ use mathlib.Core.List.{List, [], _∷_}
 use lib.Dec.{ltb}
 use Rattle.bits.specs.Byte.{pick}
 use Rattle.events.specs.Word.{decode}
-use Rattle.chip.specs.declared.Core.{Core}
 use Rattle.chip.specs.declared.Chip.{Chip}
-use Rattle.chip.specs.State.{chipOf}
 use Rattle.outcome.specs.Outcome.{next, wasReset}
 use Rattle.step.specs.Step.{answered}
 use Rattle.operations.specs.declared.Cpu.{Cpu}
-use Rattle.instruction.specs.Instruction.{interrupted, resetCpu}
-use Rattle.instruction_turn.specs.InstructionTurn.{cyclesWith, counted}
-use Rattle.machine.specs.Machine.{machine}
-use Rattle.machine.specs.Run.{numberOf, Ended, ended, Called}
-use Rattle.register_cache.specs.Cache.{coreAfterCycles}
+use Rattle.instruction.specs.Instruction.{resetCpu}
+use Rattle.machine.specs.Run.{numberOf, Called}
 use Rattle.firmware_run.specs.declared.FirmwareResult.{FirmwareResult}
-use Rattle.firmware_run.specs.declared.Interrupted.{Interrupted}
 use Rattle.firmware_run.specs.declared.Occurred.{Occurred}
-use Rattle.firmware_run.specs.declared.Settled.{Settled}
 
 -- what a call gives back, of what it comes to
 abbrev pub resultOf : Called → FirmwareResult
@@ -36,10 +29,3 @@ occurredWith rom c k w = record { cpu = pick (wasReset k (decode w)) (resetCpu r
 unfoldable pub until : ℕ → List ℕ → ℕ
 until n [] = n
 until n (e ∷ es) = pick (ltb (numberOf e) n) (numberOf e) n
-
-abbrev pub afterInterrupted : List ℕ → Core → Cpu → Interrupted
-afterInterrupted rom core c = record { cpu = counted (interrupted rom c); core = coreAfterCycles (cyclesWith (interrupted rom c)) core }
-
--- where instructions end, as the end of a run
-abbrev pub settledEnd : Settled → List ℕ → List ℕ → Ended
-settledEnd s ram registers = ended (machine (s .cpu) ram (chipOf registers (s .core))) (s .refusal) (s .number) []

@@ -4,7 +4,6 @@ ghost use mathlib.Core.Path.{_≡_};
 ghost use mathlib.Core.List.{[]};
 ghost use lib.ListN.{getD, set};
 ghost use Rattle.reads.specs.Reads.{reading};
-ghost use Rattle.outcome.specs.Outcome.{wasReset};
 ghost use Rattle.memory.specs.Memory.{stackPlace};
 ghost use Rattle.machine.specs.Machine.{machine, registerRead, load as loadOf, clockAfter};
 ghost use Rattle.machine.specs.Run.{firmware as firmwareOf};
@@ -14,8 +13,6 @@ use arithmetic::Flags;
 use chip::Chip;
 use events::Decoded;
 use events::PERIOD;
-use events::RESET;
-use events::WATCHDOG;
 use firmware_run::FirmwareResult;
 use memory::Loaded;
 use memory::Place;
@@ -63,29 +60,17 @@ pub fn power_up(rom: &[u8]) -> Cpu
 
 // ---- events
 
-fn resets(chip: Chip, event: Decoded) -> bool
-    ensures { λ r. ⌜ r ≡ wasReset chip event ⌝ }
-{
-    match event {
-        Decoded::Read(_) => false,
-        Decoded::Write(_, _) => false,
-        Decoded::Pin(p, level) => (p == RESET) & (chip.core.reset & !level),
-        Decoded::Clock(k) => chip.core.reset
-            & ((k == WATCHDOG) & counters::watchdog_fires(chip.core.watchdog)),
-        Decoded::Polarity(_, _) => false,
-        Decoded::Refused(_) => false,
-    }
-}
-
 // A word given to the chip; where it resets the chip, the CPU is reset too.
-// Wrong answers: the CPU reset as RESET rises; the CPU reset by an 8 µs clock.
+// Wrong answers: the CPU reset by all but what resets the chip; an 8 µs clock given for each word.
 pub fn give(cpu: Cpu, chip: Chip, rom: &[u8], word: u32) -> Given
     ensures { λ r. ⌜ r ≡ givenBy (now (rom .entry)) cpu chip word ⌝ }
 {
     let event = events::decode(word);
+    let registers = chip.registers;
+    let core = chip.core;
     let stepped = step::advance(chip, event);
     let after = stepped.chip;
-    if resets(chip, event) {
+    if firmware_run::was_reset(&registers, core, event) {
         Given {
             cpu: instruction::reset(cpu, rom),
             chip: after,
@@ -189,12 +174,6 @@ fn register_at(chip: Chip, r: u8) -> Loaded
     register_read(reads::read_register(&registers, core, r))
 }
 
-fn byte_at(rom: &[u8], i: usize) -> u8
-    ensures { λ r. ⌜ r ≡ getD (now (rom .entry)) i 0 ⌝ }
-{
-    if i < rom.len() { rom[i] } else { 0 }
-}
-
 // A read of the CPU at an address, as that of an opcode.
 // Wrong answers: 20 where nothing is mapped; the byte of a register that refuses the read.
 pub fn load(ram: &[u8; 256], rom: &[u8], chip: Chip, a: u16) -> Loaded
@@ -204,7 +183,7 @@ pub fn load(ram: &[u8; 256], rom: &[u8], chip: Chip, a: u16) -> Loaded
     match p {
         Place::Register(r) => register_at(chip, r as u8),
         Place::Ram(i) => Loaded::Byte(ram[i]),
-        Place::Rom(i) => Loaded::Byte(byte_at(rom, i)),
+        Place::Rom(i) => Loaded::Byte(memory::rom_byte(rom, i)),
         Place::Unmapped => Loaded::Refused(21),
     }
 }

@@ -11,6 +11,7 @@ use lib.Seq.{getD-set-other}
 use borrow.Author.Tests.{ne-eqb, eqb-true, eqb-false, ltb-true, ltb-false}
 use Rattle.bits.specs.Byte.{pick}
 use Rattle.bus.specs.declared.Phase.{Phase}
+use Rattle.chip.specs.declared.Bus.{Bus}
 use Rattle.registers.specs.Names.{CLRWDT, IEX}
 use Rattle.registers.specs.Table.{updated, readMask, isReadable, isWritable, rowOf, table}
 use Rattle.registers.proofs.Rules.{writable-register}
@@ -69,6 +70,12 @@ after-cycles t registers core = after-by (ltb t 32) registers core
 period : (core : Core) → core .reset ≡ true → ticked core ≡ periodClock core
 period core h = sym (clock-core-by true core h 0)
 
+-- counters and phase put anew, each in its place
+pub ticked-parts : (core : Core) → core .reset ≡ true → (hsel : Bool) → hsel ≡ hselOf core → (s : Sync) → s ≡ onPeriod hsel (core .sync)
+    → (p : Phase) → p ≡ phaseAtPeriod (core .bus .phase) → (b : Bus) → b ≡ withPhase (core .bus) p → withBus (withSync core s) b ≡ ticked core
+unfolding periodClock
+ticked-parts core h hsel e s u p v b w = rw (w, v, u, e) (sym (period core h))
+
 pub ticked-high : (core : Core) → core .reset ≡ true → ticked core .reset ≡ true
 unfolding periodClock
 ticked-high core h = ap (λ (c : Core). c .reset) (period core h) ∙ h
@@ -99,17 +106,16 @@ sync-readings : (registers : List ℕ) (core : Core) (s : Sync) (p : Phase) → 
 unfolding reading shown port0 port1 port2 port3 hvcon
 sync-readings registers core s p e₁ e₂ e₃ e₄ r = rw (e₁, e₂, e₃, e₄)
 
-same-readings : (registers : List ℕ) (core : Core) → core .reset ≡ true → sameCounts (core .sync) (ticked core .sync) ≡ true
+same-readings : (registers : List ℕ) (core : Core) → core .reset ≡ true → sameCounts (core .sync) (onPeriod (hselOf core) (core .sync)) ≡ true
     → (r : ℕ) → reading (chipOf registers (ticked core)) r ≡ reading (chipOf registers core) r
 unfolding sameCounts periodClock
 same-readings registers core h g r =
     let s = onPeriod (hselOf core) (core .sync) in
-    let z : sameCounts (core .sync) s ≡ true = ap (λ (c : Core). sameCounts (core .sync) (c .sync)) (sym (period core h)) ∙ g in
-    let w = all-by _ _ _ _ z in
+    let w = all-by _ _ _ _ g in
     ap (λ (c : Core). reading (chipOf registers c) r) (period core h)
     ∙ sync-readings registers core s (phaseAtPeriod (core .bus .phase)) (same-bool _ _ (w .0)) (same-bool _ _ (w .1)) (sym (eqb-true _ _ (w .2))) (sym (eqb-true _ _ (w .3))) r
 
-knows-clock-by : (b : Bool) (seen registers : List ℕ) (core : Core) → core .reset ≡ true → sameCounts (core .sync) (ticked core .sync) ≡ b → Knows seen (chipOf registers core)
+knows-clock-by : (b : Bool) (seen registers : List ℕ) (core : Core) → core .reset ≡ true → sameCounts (core .sync) (onPeriod (hselOf core) (core .sync)) ≡ b → Knows seen (chipOf registers core)
     → Knows (pick b seen noneSeen) (chipOf registers (ticked core))
 knows-clock-by true seen registers core h g k = knows-as seen (chipOf registers core) (chipOf registers (ticked core)) (same-readings registers core h g) k
 knows-clock-by false seen registers core h g k = knows-none (chipOf registers (ticked core))
@@ -118,17 +124,17 @@ pub clock-requests : (registers : List ℕ) (core : Core) → core .reset ≡ tr
 unfolding isRequesting periodClock
 clock-requests registers core h = ap (λ (c : Core). isRequesting (chipOf registers c)) (period core h)
 
-pub knows-clock : (seen registers : List ℕ) (core : Core) → core .reset ≡ true → Knows seen (chipOf registers core) → Knows (seenAfterClock seen core) (chipOf registers (ticked core))
+pub knows-clock : (seen registers : List ℕ) (core : Core) → core .reset ≡ true → Knows seen (chipOf registers core) → Knows (seenAfterClock seen (hselOf core) (core .sync)) (chipOf registers (ticked core))
 unfolding seenAfterClock
-knows-clock seen registers core h k = knows-clock-by (sameCounts (core .sync) (ticked core .sync)) seen registers core h refl k
+knows-clock seen registers core h k = knows-clock-by (sameCounts (core .sync) (onPeriod (hselOf core) (core .sync))) seen registers core h refl k
 
 clock-length-by : (b : Bool) (seen : List ℕ) → length seen ≡ 38 → length (pick b seen noneSeen) ≡ 38
 clock-length-by true seen l = l
 clock-length-by false seen l = refl
 
-pub clock-length : (seen : List ℕ) (core : Core) → length seen ≡ 38 → length (seenAfterClock seen core) ≡ 38
+pub clock-length : (seen : List ℕ) (hsel : Bool) (s : Sync) → length seen ≡ 38 → length (seenAfterClock seen hsel s) ≡ 38
 unfolding seenAfterClock
-clock-length seen core l = clock-length-by (sameCounts (core .sync) (ticked core .sync)) seen l
+clock-length seen hsel s l = clock-length-by (sameCounts s (onPeriod hsel s)) seen l
 
 -- ---- a write
 

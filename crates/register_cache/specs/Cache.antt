@@ -13,6 +13,7 @@ use Rattle.events.specs.Clocks as clock
 use Rattle.events.specs.declared.Decoded.{Decoded}
 use Rattle.events.specs.declared.Decoded.the-variants as event
 use Rattle.sync.specs.declared.Sync.{Sync}
+use Rattle.sync.specs.Sync.{onPeriod}
 use Rattle.chip.specs.declared.Core.{Core}
 use Rattle.chip.specs.State.{registerAt}
 use Rattle.writes.specs.declared.Target.{Target}
@@ -91,12 +92,13 @@ sameCounts s t =
     false)
     false
 
+-- a clock of 8 µs steps the counters: all stays known where the registers show the same of them, else nothing
+unfoldable pub seenAfterClock : List ℕ → Bool → Sync → List ℕ
+seenAfterClock seen hsel s = pick (sameCounts s (onPeriod hsel s)) seen noneSeen
+
 -- the core after a clock of 8 µs
 abbrev pub ticked : Core → Core
 ticked c = clocked 0 c clock.period
-
-unfoldable pub seenAfterClock : List ℕ → Core → List ℕ
-seenAfterClock seen c = pick (sameCounts (c .sync) (ticked c .sync)) seen noneSeen
 
 -- ---- parts of the chip's rules, as the code has them
 

@@ -3,14 +3,14 @@ ghost use mathlib.Core.Path.{_≡_};
 ghost use lib.ListN.{set};
 ghost use lib.Bits.{bitAnd};
 ghost use Rattle.registers.specs.Table.{updated as updatedOf};
+ghost use Rattle.sync.specs.Sync.{onPeriod};
 ghost use Rattle.chip.specs.State.{keep as keepOf, registerAt};
 ghost use Rattle.writes.specs.Writes.{written as writtenOf, storedBy};
 ghost use Rattle.machine.specs.Seen.{knownReading};
-ghost use Rattle.register_cache.specs.Cache.{noneSeen, portsForgotten, busForgotten, isBus, seenAfterEvent, isStored, seenAfterWrite, sameBool, sameCounts, ticked, seenAfterClock, isDac, seenAfterDac};
+ghost use Rattle.register_cache.specs.Cache.{noneSeen, portsForgotten, busForgotten, isBus, seenAfterEvent, isStored, seenAfterWrite, sameBool, sameCounts, seenAfterClock, isDac, seenAfterDac};
 use chip::Core;
 use chip::Kept;
 use events::Decoded;
-use events::PERIOD;
 use events::SCL;
 use events::SDA;
 use reads::Reading;
@@ -200,19 +200,17 @@ fn same_counts(s: Sync, t: Sync) -> bool
 
 // ---- changes of the chip
 
-// A clock of 8 µs.
+// The counters after a clock of 8 µs; where the registers then show something else of them, nothing stays known.
 // Wrong answers: the count of lines compared and not its latch; the same of periods.
-pub fn clock(seen: &mut [u16; 38], core: Core) -> Core
-    ensures { λ r. ⌜ (r ≡ ticked core) × (now (seen .exit) ≡ seenAfterClock (now (seen .entry)) core) ⌝ }
+pub fn count_period(seen: &mut [u16; 38], hsel: bool, s: Sync) -> Sync
+    ensures { λ r. ⌜ (r ≡ onPeriod hsel s) × (now (seen .exit) ≡ seenAfterClock (now (seen .entry)) hsel s) ⌝ }
 {
-    let before = core.sync;
-    let k = clocks::clocked(0, core, PERIOD);
-    let after = k.sync;
-    if same_counts(before, after) {
-        k
+    let after = sync::on_period(hsel, s);
+    if same_counts(s, after) {
+        after
     } else {
         forget(seen);
-        k
+        after
     }
 }
 

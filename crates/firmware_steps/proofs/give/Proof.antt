@@ -15,5 +15,5 @@ give-spec =
     (λ c κs. search needs)
     (λ c κs. search needs)
     (λ c κs. search needs)
-    (λ c. gives true _ _ _ _ _ (c .before .before .before .before .before .decode .ensures .0) _ (c .before .before .resets .ensures) (c .before .if1 .taken) _ (c .reset .ensures) _ (c .before .before .before .before .advance .ensures))
-    (λ c. gives false _ _ _ _ _ (c .before .before .before .before .decode .ensures .0) _ (c .before .resets .ensures) (c .if1 .left) _ refl _ (c .before .before .before .advance .ensures)))
+    (λ c. gives true _ _ _ _ _ (c .before .before .before .before .before .before .before .before .decode .ensures .0) _ (c .before .before .was-reset .ensures) (c .before .if1 .taken) _ (c .reset .ensures) _ (c .before .before .before .before .before .advance .ensures))
+    (λ c. gives false _ _ _ _ _ (c .before .before .before .before .before .before .before .decode .ensures .0) _ (c .before .was-reset .ensures) (c .if1 .left) _ refl _ (c .before .before .before .before .advance .ensures)))

@@ -8,11 +8,17 @@ use lib.Dec.{eqb, ltb}
 use lib.ListN.{length, set, length-set}
 use borrow.Author.Tests.{lt-ltb, le-ltb}
 use Rattle.bits.specs.Byte.{pick}
+use Rattle.bus.specs.declared.Phase.{Phase}
+use Rattle.chip.specs.declared.Bus.{Bus}
+use Rattle.ddc2b.specs.Ddc2b.{phaseAtPeriod}
+use Rattle.sync.specs.declared.Sync.{Sync}
+use Rattle.sync.specs.Sync.{onPeriod}
 use Rattle.events.specs.Clocks as clock
 use Rattle.events.specs.declared.Decoded.the-variants as event
 use Rattle.chip.specs.declared.Core.{Core}
 use Rattle.chip.specs.declared.Chip.{Chip}
-use Rattle.chip.specs.State.{chipOf, withWatchdog}
+use Rattle.chip.specs.State.{chipOf, hselOf, withSync, withBus}
+use Rattle.edges.specs.Edges.{withPhase}
 use Rattle.reads.specs.declared.Reading.{Reading}
 use Rattle.reads.specs.Reads.{reading}
 use Rattle.writes.specs.Writes.{writeNumber}
@@ -31,12 +37,12 @@ use Rattle.machine.specs.Seen.{Knows, Waiting, knownReading}
 use Rattle.machine.proofs.Instructions.{Refuses, refusal, wait, written, Shows, shows}
 use Rattle.machine.proofs.Interrupts.{interrupt-is, interrupted-masks}
 use Rattle.machine.proofs.Turns.{taken-clear, runs-first, runs-interrupt}
-use Rattle.firmware_run.specs.declared.Interrupted.{Interrupted}
-use Rattle.firmware_run.specs.declared.Settled.{Settled}
+use Rattle.instruction_run.specs.declared.Interrupted.{Interrupted}
+use Rattle.instruction_run.specs.declared.Settled.{Settled}
 use Rattle.register_cache.specs.Cache.{noneSeen, ticked, seenAfterClock, coreAfterCycles}
-use Rattle.firmware_run.specs.Firmware.{afterInterrupted, settledEnd}
+use Rattle.instruction_run.specs.Instructions.{afterInterrupted, settledEnd}
 use Rattle.register_cache.proofs.Registers.{knows-none, knows-set, unseenOf, unseen-le, unseen-set}
-use Rattle.register_cache.proofs.Chips.{clock-chip, after-cycles, ticked-high, after-high, clock-requests, knows-clock, clock-length, Changed}
+use Rattle.register_cache.proofs.Chips.{clock-chip, after-cycles, ticked-parts, ticked-high, after-high, clock-requests, knows-clock, clock-length, Changed}
 
 -- the run from instruction i on; where `clocked` is false that instruction is done but for a clock of 8 µs, which is due
 abbrev pub remaining : List ℕ → ℕ → Bool → Machine → ℕ → Ended
@@ -110,23 +116,26 @@ module _ (rom : List ℕ) (from to : ℕ) (start : Machine) (ram seen registers 
   module _ (l : i < to) where
     -- the clock
     module _ (e : clocked ≡ false) where
-      ticks-at : Running rom from to start ram (seenAfterClock seen core) registers (ticked core) c (i + 1) true request
+      ticks-at : Running rom from to start ram (seenAfterClock seen (hselOf core) (core .sync)) registers (ticked core) c (i + 1) true request
       ticks-at =
           record {
             small = h .small;
             total = ap (λ (x : Chip). runs (to - (i + 1)) (i + 1) rom [] (machine c ram x)) (sym (clock-chip registers core)) ∙ (rw e at (h .total));
             knows = knows-clock seen registers core (h .high) (h .knows);
-            size = clock-length seen core (h .size);
+            size = clock-length seen (hselOf core) (core .sync) (h .size);
             high = ticked-high core (h .high);
             asked = h .asked ∙ sym (clock-requests registers core (h .high));
             begun = λ z. absurd (true≢false z);
           }
 
-      pub ticks : (core′ : Core) (seen′ : List ℕ) → core′ ≡ ticked core → seen′ ≡ seenAfterClock seen core → Running rom from to start ram seen′ registers core′ c (i + 1) true request
-      ticks core′ seen′ x y = rw (x, y) ticks-at
+      module _ (hsel : Bool) (x : hsel ≡ hselOf core) (seen′ : List ℕ) (y : seen′ ≡ seenAfterClock seen hsel (core .sync)) where
+        -- counters and phase are put anew in the core
+        pub ticks : (s : Sync) → s ≡ onPeriod hsel (core .sync) → (p : Phase) → p ≡ phaseAtPeriod (core .bus .phase) → (b : Bus) → b ≡ withPhase (core .bus) p
+            → Running rom from to start ram seen′ registers (withBus (withSync core s) b) c (i + 1) true request
+        ticks s u p v b w = rw (ticked-parts core (h .high) hsel x s u p v b w, y, x) ticks-at
 
-      pub ticks-less : (core′ : Core) (seen′ : List ℕ) → core′ ≡ ticked core → seen′ ≡ seenAfterClock seen core → measure to (i + 1) true c seen′ < measure to i clocked c seen
-      ticks-less core′ seen′ x y = rw e (omega (arith, l, clear-le c, unseen-38 seen′ (ticks core′ seen′ x y .size)))
+        pub ticks-less : measure to (i + 1) true c seen′ < measure to i clocked c seen
+        ticks-less = rw e (omega (arith, l, clear-le c, unseen-38 seen′ (rw y (clock-length seen hsel (core .sync) (h .size)))))
 
     -- a turn
     module _ (e : clocked ≡ true) (table : List ℕ) (tabled : table ≡ opcodes) (t : Turn) (ram′ : List ℕ) (p : t ≡ turnOf table seen rom request c ram) (p′ : ram′ ≡ ramAfter table seen rom request c ram) where

@@ -1,6 +1,6 @@
 use borrow.Author.Needs.{needs}
-use Rattle.firmware_run.proofs.number_after.Statement.{statement}
-use Rattle.firmware_run.proofs.number_after.Tie as tie
+use Rattle.instruction_run.proofs.number_after.Statement.{statement}
+use Rattle.instruction_run.proofs.number_after.Tie as tie
 
 pub number-after-spec : {M : Type 1} → statement M
 number-after-spec =

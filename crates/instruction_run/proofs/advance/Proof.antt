@@ -5,9 +5,9 @@ use borrow.Author.Tests.{eq-eqb, ne-eqb}
 use Rattle.chip.specs.State.{chipOf}
 use Rattle.machine.specs.Machine.{machine}
 use Rattle.register_cache.proofs.Chips.{changed-watchdog, watchdog-asked, changed-dac, dac-asked, changed-other}
-use Rattle.firmware_run.proofs.Running.{Running, measure, begin, finish, ticks, ticks-less, on, on-less, due, due-less, interrupts, interrupts-less, wrote, wrote-less, refused-write, refuses, waits, waits-less}
-use Rattle.firmware_run.proofs.advance.Statement.{statement}
-use Rattle.firmware_run.proofs.advance.Tie as tie
+use Rattle.instruction_run.proofs.Running.{Running, measure, begin, finish, ticks, ticks-less, on, on-less, due, due-less, interrupts, interrupts-less, wrote, wrote-less, refused-write, refuses, waits, waits-less}
+use Rattle.instruction_run.proofs.advance.Statement.{statement}
+use Rattle.instruction_run.proofs.advance.Tie as tie
 
 abbrev Inv-loop : tie.InvT-loop
 Inv-loop table registers₀ ram₀ rom from to seen₀ k₀ c₀ i₀ clocked₀ request₀ registers ram seen k c i clocked request =
@@ -65,7 +65,10 @@ advance-spec =
     (λ c. waits-less _ _ _ _ _ _ _ _ _ _ _ _ (c .before .before .before .before .before .before .before .before .before .before .before .before .before .before .loop .inv) (c .before .before .before .before .before .before .before .before .before .before .before .before .before .loop-test .taken) (c .before .before .before .before .before .before .before .before .before .before .before .before .if1 .taken) _ (c .before .before .before .before .before .before .before .before .before .before .before .before .before .before .before .before .before .before .pre .0) _ _ (c .before .before .before .before .before .before .before .before .before .turn-of .ensures .0) (c .before .before .before .before .before .before .before .before .before .turn-of .ensures .1) _ (c .before .before .before .before .before .before .before .t4 .given .1) (c .before .before .before .before .before .if5 .left) _ (c .before .before .before .read-register .ensures) _ (c .before .known-reading .ensures) _ (c .note .ensures))
     (λ c. waits _ _ _ _ _ _ _ _ _ _ _ _ (c .before .before .before .before .before .before .before .before .before .before .before .before .before .before .loop .inv) (c .before .before .before .before .before .before .before .before .before .before .before .before .before .loop-test .taken) (c .before .before .before .before .before .before .before .before .before .before .before .before .if1 .taken) _ (c .before .before .before .before .before .before .before .before .before .before .before .before .before .before .before .before .before .before .pre .0) _ _ (c .before .before .before .before .before .before .before .before .before .turn-of .ensures .0) (c .before .before .before .before .before .before .before .before .before .turn-of .ensures .1) _ (c .before .before .before .before .before .before .before .t4 .given .1) (c .before .before .before .before .before .if5 .left) _ (c .before .before .before .read-register .ensures) _ (c .before .known-reading .ensures) _ (c .note .ensures))
     (λ c κs. search needs)
-    (λ c. omega (arith, c .before .before .before .before .loop .inv .small, c .before .before .before .loop-test .taken))
-    (λ c. ticks-less _ _ _ _ _ _ _ _ _ _ _ _ (c .before .before .before .before .loop .inv) (c .before .before .before .loop-test .taken) (c .before .before .if1 .left) _ _ (c .clock .ensures .0) (c .clock .ensures .1))
-    (λ c. ticks _ _ _ _ _ _ _ _ _ _ _ _ (c .before .before .before .before .loop .inv) (c .before .before .before .loop-test .taken) (c .before .before .if1 .left) _ _ (c .clock .ensures .0) (c .clock .ensures .1))
+    (λ c κs. search needs)
+    (λ c κs. search needs)
+    (λ c κs. search needs)
+    (λ c. omega (arith, c .before .before .before .before .before .before .before .before .before .loop .inv .small, c .before .before .before .before .before .before .before .before .loop-test .taken))
+    (λ c. ticks-less _ _ _ _ _ _ _ _ _ _ _ _ (c .before .before .before .before .before .before .before .before .before .loop .inv) (c .before .before .before .before .before .before .before .before .loop-test .taken) (c .before .before .before .before .before .before .before .if1 .left) _ (c .before .before .before .before .hsel .ensures) _ (c .before .before .before .count-period .ensures .1))
+    (λ c. ticks _ _ _ _ _ _ _ _ _ _ _ _ (c .before .before .before .before .before .before .before .before .before .loop .inv) (c .before .before .before .before .before .before .before .before .loop-test .taken) (c .before .before .before .before .before .before .before .if1 .left) _ (c .before .before .before .before .hsel .ensures) _ (c .before .before .before .count-period .ensures .1) _ (c .before .before .before .count-period .ensures .0) _ (c .before .phase-at-period .ensures) _ (c .with-phase .ensures))
     (λ c. (finish _ _ _ _ _ _ _ _ _ _ _ _ (c .before .loop .inv) (c .loop-test .left), c .before .loop .inv .knows, c .before .loop .inv .size)))
