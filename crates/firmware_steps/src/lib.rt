@@ -2,7 +2,7 @@
 // between (document 02, Wish 5).
 ghost use mathlib.Core.Path.{_≡_};
 ghost use mathlib.Core.List.{[]};
-ghost use lib.ListN.{getD, set};
+ghost use lib.ListN.{set};
 ghost use Rattle.reads.specs.Reads.{reading};
 ghost use Rattle.memory.specs.Memory.{stackPlace};
 ghost use Rattle.machine.specs.Machine.{machine, registerRead, load as loadOf, clockAfter};

@@ -22,5 +22,5 @@ load-spec =
     (λ c. search needs)
     (λ c. simp (← (c .before .before .before .before .place-of .ensures .0), c .before .before .p .given .1, c .register-at .ensures))
     (λ c. simp (← (c .before .before .before .before .place-of .ensures .0), c .before .before .p2 .given .1))
-    (λ c. simp (← (c .before .before .before .before .place-of .ensures .0), c .before .before .p3 .given .1, c .byte-at .ensures))
+    (λ c. simp (← (c .before .before .before .before .place-of .ensures .0), c .before .before .p3 .given .1, c .rom-byte .ensures))
     (λ c. simp (← (c .before .before .place-of .ensures .0), c .enum-told .given .1)))
