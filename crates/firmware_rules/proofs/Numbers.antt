@@ -1,11 +1,10 @@
 -- The numbers of refusals: which there are, when each is given, and what a refusal leaves.
-use Prim.Native.Nat.{ℕ, zero, suc, _+_, _-_, _<_}
+use Prim.Native.Nat.{ℕ, zero, suc, _+_}
 use mathlib.Core.Path.{_≡_, refl, ap, sym, _∙_}
 use mathlib.Core.Bool.{Bool, true, false, not, true≢false}
 use mathlib.Core.List.{List, [], _∷_}
-use native.Mathlib.Omega.{arith}
-use lib.Dec.{eqb, ltb}
-use borrow.Author.Tests.{eqb-true, lt-ltb, le-ltb}
+use lib.Dec.{eqb}
+use borrow.Author.Tests.{eqb-true}
 use Rattle.bits.specs.Byte.{pick}
 use Rattle.registers.specs.Table.{isReadable, isWritable}
 use Rattle.chip.specs.declared.Chip.{Chip}
@@ -20,6 +19,7 @@ use Rattle.memory.specs.declared.Place.the-variants as at
 use Rattle.memory.specs.declared.Store.{Store}
 use Rattle.memory.specs.declared.Store.the-variants as store
 use Rattle.memory.specs.Memory.{place, stack, isStackPlace, afterPush}
+use Rattle.memory.proofs.Places.{stack-leads}
 use Rattle.memory.specs.Reads.{Result, gives, refuses, onByte}
 use Rattle.instruction.specs.declared.Effect.{Effect}
 use Rattle.instruction.specs.Program.{Instruction, leaves, rejected, reads, pushes, perform, readAt, lastAccess, behindByte, accesses}
@@ -54,16 +54,9 @@ store-number e m (store.PushOne s b) = refl
 store-number e m (store.PushTwo s b c) = refl
 store-number e m (store.PushThree s b c d) = refl
 
-stack-by : (reset b : Bool) (s : ℕ) → s < 256
-    → writtenNumber reset (pick (ltb (stack s) 0xA000) (pick b (pick (ltb (stack s) 0x80) (pick (ltb (stack s) 0x26) (at.Register (stack s)) at.Unmapped) (at.Ram (stack s - 0x80)))
-    (pick (ltb (stack s) 0x200) (at.Ram (stack s - 0x180)) at.Unmapped)) (at.Rom (stack s - 0xA000))) ≡ 0
-stack-by reset true s h = rw (lt-ltb (stack s) 0xA000 (omega arith), le-ltb (stack s) 0x80 (omega arith))
-stack-by reset false s h = rw (lt-ltb (stack s) 0xA000 (omega arith), lt-ltb (stack s) 0x200 (omega arith))
-
 -- the stack is RAM
-stack-number : (reset : Bool) (s : ℕ) → s < 256 → writtenNumber reset (place (stack s)) ≡ 0
-unfolding place
-stack-number reset s h = stack-by reset (ltb (stack s) 0x180) s h
+stack-number : (reset : Bool) (s : ℕ) → writtenNumber reset (place (stack s)) ≡ 0
+stack-number reset s = rw (stack-leads s)
 
 zero-or : (n : ℕ) (t : Bool) → eqb n 0 ≡ t → n ≡ pick t 0 n
 zero-or n true h = eqb-true n 0 h
@@ -75,32 +68,32 @@ byte-number : (f : ℕ → Loaded) (a : ℕ) (k : ℕ → Instruction) (m : Mach
 byte-number f a k m (Byte b) h = h b
 byte-number f a k m (Refused n) h = zero-or n (eqb n 0) refl
 
-regular-number : (over : ℕ) (f : ℕ → Loaded) (t : Instruction) (m : Machine) → Regular true over t
+regular-number : (over : ℕ) (f : ℕ → Loaded) (t : Instruction) (m : Machine) → Regular over t
     → completed (perform f t) m .number ≡ firstRefused (m .chip .core .reset) (accesses f t)
 unfolding perform accesses
 regular-number over f (leaves e) m r = store-number e m (e .store)
 regular-number over f rejected m r = absurd r
 regular-number over f (reads a k) m r = byte-number f a k m (f a) (λ (b : ℕ). regular-number over f (k b) m (r b))
-regular-number over f (pushes s b t) m r = rw (stack-number (m .chip .core .reset) s (r .0 refl)) (regular-number over (afterPush s b f) t m (r .1))
+regular-number over f (pushes s b t) m r = rw (stack-number (m .chip .core .reset) s) (regular-number over (afterPush s b f) t m r)
 
-documented-by : (f : ℕ → Loaded) (a opcode : ℕ) (c : Cpu) (m : Machine) → c .s < 256 → (d : Bool) → isDocumented (operationOf (entryOf opcode)) ≡ d
+documented-by : (f : ℕ → Loaded) (a opcode : ℕ) (c : Cpu) (m : Machine) (d : Bool) → isDocumented (operationOf (entryOf opcode)) ≡ d
     → completed (perform f (instructionOf (entryOf opcode) c)) m .number ≡ pick (not d) 20 (firstRefused (m .chip .core .reset) (accesses f (instructionOf (entryOf opcode) c)))
 unfolding perform
-documented-by f a opcode c m s true h = regular-number (c .over) f (instructionOf (entryOf opcode) c) m (documented-regular true opcode c h (λ (k : true ≡ true). s))
-documented-by f a opcode c m s false h = rw (undocumented-rejected opcode c h)
+documented-by f a opcode c m true h = regular-number (c .over) f (instructionOf (entryOf opcode) c) m (documented-regular opcode c h)
+documented-by f a opcode c m false h = rw (undocumented-rejected opcode c h)
 
-opcode-number : (f : ℕ → Loaded) (a : ℕ) (c : Cpu) (m : Machine) → c .s < 256 → (l : Loaded)
+opcode-number : (f : ℕ → Loaded) (a : ℕ) (c : Cpu) (m : Machine) (l : Loaded)
     → completed (onByte l (λ (b : ℕ). perform f (instructionOf (entryOf b) c))) m .number
     ≡ pick (isUndocumented (readAt a l ∷ behindByte l (λ (b : ℕ). accesses f (instructionOf (entryOf b) c)))) 20
     (firstRefused (m .chip .core .reset) (readAt a l ∷ behindByte l (λ (b : ℕ). accesses f (instructionOf (entryOf b) c))))
-opcode-number f a c m s (Byte b) = documented-by f a b c m s (isDocumented (operationOf (entryOf b))) refl
-opcode-number f a c m s (Refused n) = zero-or n (eqb n 0) refl
+opcode-number f a c m (Byte b) = documented-by f a b c m (isDocumented (operationOf (entryOf b))) refl
+opcode-number f a c m (Refused n) = zero-or n (eqb n 0) refl
 
 -- An instruction is refused with 20 where the opcode fetched is not documented, else with the number of its first access that fails; its
 -- number is 0 where none fails
-pub instruct-number : (rom : List ℕ) (m : Machine) → m .cpu .s < 256 → instruct rom m .number ≡ instructionNumber rom m
+pub instruct-number : (rom : List ℕ) (m : Machine) → instruct rom m .number ≡ instructionNumber rom m
 unfolding instruct madeBy perform accesses instructionBy entryOf
-instruct-number rom m s = opcode-number (load (m .ram) (m .chip) rom) (m .cpu .pc) (m .cpu) m s (load (m .ram) (m .chip) rom (m .cpu .pc))
+instruct-number rom m = opcode-number (load (m .ram) (m .chip) rom) (m .cpu .pc) (m .cpu) m (load (m .ram) (m .chip) rom (m .cpu .pc))
 
 -- ---- the numbers that there are
 
