@@ -22,7 +22,7 @@ use Rattle.memory.specs.Memory.{place, stack, isStackPlace, afterPush}
 use Rattle.memory.proofs.Places.{stack-leads}
 use Rattle.memory.specs.Reads.{Result, gives, refuses, onByte}
 use Rattle.instruction.specs.declared.Effect.{Effect}
-use Rattle.instruction.specs.Program.{Instruction, leaves, rejected, reads, pushes, perform, readAt, lastAccess, behindByte, accesses}
+use Rattle.instruction.specs.Program.{Instruction, leaves, rejected, reads, pushes, perform, Access, readAt, lastAccess, behindByte, accesses}
 use Rattle.instruction.specs.Instruction.{instruction, instructionBy, instructionOf, interrupted}
 use Rattle.execution.specs.declared.Destination.{Destination}
 use Rattle.execution.specs.declared.Destination.the-variants as to
@@ -94,6 +94,75 @@ opcode-number f a c m (Refused n) = zero-or n (eqb n 0) refl
 pub instruct-number : (rom : List ℕ) (m : Machine) → instruct rom m .number ≡ instructionNumber rom m
 unfolding instruct madeBy perform accesses instructionBy entryOf
 instruct-number rom m = opcode-number (load (m .ram) (m .chip) rom) (m .cpu .pc) (m .cpu) m (load (m .ram) (m .chip) rom (m .cpu .pc))
+
+-- ---- no access fails with 20
+
+abbrev NotTwenty : Loaded → Type 0
+NotTwenty (Byte b) = Unit {0}
+NotTwenty (Refused n) = eqb n 20 ≡ false
+
+read-by : (z t : Bool) (n : ℕ) → NotTwenty (registerRead (pick z (pick t (readingOf 0 n) (readingOf 5 0)) (readingOf 4 0)))
+read-by true true n = tt
+read-by true false n = refl
+read-by false t n = refl
+
+load-other : (ram rom : List ℕ) (k : Chip) (q : Place) → NotTwenty (loadAt ram k rom q)
+unfolding reading
+load-other ram rom k (at.Register r) = read-by (k .core .reset) (isReadable r) _
+load-other ram rom k (at.Ram i) = tt
+load-other ram rom k (at.Rom i) = tt
+load-other ram rom k at.Unmapped = refl
+
+other-pushed : (t : Bool) (b : ℕ) (l : Loaded) → NotTwenty l → NotTwenty (pick t (Byte b) l)
+other-pushed true b l h = tt
+other-pushed false b l h = h
+
+register-other : (z t : Bool) → eqb (pick z (pick t 0 6) 4) 20 ≡ false
+register-other true true = refl
+register-other true false = refl
+register-other false t = refl
+
+written-other : (reset : Bool) (q : Place) → eqb (writtenNumber reset q) 20 ≡ false
+unfolding writeNumber
+written-other reset (at.Register r) = register-other reset (isWritable r)
+written-other reset (at.Ram i) = refl
+written-other reset (at.Rom i) = refl
+written-other reset at.Unmapped = refl
+
+pick-other : (t : Bool) (a b : ℕ) → eqb a 20 ≡ false → eqb b 20 ≡ false → eqb (pick t a b) 20 ≡ false
+pick-other true a b h g = h
+pick-other false a b h g = g
+
+byte-other : (reset : Bool) (a : ℕ) (l : Loaded) (k : ℕ → List Access) → NotTwenty l → ((b : ℕ) → eqb (firstRefused reset (k b)) 20 ≡ false)
+    → eqb (firstRefused reset (readAt a l ∷ behindByte l k)) 20 ≡ false
+byte-other reset a (Byte b) k h g = g b
+byte-other reset a (Refused n) k h g = pick-other (eqb n 0) 0 n refl h
+
+last-other : (reset : Bool) (s : Store) → eqb (firstRefused reset (lastAccess s)) 20 ≡ false
+last-other reset store.Nothing = refl
+last-other reset (store.Byte a b) = pick-other (eqb (writtenNumber reset (place a)) 0) 0 (writtenNumber reset (place a)) refl (written-other reset (place a))
+last-other reset (store.PushOne s b) = refl
+last-other reset (store.PushTwo s b c) = refl
+last-other reset (store.PushThree s b c d) = refl
+
+accesses-other : (reset : Bool) (f : ℕ → Loaded) → ((a : ℕ) → NotTwenty (f a)) → (t : Instruction) → eqb (firstRefused reset (accesses f t)) 20 ≡ false
+unfolding accesses afterPush
+accesses-other reset f h (leaves e) = last-other reset (e .store)
+accesses-other reset f h rejected = refl
+accesses-other reset f h (reads a k) = byte-other reset a (f a) (λ (b : ℕ). accesses f (k b)) (h a) (λ (b : ℕ). accesses-other reset f h (k b))
+accesses-other reset f h (pushes s b t) =
+    rw (stack-number reset s) (accesses-other reset (afterPush s b f) (λ (a : ℕ). other-pushed (isStackPlace s (place a)) b (f a) (h a)) t)
+
+twenty-by : (t : Bool) (n : ℕ) → eqb n 20 ≡ false → pick t 20 n ≡ 20 → t ≡ true
+twenty-by true n h e = refl
+twenty-by false n h e = absurd (true≢false (sym (ap (λ (a : ℕ). eqb a 20) e) ∙ h))
+
+-- an instruction has the number 20 where its opcode is not documented, and in no other case
+pub only-undocumented : (rom : List ℕ) (m : Machine) → instructionNumber rom m ≡ 20 → isUndocumented (madeBy rom m) ≡ true
+unfolding madeBy load
+only-undocumented rom m h =
+    twenty-by (isUndocumented (madeBy rom m)) (firstRefused (m .chip .core .reset) (madeBy rom m))
+    (accesses-other (m .chip .core .reset) (load (m .ram) (m .chip) rom) (λ (a : ℕ). load-other (m .ram) rom (m .chip) (place a)) (instruction (m .cpu))) h
 
 -- ---- the numbers that there are
 
