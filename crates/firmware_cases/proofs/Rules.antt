@@ -3,6 +3,7 @@ use Prim.Native.Nat.{ℕ}
 use mathlib.Core.Path.{_≡_, refl}
 use mathlib.Core.Bool.{Bool, true}
 use mathlib.Core.List.{List, [], _∷_}
+use native.Mathlib.Omega.{arith}
 use lib.ListN.{getD, length}
 use Rattle.memory.specs.declared.Loaded.the-variants.{Byte}
 use Rattle.memory.specs.declared.Place.the-variants.{Register, Ram, Rom, Unmapped}
@@ -14,6 +15,8 @@ use Rattle.firmware_isolation.specs.Trace.{turnAccesses}
 use Rattle.firmware_rules.specs.History.{Given, listed, clocked, history, cyclesCounted}
 use Rattle.firmware_rules.specs.Numbers.{madeBy}
 use Rattle.firmware_rules.specs.Parts.{renumbered}
+use Rattle.firmware_rules.specs.Refusals.{turnNumber, refusedPast}
+use Rattle.firmware_rules.proofs.Refusals.{run-refused-at}
 use Rattle.firmware_cases.specs.Firmware.{cpu, ram, startedChip, startedMachine, requestingMachine, stackMachine, indexMachine, over31Machine, over32Cpu, event, polling, pollingRom}
 use Rattle.firmware_cases.proofs.Opened.{opened}
 use Rattle.firmware_cases.proofs.Holds.{rom-length}
@@ -107,6 +110,22 @@ pub refused-not-counted : _≡_ {A = List Given × ℕ × ℕ} (history 2 0 (0x8
     (listed 0x02001200 ∷ [], 3, 1)
 unfolding opened
 refused-not-counted = refl
+
+-- the same with a listed write before each of three instructions: those before the refused one, number 1, are given, and longer runs stop there
+abbrev stopping : List ℕ
+stopping = 0x85 ∷ 0x80 ∷ 0x85 ∷ 0x0E ∷ []
+
+abbrev threeEvents : List ℕ
+threeEvents = event 0 0x02001200 ∷ event 1 0x02001200 ∷ event 2 0x02001200 ∷ []
+
+pub longer-stops : runs 9 0 stopping threeEvents startedMachine ≡ refusedPast 1 0 stopping threeEvents startedMachine
+unfolding opened turnNumber
+longer-stops = run-refused-at 1 9 0 stopping threeEvents startedMachine (omega arith) refl refl
+
+pub stops-there : (refusedPast 1 0 stopping threeEvents startedMachine .number ∷ refusedPast 1 0 stopping threeEvents startedMachine .next ∷ length (refusedPast 1 0 stopping threeEvents startedMachine .answers) ∷ [])
+    ≡ 6 ∷ 1 ∷ 2 ∷ []
+unfolding opened turnNumber refusedPast
+stops-there = refl
 
 -- an interrupt with D and C set: PC A000 and P with bit 5 are pushed, I is set and D kept, seven cycles; then the opcode at 0000, FFH by the
 -- vector of this ROM, is refused, and the interrupt stays

@@ -1,8 +1,8 @@
--- The firmware call: each number exactly when, what a refusal leaves, and a call taken in two parts.
-use Prim.Native.Nat.{ℕ, zero, suc, _+_, _-_, _<_}
+-- The firmware call: 8, 22 and 7 exactly when, and a call taken in two parts.
+use Prim.Native.Nat.{ℕ, zero, suc, _+_}
 use mathlib.Core.Path.{_≡_, refl, ap, ap₂, sym, _∙_}
 use mathlib.Core.Bool.{Bool, true, false, not, true≢false}
-use mathlib.Core.List.{List, [], _∷_, _++_, append-assoc, append-nil}
+use mathlib.Core.List.{List, [], _∷_, _++_, append-assoc}
 use mathlib.Core.Logic.{_⊎_, inl, inr}
 use native.Mathlib.Omega.{arith}
 use lib.Dec.{eqb, ltb}
@@ -12,12 +12,12 @@ use borrow.Author.Tests.{le-ltb, ltb-false}
 use Rattle.bits.specs.Byte.{pick}
 use Rattle.chip.specs.declared.Chip.{Chip}
 use Rattle.operations.specs.declared.Cpu.{Cpu}
-use Rattle.machine.specs.Machine.{Machine, machine, afterInterrupt, turn}
-use Rattle.machine.specs.Run.{fed, answersBefore, left, Ended, ended, prepended, runs, Called, notRun, called, isWellFormed, firmware}
+use Rattle.machine.specs.Machine.{machine}
+use Rattle.machine.specs.Run.{Ended, runs, Called, notRun, called, isWellFormed, firmware}
 use Rattle.firmware_rules.specs.Parts.{renumbered, followed, followedCall, callingOn, callInParts}
-use Rattle.firmware_rules.proofs.Numbers.{write-only, read-only, not-documented, not-mapped, RunNumber, none, refusal, run-number, turn-refused}
+use Rattle.firmware_rules.proofs.Numbers.{write-only, read-only, not-documented, not-mapped, RunNumber, none, refusal, run-number}
 use Rattle.firmware_rules.proofs.Clocks.{run-well-formed}
-use Rattle.firmware_rules.proofs.Parts.{left-dropped, run-in-parts}
+use Rattle.firmware_rules.proofs.Parts.{run-in-parts}
 
 -- ---- before anything runs
 
@@ -62,23 +62,23 @@ module _ (c : Cpu) (ram rom : List ℕ) (k : Chip) (es places : List ℕ) (n : �
   not-by (refusal not-mapped) i (inr (inl h)) e = omega arith
   not-by (refusal not-mapped) i (inr (inr h)) e = omega arith
 
-  -- the number by the three tests
-  abbrev byTests : Bool → Bool → Bool → ℕ
-  byTests w r p = pick w (pick r (pick p (notRun 7 c ram k places) (called (runs n 0 rom es (machine c ram k)) places)) (notRun 22 c ram k places)) (notRun 8 c ram k places) .number
+  -- the call by the three tests
+  abbrev tested : Bool → Bool → Bool → Called
+  tested w r p = pick w (pick r (pick p (notRun 7 c ram k places) (called (runs n 0 rom es (machine c ram k)) places)) (notRun 22 c ram k places)) (notRun 8 c ram k places)
 
-  eight-by : (w r p : Bool) → byTests w r p ≡ 8 → w ≡ false
+  eight-by : (w r p : Bool) → tested w r p .number ≡ 8 → w ≡ false
   eight-by true true true h = absurd (omega arith)
   eight-by true true false h = absurd (not-by (run-number n 0 rom es (machine c ram k)) 8 (inr (inl refl)) h)
   eight-by true false p h = absurd (omega arith)
   eight-by false r p h = refl
 
-  twenty-two-by : (w r p : Bool) → byTests w r p ≡ 22 → (w ≡ true) × (r ≡ false)
+  twenty-two-by : (w r p : Bool) → tested w r p .number ≡ 22 → (w ≡ true) × (r ≡ false)
   twenty-two-by true true true h = absurd (omega arith)
   twenty-two-by true true false h = absurd (not-by (run-number n 0 rom es (machine c ram k)) 22 (inr (inr refl)) h)
   twenty-two-by true false p h = (refl, refl)
   twenty-two-by false r p h = absurd (omega arith)
 
-  seven-by : (w r p : Bool) → byTests w r p ≡ 7 → (w ≡ true) × (r ≡ true) × (p ≡ true)
+  seven-by : (w r p : Bool) → tested w r p .number ≡ 7 → (w ≡ true) × (r ≡ true) × (p ≡ true)
   seven-by true true true h = (refl, refl, refl)
   seven-by true true false h = absurd (not-by (run-number n 0 rom es (machine c ram k)) 7 (inl refl) h)
   seven-by true false p h = absurd (omega arith)
@@ -97,12 +97,22 @@ module _ (c : Cpu) (ram rom : List ℕ) (k : Chip) (es places : List ℕ) (n : �
   unfolding firmware
   only-few-places h = seven-by (isWellFormed c k) (eqb (length rom) 24576) (ltb (length places) (length es)) h
 
+  run-by : (w r p : Bool) → RunNumber (tested w r p .number) → (w ≡ true) × (r ≡ true) × (p ≡ false)
+  run-by true true true h = absurd (not-by h 7 (inl refl) refl)
+  run-by true true false h = (refl, refl, refl)
+  run-by true false p h = absurd (not-by h 22 (inr (inr refl)) refl)
+  run-by false r p h = absurd (not-by h 8 (inr (inl refl)) refl)
+
+  -- 0 and the numbers of instructions are given by a run alone
+  pub only-run : RunNumber (firmware c ram rom k es places n .number)
+      → (isWellFormed c k ≡ true) × (eqb (length rom) 24576 ≡ true) × (ltb (length places) (length es) ≡ false)
+  unfolding firmware
+  only-run h = run-by (isWellFormed c k) (eqb (length rom) 24576) (ltb (length places) (length es)) h
+
   -- ---- a well formed state is left well formed
 
   kept-by : (w r p : Bool) → isWellFormed c k ≡ true → w ≡ true
-      → isWellFormed
-      (pick w (pick r (pick p (notRun 7 c ram k places) (called (runs n 0 rom es (machine c ram k)) places)) (notRun 22 c ram k places)) (notRun 8 c ram k places) .cpu)
-      (pick w (pick r (pick p (notRun 7 c ram k places) (called (runs n 0 rom es (machine c ram k)) places)) (notRun 22 c ram k places)) (notRun 8 c ram k places) .chip) ≡ true
+      → isWellFormed (tested w r p .cpu) (tested w r p .chip) ≡ true
   kept-by true true true h g = h
   kept-by true true false h g = run-well-formed n 0 rom es (machine c ram k) h
   kept-by true false p h g = h
@@ -111,84 +121,6 @@ module _ (c : Cpu) (ram rom : List ℕ) (k : Chip) (es places : List ℕ) (n : �
   pub call-well-formed : isWellFormed c k ≡ true → isWellFormed (firmware c ram rom k es places n .cpu) (firmware c ram rom k es places n .chip) ≡ true
   unfolding firmware
   call-well-formed h = kept-by (isWellFormed c k) (eqb (length rom) 24576) (ltb (length places) (length es)) h h
-
--- ---- a run that is refused
-
--- it is refused at instruction i + at: the run up to there is not, and what is left is what that instruction's events and interrupt leave
-pub record Refused (n i : ℕ) (rom es : List ℕ) (m : Machine) : Type 0 where
-  pub at : ℕ
-  pub inside : at < n
-  pub before : eqb (runs at i rom es m .number) 0 ≡ true
-  pub events : List ℕ
-  pub events-left : events ≡ drop (length (runs at i rom es m .answers)) es
-  pub counted : runs n i rom es m .next ≡ i + at
-  pub number : runs n i rom es m .number ≡ turn rom (fed rom (i + at) events (runs at i rom es m .machine)) .number
-  pub leaves : runs n i rom es m .machine ≡ afterInterrupt rom (fed rom (i + at) events (runs at i rom es m .machine))
-  pub answers : runs n i rom es m .answers ≡ runs at i rom es m .answers ++ answersBefore rom (i + at) events (runs at i rom es m .machine)
-
-run-stops : (n i : ℕ) (rom es : List ℕ) (m : Machine) → eqb (turn rom (fed rom i es m) .number) 0 ≡ false
-    → runs (suc n) i rom es m ≡ ended (turn rom (fed rom i es m) .machine) (turn rom (fed rom i es m) .number) i (answersBefore rom i es m ++ [])
-unfolding runs
-run-stops n i rom es m h = rw h
-
-run-goes : (n i : ℕ) (rom es : List ℕ) (m : Machine) → eqb (turn rom (fed rom i es m) .number) 0 ≡ true
-    → runs (suc n) i rom es m ≡ prepended (answersBefore rom i es m) (runs n (i + 1) rom (left i es) (turn rom (fed rom i es m) .machine))
-unfolding runs
-run-goes n i rom es m h = rw h
-
-refused-first : (n i : ℕ) (rom es : List ℕ) (m : Machine) → eqb (turn rom (fed rom i es m) .number) 0 ≡ false → Refused (suc n) i rom es m
-unfolding runs
-refused-first n i rom es m e =
-    let s = run-stops n i rom es m e in
-    let j : i ≡ i + 0 = omega arith in
-    record {
-      at = 0;
-      inside = omega arith;
-      before = refl;
-      events = es;
-      events-left = refl;
-      counted = ap (λ (r : Ended). r .next) s ∙ j;
-      number = ap (λ (r : Ended). r .number) s ∙ ap (λ (k : ℕ). turn rom (fed rom k es m) .number) j;
-      leaves = ap (λ (r : Ended). r .machine) s ∙ turn-refused rom (fed rom i es m) e ∙ ap (λ (k : ℕ). afterInterrupt rom (fed rom k es m)) j;
-      answers = ap (λ (r : Ended). r .answers) s ∙ append-nil (answersBefore rom i es m) ∙ ap (λ (k : ℕ). answersBefore rom k es m) j;
-    }
-
-refused-later : (n i : ℕ) (rom es : List ℕ) (m : Machine) → eqb (turn rom (fed rom i es m) .number) 0 ≡ true
-    → Refused n (i + 1) rom (left i es) (turn rom (fed rom i es m) .machine) → Refused (suc n) i rom es m
-refused-later n i rom es m e z =
-    let x = turn rom (fed rom i es m) in
-    let a = answersBefore rom i es m in
-    let r = runs (z .at) (i + 1) rom (left i es) (x .machine) in
-    let s = run-goes n i rom es m e in
-    let g = run-goes (z .at) i rom es m e in
-    let j : i + 1 + z .at ≡ i + suc (z .at) = omega arith in
-    let k : r .machine ≡ runs (suc (z .at)) i rom es m .machine = ap (λ (y : Ended). y .machine) (sym g) in
-    record {
-      at = suc (z .at);
-      inside = omega (arith, z .inside);
-      before = ap (λ (y : Ended). eqb (y .number) 0) g ∙ z .before;
-      events = z .events;
-      events-left = z .events-left ∙ ap (drop (length (r .answers))) (left-dropped rom i es m) ∙ drop-drop (length (r .answers)) (length a) es
-          ∙ ap (λ (q : ℕ). drop q es) (sym (length-append a (r .answers))) ∙ ap (λ (y : Ended). drop (length (y .answers)) es) (sym g);
-      counted = ap (λ (y : Ended). y .next) s ∙ z .counted ∙ j;
-      number = ap (λ (y : Ended). y .number) s ∙ z .number ∙ ap₂ (λ (q : ℕ) (y : Machine). turn rom (fed rom q (z .events) y) .number) j k;
-      leaves = ap (λ (y : Ended). y .machine) s ∙ z .leaves ∙ ap₂ (λ (q : ℕ) (y : Machine). afterInterrupt rom (fed rom q (z .events) y)) j k;
-      answers = ap (λ (y : Ended). y .answers) s ∙ ap (λ (l : List ℕ). a ++ l) (z .answers) ∙ sym (append-assoc a (r .answers) (answersBefore rom (i + 1 + z .at) (z .events) (r .machine)))
-          ∙ ap₂ (λ (l : List ℕ) (q : ℕ). l ++ answersBefore rom q (z .events) (r .machine)) (ap (λ (y : Ended). y .answers) (sym g)) j
-          ∙ ap (λ (y : Machine). runs (suc (z .at)) i rom es m .answers ++ answersBefore rom (i + suc (z .at)) (z .events) y) k;
-    }
-
-refused-by : (n i : ℕ) (rom es : List ℕ) (m : Machine) (b : Bool) → eqb (turn rom (fed rom i es m) .number) 0 ≡ b
-    → (eqb (runs n (i + 1) rom (left i es) (turn rom (fed rom i es m) .machine) .number) 0 ≡ false → Refused n (i + 1) rom (left i es) (turn rom (fed rom i es m) .machine))
-    → eqb (runs (suc n) i rom es m .number) 0 ≡ false → Refused (suc n) i rom es m
-refused-by n i rom es m true e f h = refused-later n i rom es m e (f (ap (λ (y : Ended). eqb (y .number) 0) (sym (run-goes n i rom es m e)) ∙ h))
-refused-by n i rom es m false e f h = refused-first n i rom es m e
-
-pub run-refused : (n i : ℕ) (rom es : List ℕ) (m : Machine) → eqb (runs n i rom es m .number) 0 ≡ false → Refused n i rom es m
-unfolding runs
-run-refused zero i rom es m h = absurd (true≢false h)
-run-refused (suc n) i rom es m h =
-    refused-by n i rom es m (eqb (turn rom (fed rom i es m) .number) 0) refl (run-refused n (i + 1) rom (left i es) (turn rom (fed rom i es m) .machine)) h
 
 -- ---- a call in two parts
 

@@ -43,16 +43,16 @@ byte-bounded : (over : ℕ) (l : Loaded) (g : ℕ → Result Effect) → ((b : �
 byte-bounded over (Byte b) g h = h b
 byte-bounded over (Refused n) g h = tt
 
-regular-bounded : (over : ℕ) (f : ℕ → Loaded) (t : Instruction) → Regular false over t → Bounded over (perform f t)
+regular-bounded : (over : ℕ) (f : ℕ → Loaded) (t : Instruction) → Regular over t → Bounded over (perform f t)
 unfolding perform
 regular-bounded over f (leaves e) r = r
 regular-bounded over f rejected r = tt
 regular-bounded over f (reads a k) r = byte-bounded over (f a) (λ (b : ℕ). perform f (k b)) (λ (b : ℕ). regular-bounded over f (k b) (r b))
-regular-bounded over f (pushes s b t) r = regular-bounded over (afterPush s b f) t (r .1)
+regular-bounded over f (pushes s b t) r = regular-bounded over (afterPush s b f) t r
 
 opcode-bounded : (f : ℕ → Loaded) (opcode : ℕ) (c : Cpu) (d : Bool) → isDocumented (operationOf (entryOf opcode)) ≡ d → Bounded (c .over) (perform f (instructionOf (entryOf opcode) c))
 unfolding perform
-opcode-bounded f opcode c true h = regular-bounded (c .over) f (instructionOf (entryOf opcode) c) (documented-regular false opcode c h (λ (k : false ≡ true). absurd (true≢false (sym k))))
+opcode-bounded f opcode c true h = regular-bounded (c .over) f (instructionOf (entryOf opcode) c) (documented-regular opcode c h)
 opcode-bounded f opcode c false h = rw (undocumented-rejected opcode c h) tt
 
 pub instruction-bounded : (f : ℕ → Loaded) (c : Cpu) → Bounded (c .over) (perform f (instruction c))

@@ -5,3 +5,4 @@ pub mod Parts
 pub mod Interrupts
 pub mod Writes
 pub mod Calls
+pub mod Refusals

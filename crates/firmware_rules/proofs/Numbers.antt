@@ -1,11 +1,10 @@
 -- The numbers of refusals: which there are, when each is given, and what a refusal leaves.
-use Prim.Native.Nat.{ℕ, zero, suc, _+_, _-_, _<_}
+use Prim.Native.Nat.{ℕ, zero, suc, _+_}
 use mathlib.Core.Path.{_≡_, refl, ap, sym, _∙_}
 use mathlib.Core.Bool.{Bool, true, false, not, true≢false}
 use mathlib.Core.List.{List, [], _∷_}
-use native.Mathlib.Omega.{arith}
-use lib.Dec.{eqb, ltb}
-use borrow.Author.Tests.{eqb-true, lt-ltb, le-ltb}
+use lib.Dec.{eqb}
+use borrow.Author.Tests.{eqb-true}
 use Rattle.bits.specs.Byte.{pick}
 use Rattle.registers.specs.Table.{isReadable, isWritable}
 use Rattle.chip.specs.declared.Chip.{Chip}
@@ -20,9 +19,10 @@ use Rattle.memory.specs.declared.Place.the-variants as at
 use Rattle.memory.specs.declared.Store.{Store}
 use Rattle.memory.specs.declared.Store.the-variants as store
 use Rattle.memory.specs.Memory.{place, stack, isStackPlace, afterPush}
+use Rattle.memory.proofs.Places.{stack-leads}
 use Rattle.memory.specs.Reads.{Result, gives, refuses, onByte}
 use Rattle.instruction.specs.declared.Effect.{Effect}
-use Rattle.instruction.specs.Program.{Instruction, leaves, rejected, reads, pushes, perform, readAt, lastAccess, behindByte, accesses}
+use Rattle.instruction.specs.Program.{Instruction, leaves, rejected, reads, pushes, perform, Access, readAt, lastAccess, behindByte, accesses}
 use Rattle.instruction.specs.Instruction.{instruction, instructionBy, instructionOf, interrupted}
 use Rattle.execution.specs.declared.Destination.{Destination}
 use Rattle.execution.specs.declared.Destination.the-variants as to
@@ -54,16 +54,9 @@ store-number e m (store.PushOne s b) = refl
 store-number e m (store.PushTwo s b c) = refl
 store-number e m (store.PushThree s b c d) = refl
 
-stack-by : (reset b : Bool) (s : ℕ) → s < 256
-    → writtenNumber reset (pick (ltb (stack s) 0xA000) (pick b (pick (ltb (stack s) 0x80) (pick (ltb (stack s) 0x26) (at.Register (stack s)) at.Unmapped) (at.Ram (stack s - 0x80)))
-    (pick (ltb (stack s) 0x200) (at.Ram (stack s - 0x180)) at.Unmapped)) (at.Rom (stack s - 0xA000))) ≡ 0
-stack-by reset true s h = rw (lt-ltb (stack s) 0xA000 (omega arith), le-ltb (stack s) 0x80 (omega arith))
-stack-by reset false s h = rw (lt-ltb (stack s) 0xA000 (omega arith), lt-ltb (stack s) 0x200 (omega arith))
-
 -- the stack is RAM
-stack-number : (reset : Bool) (s : ℕ) → s < 256 → writtenNumber reset (place (stack s)) ≡ 0
-unfolding place
-stack-number reset s h = stack-by reset (ltb (stack s) 0x180) s h
+stack-number : (reset : Bool) (s : ℕ) → writtenNumber reset (place (stack s)) ≡ 0
+stack-number reset s = rw (stack-leads s)
 
 zero-or : (n : ℕ) (t : Bool) → eqb n 0 ≡ t → n ≡ pick t 0 n
 zero-or n true h = eqb-true n 0 h
@@ -75,32 +68,101 @@ byte-number : (f : ℕ → Loaded) (a : ℕ) (k : ℕ → Instruction) (m : Mach
 byte-number f a k m (Byte b) h = h b
 byte-number f a k m (Refused n) h = zero-or n (eqb n 0) refl
 
-regular-number : (over : ℕ) (f : ℕ → Loaded) (t : Instruction) (m : Machine) → Regular true over t
+regular-number : (over : ℕ) (f : ℕ → Loaded) (t : Instruction) (m : Machine) → Regular over t
     → completed (perform f t) m .number ≡ firstRefused (m .chip .core .reset) (accesses f t)
 unfolding perform accesses
 regular-number over f (leaves e) m r = store-number e m (e .store)
 regular-number over f rejected m r = absurd r
 regular-number over f (reads a k) m r = byte-number f a k m (f a) (λ (b : ℕ). regular-number over f (k b) m (r b))
-regular-number over f (pushes s b t) m r = rw (stack-number (m .chip .core .reset) s (r .0 refl)) (regular-number over (afterPush s b f) t m (r .1))
+regular-number over f (pushes s b t) m r = rw (stack-number (m .chip .core .reset) s) (regular-number over (afterPush s b f) t m r)
 
-documented-by : (f : ℕ → Loaded) (a opcode : ℕ) (c : Cpu) (m : Machine) → c .s < 256 → (d : Bool) → isDocumented (operationOf (entryOf opcode)) ≡ d
+documented-by : (f : ℕ → Loaded) (a opcode : ℕ) (c : Cpu) (m : Machine) (d : Bool) → isDocumented (operationOf (entryOf opcode)) ≡ d
     → completed (perform f (instructionOf (entryOf opcode) c)) m .number ≡ pick (not d) 20 (firstRefused (m .chip .core .reset) (accesses f (instructionOf (entryOf opcode) c)))
 unfolding perform
-documented-by f a opcode c m s true h = regular-number (c .over) f (instructionOf (entryOf opcode) c) m (documented-regular true opcode c h (λ (k : true ≡ true). s))
-documented-by f a opcode c m s false h = rw (undocumented-rejected opcode c h)
+documented-by f a opcode c m true h = regular-number (c .over) f (instructionOf (entryOf opcode) c) m (documented-regular opcode c h)
+documented-by f a opcode c m false h = rw (undocumented-rejected opcode c h)
 
-opcode-number : (f : ℕ → Loaded) (a : ℕ) (c : Cpu) (m : Machine) → c .s < 256 → (l : Loaded)
+opcode-number : (f : ℕ → Loaded) (a : ℕ) (c : Cpu) (m : Machine) (l : Loaded)
     → completed (onByte l (λ (b : ℕ). perform f (instructionOf (entryOf b) c))) m .number
     ≡ pick (isUndocumented (readAt a l ∷ behindByte l (λ (b : ℕ). accesses f (instructionOf (entryOf b) c)))) 20
     (firstRefused (m .chip .core .reset) (readAt a l ∷ behindByte l (λ (b : ℕ). accesses f (instructionOf (entryOf b) c))))
-opcode-number f a c m s (Byte b) = documented-by f a b c m s (isDocumented (operationOf (entryOf b))) refl
-opcode-number f a c m s (Refused n) = zero-or n (eqb n 0) refl
+opcode-number f a c m (Byte b) = documented-by f a b c m (isDocumented (operationOf (entryOf b))) refl
+opcode-number f a c m (Refused n) = zero-or n (eqb n 0) refl
 
 -- An instruction is refused with 20 where the opcode fetched is not documented, else with the number of its first access that fails; its
 -- number is 0 where none fails
-pub instruct-number : (rom : List ℕ) (m : Machine) → m .cpu .s < 256 → instruct rom m .number ≡ instructionNumber rom m
+pub instruct-number : (rom : List ℕ) (m : Machine) → instruct rom m .number ≡ instructionNumber rom m
 unfolding instruct madeBy perform accesses instructionBy entryOf
-instruct-number rom m s = opcode-number (load (m .ram) (m .chip) rom) (m .cpu .pc) (m .cpu) m s (load (m .ram) (m .chip) rom (m .cpu .pc))
+instruct-number rom m = opcode-number (load (m .ram) (m .chip) rom) (m .cpu .pc) (m .cpu) m (load (m .ram) (m .chip) rom (m .cpu .pc))
+
+-- ---- no access fails with 20
+
+abbrev NotTwenty : Loaded → Type 0
+NotTwenty (Byte b) = Unit {0}
+NotTwenty (Refused n) = eqb n 20 ≡ false
+
+read-by : (z t : Bool) (n : ℕ) → NotTwenty (registerRead (pick z (pick t (readingOf 0 n) (readingOf 5 0)) (readingOf 4 0)))
+read-by true true n = tt
+read-by true false n = refl
+read-by false t n = refl
+
+load-other : (ram rom : List ℕ) (k : Chip) (q : Place) → NotTwenty (loadAt ram k rom q)
+unfolding reading
+load-other ram rom k (at.Register r) = read-by (k .core .reset) (isReadable r) _
+load-other ram rom k (at.Ram i) = tt
+load-other ram rom k (at.Rom i) = tt
+load-other ram rom k at.Unmapped = refl
+
+other-pushed : (t : Bool) (b : ℕ) (l : Loaded) → NotTwenty l → NotTwenty (pick t (Byte b) l)
+other-pushed true b l h = tt
+other-pushed false b l h = h
+
+register-other : (z t : Bool) → eqb (pick z (pick t 0 6) 4) 20 ≡ false
+register-other true true = refl
+register-other true false = refl
+register-other false t = refl
+
+written-other : (reset : Bool) (q : Place) → eqb (writtenNumber reset q) 20 ≡ false
+unfolding writeNumber
+written-other reset (at.Register r) = register-other reset (isWritable r)
+written-other reset (at.Ram i) = refl
+written-other reset (at.Rom i) = refl
+written-other reset at.Unmapped = refl
+
+pick-other : (t : Bool) (a b : ℕ) → eqb a 20 ≡ false → eqb b 20 ≡ false → eqb (pick t a b) 20 ≡ false
+pick-other true a b h g = h
+pick-other false a b h g = g
+
+byte-other : (reset : Bool) (a : ℕ) (l : Loaded) (k : ℕ → List Access) → NotTwenty l → ((b : ℕ) → eqb (firstRefused reset (k b)) 20 ≡ false)
+    → eqb (firstRefused reset (readAt a l ∷ behindByte l k)) 20 ≡ false
+byte-other reset a (Byte b) k h g = g b
+byte-other reset a (Refused n) k h g = pick-other (eqb n 0) 0 n refl h
+
+last-other : (reset : Bool) (s : Store) → eqb (firstRefused reset (lastAccess s)) 20 ≡ false
+last-other reset store.Nothing = refl
+last-other reset (store.Byte a b) = pick-other (eqb (writtenNumber reset (place a)) 0) 0 (writtenNumber reset (place a)) refl (written-other reset (place a))
+last-other reset (store.PushOne s b) = refl
+last-other reset (store.PushTwo s b c) = refl
+last-other reset (store.PushThree s b c d) = refl
+
+accesses-other : (reset : Bool) (f : ℕ → Loaded) → ((a : ℕ) → NotTwenty (f a)) → (t : Instruction) → eqb (firstRefused reset (accesses f t)) 20 ≡ false
+unfolding accesses afterPush
+accesses-other reset f h (leaves e) = last-other reset (e .store)
+accesses-other reset f h rejected = refl
+accesses-other reset f h (reads a k) = byte-other reset a (f a) (λ (b : ℕ). accesses f (k b)) (h a) (λ (b : ℕ). accesses-other reset f h (k b))
+accesses-other reset f h (pushes s b t) =
+    rw (stack-number reset s) (accesses-other reset (afterPush s b f) (λ (a : ℕ). other-pushed (isStackPlace s (place a)) b (f a) (h a)) t)
+
+twenty-by : (t : Bool) (n : ℕ) → eqb n 20 ≡ false → pick t 20 n ≡ 20 → t ≡ true
+twenty-by true n h e = refl
+twenty-by false n h e = absurd (true≢false (sym (ap (λ (a : ℕ). eqb a 20) e) ∙ h))
+
+-- an instruction has the number 20 where its opcode is not documented, and in no other case
+pub only-undocumented : (rom : List ℕ) (m : Machine) → instructionNumber rom m ≡ 20 → isUndocumented (madeBy rom m) ≡ true
+unfolding madeBy load
+only-undocumented rom m h =
+    twenty-by (isUndocumented (madeBy rom m)) (firstRefused (m .chip .core .reset) (madeBy rom m))
+    (accesses-other (m .chip .core .reset) (load (m .ram) (m .chip) rom) (λ (a : ℕ). load-other (m .ram) rom (m .chip) (place a)) (instruction (m .cpu))) h
 
 -- ---- the numbers that there are
 

@@ -90,7 +90,7 @@ dropped-by : (rom : List ℕ) (i e x : ℕ) (es : List ℕ) (l : List ℕ) (b : 
 dropped-by rom i e x es l true h = refl
 dropped-by rom i e x es l false h = h
 
-pub left-dropped : (rom : List ℕ) (i : ℕ) (es : List ℕ) (m : Machine) → left i es ≡ drop (length (answersBefore rom i es m)) es
+left-dropped : (rom : List ℕ) (i : ℕ) (es : List ℕ) (m : Machine) → left i es ≡ drop (length (answersBefore rom i es m)) es
 unfolding left answersBefore
 left-dropped rom i [] m = refl
 left-dropped rom i (e ∷ es) m =
@@ -159,6 +159,15 @@ parts (suc n) k i rom es m =
     ap (λ (j : ℕ). runs j i rom es m) p
     ∙ on-parts x i (answersBefore rom i es m) (runs (n + k) (i + 1) rom l (x .machine)) (runs n (i + 1) rom l (x .machine)) (λ (y : Machine). runs k (i + suc n) rom (leftAfter n (i + 1) l) y)
     (eqb (x .number) 0) refl h
+
+-- past n instructions that are not refused a run goes on from what they leave, with the events past those given
+pub run-on : (n k i : ℕ) (rom es : List ℕ) (m : Machine) → eqb (runs n i rom es m .number) 0 ≡ true
+    → runs (n + k) i rom es m ≡ prepended (runs n i rom es m .answers) (runs k (i + n) rom (drop (length (runs n i rom es m .answers)) es) (runs n i rom es m .machine))
+run-on n k i rom es m h =
+    let r = runs n i rom es m in
+    parts n k i rom es m
+    ∙ ap (λ (b : Bool). pick b (prepended (r .answers) (runs k (i + n) rom (leftAfter n i es) (r .machine))) r) h
+    ∙ ap (λ (l : List ℕ). prepended (r .answers) (runs k (i + n) rom l (r .machine))) (after-dropped n i rom es m h)
 
 second-by : (n k : ℕ) (rom es l : List ℕ) (r : Ended) (b : Bool) → (b ≡ true → r .next ≡ n) → (b ≡ true → l ≡ drop (length (r .answers)) es)
     → pick b (prepended (r .answers) (runs k (0 + n) rom l (r .machine))) r ≡ pick b (followed r (runs k 0 rom (renumbered n (drop (length (r .answers)) es)) (r .machine))) r

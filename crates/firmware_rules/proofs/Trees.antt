@@ -1,12 +1,11 @@
--- What the instructions have in common: a documented one ends, keeps the cycles over, takes at most nine cycles and pushes inside the stack.
-use Prim.Native.Nat.{ℕ, _-_, _<_, _≤_}
+-- What the instructions have in common: a documented one ends, keeps the cycles over and takes at most nine cycles.
+use Prim.Native.Nat.{ℕ, _<_, _≤_}
 use mathlib.Core.Path.{_≡_, refl, ap, sym, _∙_}
 use mathlib.Core.Bool.{Bool, true, false, Bool·beq, true≢false}
 use mathlib.Core.Logic.{_⊎_, inl, inr}
 use native.Mathlib.Omega.{arith}
-use lib.Dec.{eqb}
 use lib.ListN.{List·getD-eq-default}
-use Rattle.bits.specs.Byte.{pick, num}
+use Rattle.bits.specs.Byte.{num}
 use Rattle.bits.proofs.Finite.{at-each, beq-eq, true-T, lt-or-le}
 use Rattle.opcodes.specs.Table.{opcodes}
 use Rattle.opcodes.specs.Opcodes.{operations, operationNumbered, modes, modeNumbered, operationOf, modeOf, lengthOf, cyclesOf, isJsr, entryOf, isDocumented}
@@ -21,7 +20,6 @@ use Rattle.opcodes.specs.declared.Operation.the-variants.{Read, Store, Modify, 
 use Rattle.opcodes.proofs.Rules.{isUndocumentedMode, undocumented as table-undocumented, cycles-at-most-seven}
 use Rattle.operations.specs.declared.Cpu.{Cpu}
 use Rattle.operations.specs.Operations.{readOperation, impliedOperation, setPc, taken}
-use Rattle.memory.specs.Memory.{below}
 use Rattle.memory.specs.Reads.{Reads, done, undocumented, read, then}
 use Rattle.addressing.specs.declared.Effective.{Effective}
 use Rattle.addressing.specs.Addressing.{ahead, locate}
@@ -35,19 +33,19 @@ Finds (done a) = Unit {0}
 Finds undocumented = ⊥
 Finds (read a k) = (b : ℕ) → Finds (k b)
 
--- ---- an instruction that ends; its pushes are inside the stack where S is known to be a byte
+-- ---- an instruction that ends
 
-abbrev pub Regular : Bool → ℕ → Instruction → Type 0
-Regular known over (leaves e) = (e .cpu .over ≡ over) × (e .cycles < 10)
-Regular known over rejected = ⊥
-Regular known over (reads a k) = (b : ℕ) → Regular known over (k b)
-Regular known over (pushes s b t) = (known ≡ true → s < 256) × Regular known over t
+abbrev pub Regular : ℕ → Instruction → Type 0
+Regular over (leaves e) = (e .cpu .over ≡ over) × (e .cycles < 10)
+Regular over rejected = ⊥
+Regular over (reads a k) = (b : ℕ) → Regular over (k b)
+Regular over (pushes s b t) = Regular over t
 
-then-regular : {A : Type 0} (known : Bool) (over : ℕ) (r : Reads A) (g : A → Instruction) → Finds r → ((a : A) → Regular known over (g a)) → Regular known over (andThen r g)
+then-regular : {A : Type 0} (over : ℕ) (r : Reads A) (g : A → Instruction) → Finds r → ((a : A) → Regular over (g a)) → Regular over (andThen r g)
 unfolding andThen
-then-regular known over (done a) g f h = h a
-then-regular known over undocumented g f h = f
-then-regular known over (read a k) g f h = λ (b : ℕ). then-regular known over (k b) g (f b) h
+then-regular over (done a) g f h = h a
+then-regular over undocumented g f h = f
+then-regular over (read a k) g f h = λ (b : ℕ). then-regular over (k b) g (f b) h
 
 -- ---- the operations keep the cycles over
 
@@ -91,39 +89,32 @@ num-le : (b : Bool) → num b ≤ 1
 num-le true = omega arith
 num-le false = omega arith
 
-below-by : (b : Bool) (s : ℕ) → s < 256 → pick b 255 (s - 1) < 256
-below-by true s h = omega arith
-below-by false s h = omega arith
+branched-regular : (b : Bool) (t : Effective) (n : ℕ) (c : Cpu) → n < 8 → Regular (c .over) (leaves (branched b t n c))
+branched-regular true t n c h = (refl, omega (arith, num-le (t .crossed)))
+branched-regular false t n c h = (refl, omega arith)
 
-pub below-lt : (known : Bool) (s : ℕ) → (known ≡ true → s < 256) → known ≡ true → below s < 256
-below-lt known s h k = below-by (eqb s 0) s (h k)
-
-branched-regular : (known b : Bool) (t : Effective) (n : ℕ) (c : Cpu) → n < 8 → Regular known (c .over) (leaves (branched b t n c))
-branched-regular known true t n c h = (refl, omega (arith, num-le (t .crossed)))
-branched-regular known false t n c h = (refl, omega arith)
-
-trap-regular : (known b : Bool) (r n : ℕ) (c : Cpu) → n < 8 → (known ≡ true → c .s < 256) → Regular known (c .over) (trap b r n c)
+trap-regular : (b : Bool) (r n : ℕ) (c : Cpu) → n < 8 → Regular (c .over) (trap b r n c)
 unfolding trap andThen
-trap-regular known b r n c h s = (s, (below-lt known (c .s) s, (below-lt known (below (c .s)) (below-lt known (c .s) s), λ (l k : ℕ). (refl, omega arith))))
+trap-regular b r n c h = λ (l k : ℕ). (refl, omega arith)
 
-execute-regular : (known : Bool) (o : Operation) (t : Effective) (n : ℕ) (c : Cpu) → isDocumented o ≡ true → n < 8 → (known ≡ true → c .s < 256) → Regular known (c .over) (execute o t n c)
+execute-regular : (o : Operation) (t : Effective) (n : ℕ) (c : Cpu) → isDocumented o ≡ true → n < 8 → Regular (c .over) (execute o t n c)
 unfolding execute andThen
-execute-regular known (Read o) t n c d h s = λ (b : ℕ). (read-over o b c, omega (arith, num-le (t .crossed)))
-execute-regular known (Store o) t n c d h s = (refl, omega arith)
-execute-regular known (Modify o) t n c d h s = λ (b : ℕ). (refl, omega arith)
-execute-regular known (ModifyA o) t n c d h s = (refl, omega arith)
-execute-regular known (Implied o) t n c d h s = (implied-over o c, omega arith)
-execute-regular known (Branch o) t n c d h s = branched-regular known (taken o (c .p)) t n c h
-execute-regular known Jmp t n c d h s = (refl, omega arith)
-execute-regular known Jsr t n c d h s = λ (l : ℕ). (s, (below-lt known (c .s) s, λ (k : ℕ). (refl, omega arith)))
-execute-regular known Rts t n c d h s = λ (l k : ℕ). (refl, omega arith)
-execute-regular known Rti t n c d h s = λ (b l k : ℕ). (refl, omega arith)
-execute-regular known Brk t n c d h s = trap-regular known true (ahead (c .pc) 1) n c h s
-execute-regular known Pha t n c d h s = (s, (refl, omega arith))
-execute-regular known Php t n c d h s = (s, (refl, omega arith))
-execute-regular known Pla t n c d h s = λ (b : ℕ). (refl, omega arith)
-execute-regular known Plp t n c d h s = λ (b : ℕ). (refl, omega arith)
-execute-regular known Undocumented t n c d h s = true≢false (sym d)
+execute-regular (Read o) t n c d h = λ (b : ℕ). (read-over o b c, omega (arith, num-le (t .crossed)))
+execute-regular (Store o) t n c d h = (refl, omega arith)
+execute-regular (Modify o) t n c d h = λ (b : ℕ). (refl, omega arith)
+execute-regular (ModifyA o) t n c d h = (refl, omega arith)
+execute-regular (Implied o) t n c d h = (implied-over o c, omega arith)
+execute-regular (Branch o) t n c d h = branched-regular (taken o (c .p)) t n c h
+execute-regular Jmp t n c d h = (refl, omega arith)
+execute-regular Jsr t n c d h = λ (l k : ℕ). (refl, omega arith)
+execute-regular Rts t n c d h = λ (l k : ℕ). (refl, omega arith)
+execute-regular Rti t n c d h = λ (b l k : ℕ). (refl, omega arith)
+execute-regular Brk t n c d h = trap-regular true (ahead (c .pc) 1) n c h
+execute-regular Pha t n c d h = (refl, omega arith)
+execute-regular Php t n c d h = (refl, omega arith)
+execute-regular Pla t n c d h = λ (b : ℕ). (refl, omega arith)
+execute-regular Plp t n c d h = λ (b : ℕ). (refl, omega arith)
+execute-regular Undocumented t n c d h = true≢false (sym d)
 
 -- ---- the addressing modes of documented opcodes
 
@@ -178,13 +169,13 @@ marked opcode = marked-by opcode (lt-or-le opcode 256)
 
 -- ---- an instruction whose opcode is read
 
-pub documented-regular : (known : Bool) (opcode : ℕ) (c : Cpu) → isDocumented (operationOf (entryOf opcode)) ≡ true → (known ≡ true → c .s < 256) → Regular known (c .over) (instructionOf (entryOf opcode) c)
+pub documented-regular : (opcode : ℕ) (c : Cpu) → isDocumented (operationOf (entryOf opcode)) ≡ true → Regular (c .over) (instructionOf (entryOf opcode) c)
 unfolding instructionOf
-documented-regular known opcode c d s =
+documented-regular opcode c d =
     let e = entryOf opcode in
     let k : isUndocumentedMode (modeOf e) ≡ false = marked opcode ∙ ap (λ (b : Bool). Bool·beq b false) d in
-    then-regular known (c .over) (locate (isJsr e) (modeOf e) c) _ (locate-finds (isJsr e) (modeOf e) c k)
-    (λ (t : Effective). execute-regular known (operationOf e) t (cyclesOf e) (setPc (ahead (c .pc) (lengthOf e)) c) d (few opcode) s)
+    then-regular (c .over) (locate (isJsr e) (modeOf e) c) _ (locate-finds (isJsr e) (modeOf e) c k)
+    (λ (t : Effective). execute-regular (operationOf e) t (cyclesOf e) (setPc (ahead (c .pc) (lengthOf e)) c) d (few opcode))
 
 rejects : (own : Bool) (m : Mode) (c : Cpu) (g : Effective → Instruction) → isUndocumentedMode m ≡ true → andThen (locate own m c) g ≡ rejected
 unfolding isUndocumentedMode locate andThen

@@ -1,12 +1,10 @@
 -- The writes among the accesses of an instruction are those that RAM shows: pushes and the store, in order.
-use Prim.Native.Nat.{ℕ, _+_, _-_, _/_, _%_, _<_}
+use Prim.Native.Nat.{ℕ, _/_, _%_}
 use mathlib.Core.Path.{_≡_, refl, ap, sym, _∙_}
 use mathlib.Core.Bool.{Bool, true, false, true≢false}
 use mathlib.Core.List.{List, [], _∷_}
-use native.Mathlib.Omega.{arith}
-use lib.Dec.{eqb, ltb}
+use lib.Dec.{eqb}
 use lib.ListN.{getD}
-use borrow.Author.Tests.{lt-ltb, le-ltb, ltb-true, ltb-false}
 use Rattle.bits.specs.Byte.{pick}
 use Rattle.chip.specs.declared.Chip.{Chip}
 use Rattle.writes.specs.Writes.{writeNumber}
@@ -20,7 +18,8 @@ use Rattle.memory.specs.declared.Place.{Place}
 use Rattle.memory.specs.declared.Place.the-variants as at
 use Rattle.memory.specs.declared.Store.{Store as Stored}
 use Rattle.memory.specs.declared.Store.the-variants as store
-use Rattle.memory.specs.Memory.{place, stack, stackPlace, below, afterPush}
+use Rattle.memory.specs.Memory.{place, stack, below, afterPush}
+use Rattle.memory.proofs.Places.{stack-leads}
 use Rattle.memory.specs.Reads.{Reads, done, undocumented, read, Result, gives, refuses, onByte}
 use Rattle.addressing.specs.declared.Effective.{Effective}
 use Rattle.instruction.specs.declared.Effect.{Effect}
@@ -31,25 +30,7 @@ use Rattle.machine.specs.Machine.{Machine, turned, load, finished, storedTo, co
 use Rattle.machine.proofs.Loads.{LowResult, low}
 use Rattle.firmware_rules.specs.Numbers.{madeBy}
 use Rattle.firmware_rules.specs.Writes.{ramBy}
-use Rattle.firmware_rules.proofs.Trees.{below-lt}
 use Rattle.firmware_rules.proofs.Interrupts.{interrupt-leaves}
-
--- ---- the stack is RAM
-
-stack-by : (b : Bool) (s : ℕ) → s < 256 → ltb (stack s) 0x180 ≡ b
-    → pick (ltb (stack s) 0xA000) (pick b (pick (ltb (stack s) 0x80) (pick (ltb (stack s) 0x26) (at.Register (stack s)) at.Unmapped) (at.Ram (stack s - 0x80)))
-    (pick (ltb (stack s) 0x200) (at.Ram (stack s - 0x180)) at.Unmapped)) (at.Rom (stack s - 0xA000)) ≡ at.Ram (pick (ltb s 128) (s + 128) (s - 128))
-stack-by true s h e =
-    rw (lt-ltb (stack s) 0xA000 (omega arith), le-ltb (stack s) 0x80 (omega arith), lt-ltb s 128 (omega (arith, ltb-true (stack s) 0x180 e))) (ap at.Ram (omega arith))
-stack-by false s h e =
-    rw (lt-ltb (stack s) 0xA000 (omega arith), lt-ltb (stack s) 0x200 (omega arith), le-ltb s 128 (omega (arith, ltb-false (stack s) 0x180 e))) (ap at.Ram (omega arith))
-
-pub stack-leads : (s : ℕ) → s < 256 → place (stack s) ≡ at.Ram (stackPlace s)
-unfolding place stackPlace
-stack-leads s h = stack-by (ltb (stack s) 0x180) s h refl
-
-next-lt : (s : ℕ) → s < 256 → below s < 256
-next-lt s h = below-lt true s (λ (k : true ≡ true). h) refl
 
 -- ---- pushes on the way to what an instruction leaves: from RAM first, with ram as the pushes so far have made it
 
@@ -65,18 +46,18 @@ then-tells ram (done a) g h = h a
 then-tells ram undocumented g h = tt
 then-tells ram (read a k) g h = λ (b : ℕ). then-tells ram (k b) g h
 
-one-push : (ram : List ℕ) (s b : ℕ) → s < 256 → stored ram (store.PushOne s b) ≡ storedAt ram b (place (stack s))
+one-push : (ram : List ℕ) (s b : ℕ) → stored ram (store.PushOne s b) ≡ storedAt ram b (place (stack s))
 unfolding stored
-one-push ram s b h = rw (stack-leads s h)
+one-push ram s b = rw (stack-leads s)
 
-two-pushes : (ram : List ℕ) (s b c : ℕ) → s < 256 → stored ram (store.PushTwo s b c) ≡ storedAt (storedAt ram b (place (stack s))) c (place (stack (below s)))
+two-pushes : (ram : List ℕ) (s b c : ℕ) → stored ram (store.PushTwo s b c) ≡ storedAt (storedAt ram b (place (stack s))) c (place (stack (below s)))
 unfolding stored
-two-pushes ram s b c h = rw (stack-leads s h, stack-leads (below s) (next-lt s h))
+two-pushes ram s b c = rw (stack-leads s, stack-leads (below s))
 
-three-pushes : (ram : List ℕ) (s b c d : ℕ) → s < 256
+three-pushes : (ram : List ℕ) (s b c d : ℕ)
     → stored ram (store.PushThree s b c d) ≡ storedAt (storedAt (storedAt ram b (place (stack s))) c (place (stack (below s)))) d (place (stack (below (below s))))
 unfolding stored
-three-pushes ram s b c d h = rw (stack-leads s h, stack-leads (below s) (next-lt s h), stack-leads (below (below s)) (next-lt (below s) (next-lt s h)))
+three-pushes ram s b c d = rw (stack-leads s, stack-leads (below s), stack-leads (below (below s)))
 
 nothing : (ram : List ℕ) → stored ram store.Nothing ≡ ram
 unfolding stored
@@ -90,36 +71,36 @@ branched-tells : (ram : List ℕ) (b : Bool) (t : Effective) (n : ℕ) (c : Cpu)
 branched-tells ram true t n c = nothing ram
 branched-tells ram false t n c = nothing ram
 
-trap-tells : (ram : List ℕ) (b : Bool) (r n : ℕ) (c : Cpu) → c .s < 256 → Tells ram ram (trap b r n c)
+trap-tells : (ram : List ℕ) (b : Bool) (r n : ℕ) (c : Cpu) → Tells ram ram (trap b r n c)
 unfolding trap andThen
-trap-tells ram b r n c h = λ (l k : ℕ). three-pushes ram (c .s) (r / 256) (r % 256) (pushedP (c .p) b) h
+trap-tells ram b r n c = λ (l k : ℕ). three-pushes ram (c .s) (r / 256) (r % 256) (pushedP (c .p) b)
 
-execute-tells : (ram : List ℕ) (o : Operation) (t : Effective) (n : ℕ) (c : Cpu) → c .s < 256 → Tells ram ram (execute o t n c)
+execute-tells : (ram : List ℕ) (o : Operation) (t : Effective) (n : ℕ) (c : Cpu) → Tells ram ram (execute o t n c)
 unfolding execute andThen
-execute-tells ram (Read o) t n c h = λ (b : ℕ). nothing ram
-execute-tells ram (Store o) t n c h = one-byte ram _ _
-execute-tells ram (Modify o) t n c h = λ (b : ℕ). one-byte ram _ _
-execute-tells ram (ModifyA o) t n c h = nothing ram
-execute-tells ram (Implied o) t n c h = nothing ram
-execute-tells ram (Branch o) t n c h = branched-tells ram (taken o (c .p)) t n c
-execute-tells ram Jmp t n c h = nothing ram
-execute-tells ram Jsr t n c h = λ (l k : ℕ). two-pushes ram (c .s) _ _ h
-execute-tells ram Rts t n c h = λ (l k : ℕ). nothing ram
-execute-tells ram Rti t n c h = λ (b l k : ℕ). nothing ram
-execute-tells ram Brk t n c h = trap-tells ram true _ n c h
-execute-tells ram Pha t n c h = one-push ram (c .s) (c .a) h
-execute-tells ram Php t n c h = one-push ram (c .s) (pushedP (c .p) true) h
-execute-tells ram Pla t n c h = λ (b : ℕ). nothing ram
-execute-tells ram Plp t n c h = λ (b : ℕ). nothing ram
-execute-tells ram Undocumented t n c h = tt
+execute-tells ram (Read o) t n c = λ (b : ℕ). nothing ram
+execute-tells ram (Store o) t n c = one-byte ram _ _
+execute-tells ram (Modify o) t n c = λ (b : ℕ). one-byte ram _ _
+execute-tells ram (ModifyA o) t n c = nothing ram
+execute-tells ram (Implied o) t n c = nothing ram
+execute-tells ram (Branch o) t n c = branched-tells ram (taken o (c .p)) t n c
+execute-tells ram Jmp t n c = nothing ram
+execute-tells ram Jsr t n c = λ (l k : ℕ). two-pushes ram (c .s) _ _
+execute-tells ram Rts t n c = λ (l k : ℕ). nothing ram
+execute-tells ram Rti t n c = λ (b l k : ℕ). nothing ram
+execute-tells ram Brk t n c = trap-tells ram true _ n c
+execute-tells ram Pha t n c = one-push ram (c .s) (c .a)
+execute-tells ram Php t n c = one-push ram (c .s) (pushedP (c .p) true)
+execute-tells ram Pla t n c = λ (b : ℕ). nothing ram
+execute-tells ram Plp t n c = λ (b : ℕ). nothing ram
+execute-tells ram Undocumented t n c = tt
 
-entry-tells : (ram : List ℕ) (e : ℕ) (c : Cpu) → c .s < 256 → Tells ram ram (instructionOf e c)
+entry-tells : (ram : List ℕ) (e : ℕ) (c : Cpu) → Tells ram ram (instructionOf e c)
 unfolding instructionOf
-entry-tells ram e c h = then-tells ram _ _ (λ (t : Effective). execute-tells ram _ t _ _ h)
+entry-tells ram e c = then-tells ram _ _ (λ (t : Effective). execute-tells ram _ t _ _)
 
-instruction-tells : (ram : List ℕ) (c : Cpu) → c .s < 256 → Tells ram ram (instruction c)
+instruction-tells : (ram : List ℕ) (c : Cpu) → Tells ram ram (instruction c)
 unfolding instructionBy
-instruction-tells ram c h = λ (opcode : ℕ). entry-tells ram _ c h
+instruction-tells ram c = λ (opcode : ℕ). entry-tells ram _ c
 
 -- ---- an instruction over a memory: where it is not refused, RAM with its store is RAM by its accesses
 
@@ -175,12 +156,12 @@ completed-ram (gives e) m s l h z = store-ram e m (e .store) refl z ∙ h
 completed-ram (refuses n) m s l h z = absurd (true≢false (sym z ∙ l .0))
 
 -- it is RAM before it with every write among its accesses done, in order
-pub instruct-ram : (rom : List ℕ) (m : Machine) → m .cpu .s < 256 → eqb (instruct rom m .number) 0 ≡ true → instruct rom m .machine .ram ≡ ramBy (m .ram) (madeBy rom m)
+pub instruct-ram : (rom : List ℕ) (m : Machine) → eqb (instruct rom m .number) 0 ≡ true → instruct rom m .machine .ram ≡ ramBy (m .ram) (madeBy rom m)
 unfolding instruct madeBy
-instruct-ram rom m h z =
+instruct-ram rom m z =
     let f = load (m .ram) (m .chip) rom in
     let t = instruction (m .cpu) in
-    completed-ram (perform f t) m (accesses f t) (low (m .ram) rom (m .chip) t) (written (m .ram) (m .ram) f t (instruction-tells (m .ram) (m .cpu) h)) z
+    completed-ram (perform f t) m (accesses f t) (low (m .ram) rom (m .chip) t) (written (m .ram) (m .ram) f t (instruction-tells (m .ram) (m .cpu))) z
 
 -- ---- the interrupt: its accesses, and RAM after it
 
@@ -190,10 +171,10 @@ pub interrupt-made : (rom ram : List ℕ) (k : Chip) (c : Cpu) → accesses (loa
 unfolding accesses andThen trap load place afterPush
 interrupt-made rom ram k c = refl
 
-pub interrupt-ram : (rom : List ℕ) (m : Machine) → m .cpu .s < 256 → interruptTaken rom m .ram ≡ ramBy (m .ram) (accesses (load (m .ram) (m .chip) rom) (interrupt (m .cpu)))
+pub interrupt-ram : (rom : List ℕ) (m : Machine) → interruptTaken rom m .ram ≡ ramBy (m .ram) (accesses (load (m .ram) (m .chip) rom) (interrupt (m .cpu)))
 unfolding stored
-interrupt-ram rom m h =
+interrupt-ram rom m =
     let s = m .cpu .s in
     ap (λ (x : Machine). x .ram) (interrupt-leaves rom m)
-    ∙ three-pushes (m .ram) s (m .cpu .pc / 256) (m .cpu .pc % 256) (pushedP (m .cpu .p) false) h
+    ∙ three-pushes (m .ram) s (m .cpu .pc / 256) (m .cpu .pc % 256) (pushedP (m .cpu .p) false)
     ∙ ap (ramBy (m .ram)) (sym (interrupt-made rom (m .ram) (m .chip) (m .cpu)))

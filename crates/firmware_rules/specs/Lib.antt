@@ -3,3 +3,4 @@ pub mod History
 pub mod Parts
 pub mod Interrupts
 pub mod Writes
+pub mod Refusals

@@ -50,12 +50,13 @@ memory seen ram rom a = memoryAt seen ram rom (place a)
 
 -- ---- the stack, 0100..01FF
 
--- the address of a stack place, and its place in RAM
+-- the address of a stack place, and its place in RAM. S is a byte in the code; modulo 256 both are right for every number, so that no
+-- theorem on the stack asks for a byte
 abbrev pub stack : ℕ → ℕ
-stack s = s + 256
+stack s = s % 256 + 256
 
 unfoldable pub stackPlace : ℕ → ℕ
-stackPlace s = pick (ltb s 128) (s + 128) (s - 128)
+stackPlace s = (s + 128) % 256
 
 -- S after a push and after a pull: it wraps
 abbrev pub below : ℕ → ℕ

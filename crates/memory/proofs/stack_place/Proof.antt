@@ -1,5 +1,4 @@
-use mathlib.Core.Path.{refl}
-use borrow.Author.Tests.{le-ltb, lt-ltb}
+use native.Mathlib.Omega.{arith}
 use Rattle.memory.specs.Memory.{stackPlace}
 use borrow.Author.Needs.{needs}
 use Rattle.memory.proofs.stack_place.Statement.{statement}
@@ -11,5 +10,5 @@ stack-place-spec =
     tie.close
     (tie.spec
     (λ c. search needs)
-    (λ c. simp (lt-ltb _ _ (c .if1 .taken)) (refl, search needs))
-    (λ c. simp (le-ltb _ _ (c .if1 .left)) (refl, search needs)))
+    (λ c. (omega (arith, c .if1 .taken), search needs))
+    (λ c. (omega (arith, c .if1 .left), search needs)))
