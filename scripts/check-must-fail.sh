@@ -6,7 +6,8 @@
 # by itself. Any other edit file is one wrong program, and its first error counts. A refusal that only says that a proof no longer
 # fits the code, or that what it rests on was refused, shows nothing about the contract and fails the check. It cannot tell a fact
 # that fails from one that the proof does not find: that the edited code is wrong indeed, scripts/check-wrong-answers.sh sees by
-# running it. Each public function has at least two wrong answers.
+# running it. Each public function has at least two wrong answers, but for one without an `ensures` that reads or writes: no contract can say
+# what is read or written. Such a one stands in a crate that lists libc.
 set -euo pipefail
 cd "$(dirname "$0")/.."
 bad=0
@@ -64,14 +65,26 @@ for edit in crates/*/must-fail/*.edit; do
     [ -z "$twice" ] || complain "$edit names a theorem twice: ${twice%% *}"
 done
 
-functions=0
-while IFS=: read -r source name; do
-    crate=${source#crates/}
-    name=${crate%%/*}::$name
-    functions=$((functions + 1))
-    count=$(grep -cxF "$name" <<< "$tried" || true)
-    [ "$count" -ge 2 ] || complain "$name has $count wrong answers tried, not two"
-done < <(grep -oE '^pub (extern "C" )?fn [a-z0-9_]+' crates/*/src/lib.rt | sed -E 's/:pub .*fn /:/')
+# signatures: each public function as SOURCE NAME, and `ensures` where its contract has one
+signatures() {
+    awk '/^pub (extern "C" )?fn / { name = $0; sub(/^pub (extern "C" )?fn /, "", name); sub(/[^a-z0-9_].*/, "", name); kind = "" }
+        name != "" && /^ *ensures / { kind = "ensures" }
+        name != "" && /^\{|[^ ] \{$/ { print FILENAME, name, kind; name = "" }' crates/*/src/lib.rt
+}
 
-[ "$bad" = 0 ] && echo "must-fail: $answers wrong answers, each refused at a fact of its own proof or theorem; at least two for each of $functions public functions"
+functions=0
+silent=0
+while read -r source name kind; do
+    crate=${source#crates/}
+    crate=${crate%%/*}
+    if [ -z "$kind" ] && grep -qE "^$crate:.* libc( |\$)" crates.txt; then
+        silent=$((silent + 1))
+        continue
+    fi
+    functions=$((functions + 1))
+    count=$(grep -cxF "$crate::$name" <<< "$tried" || true)
+    [ "$count" -ge 2 ] || complain "$crate::$name has $count wrong answers tried, not two"
+done < <(signatures)
+
+[ "$bad" = 0 ] && echo "must-fail: $answers wrong answers, each refused at a fact of its own proof or theorem; at least two for each of $functions public functions; $silent only read or write"
 exit "$bad"

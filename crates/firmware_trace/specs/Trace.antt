@@ -1,7 +1,8 @@
 -- A firmware run from power up, step by step, with its counts, and what a trace shows of the instruction to come (document 02, Wish 5).
 use Prim.Native.Nat.{ℕ, _+_, _%_, _^_}
-use mathlib.Core.Bool.{Bool, true}
+use mathlib.Core.Bool.{Bool, true, _&&_}
 use mathlib.Core.List.{List, []}
+use lib.Dec.{eqb, ltb}
 use Rattle.chip.specs.declared.Chip.{Chip}
 use Rattle.chip.specs.State.{fresh}
 use Rattle.operations.specs.declared.Cpu.{Cpu}
@@ -21,6 +22,11 @@ started c k = record { cpu = c; chip = k; next = 0; number = 0; given = 0; answe
 
 abbrev pub poweredUp : List ℕ → Run
 poweredUp rom = started (powerUp rom) fresh
+
+-- ---- whether another instruction may follow: none was refused, all is printed, and fewer than `count` are done
+
+unfoldable pub goesOn : ℕ → Bool → ℕ → ℕ → Bool
+goesOn number printed next count = (eqb number 0 && printed) && ltb next count
 
 -- ---- instructions with no event between, as a firmware call with an empty list does them
 

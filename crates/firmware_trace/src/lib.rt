@@ -3,7 +3,7 @@
 ghost use mathlib.Core.Path.{_≡_};
 ghost use mathlib.Core.List.{[]};
 ghost use Rattle.machine.specs.Run.{firmware as firmwareOf};
-ghost use Rattle.firmware_trace.specs.Trace.{poweredUp, ranOn, givenTo, fetched};
+ghost use Rattle.firmware_trace.specs.Trace.{poweredUp, goesOn, ranOn, givenTo, fetched};
 use chip::Chip;
 use memory::Loaded;
 use operations::Cpu;
@@ -42,6 +42,14 @@ pub fn power_up(rom: &[u8]) -> Run
         answer: 0,
         printed: true,
     }
+}
+
+// Another instruction may follow: none was refused, all is printed, and fewer than `count` are done.
+// Wrong answers: an instruction behind a refused one; one more than `count`.
+pub fn goes_on(number: u8, printed: bool, next: u32, count: u32) -> bool
+    ensures { λ r. ⌜ r ≡ goesOn number printed next count ⌝ }
+{
+    (number == 0) & printed & (next < count)
 }
 
 // Instructions with no event between; those done are counted.

@@ -1,10 +1,10 @@
--- `firmware::trace_on` is safe and ends.
+-- `firmware_print::trace_on` is safe and ends.
 -- Assumes nothing.
 use Prim.Native.Nat.{_-_}
 use native.Mathlib.Omega.{arith}
 use borrow.Author.Needs.{needs}
-use Rattle.firmware.proofs.trace_on.Statement.{statement}
-use Rattle.firmware.proofs.trace_on.Tie as tie
+use Rattle.firmware_print.proofs.trace_on.Statement.{statement}
+use Rattle.firmware_print.proofs.trace_on.Tie as tie
 
 abbrev Inv-loop : tie.InvT-loop
 Inv-loop ram₀ rom instructions run₀ i₀ ram run i = Unit {0}

@@ -1,8 +1,8 @@
--- `firmware::check_lines` is safe and ends: the measure is the number of blocks that may still come.
+-- `firmware_input::check_lines` is safe and ends: the measure is the number of blocks that may still come.
 -- Assumes nothing.
 use borrow.Author.Needs.{needs}
-use Rattle.firmware.proofs.check_lines.Statement.{statement}
-use Rattle.firmware.proofs.check_lines.Tie as tie
+use Rattle.firmware_input.proofs.check_lines.Statement.{statement}
+use Rattle.firmware_input.proofs.check_lines.Tie as tie
 
 abbrev Inv-loop : tie.InvT-loop
 Inv-loop fd turn₀ blocks₀ turn blocks = Unit {0}

@@ -1,8 +1,8 @@
--- `firmware::count_rest` is safe and ends: the measure is the number of blocks that may still come.
+-- `firmware_input::count_rest` is safe and ends: the measure is the number of blocks that may still come.
 -- Assumes nothing.
 use borrow.Author.Needs.{needs}
-use Rattle.firmware.proofs.count_rest.Statement.{statement}
-use Rattle.firmware.proofs.count_rest.Tie as tie
+use Rattle.firmware_input.proofs.count_rest.Statement.{statement}
+use Rattle.firmware_input.proofs.count_rest.Tie as tie
 
 abbrev Inv-loop : tie.InvT-loop
 Inv-loop fd count₀ blocks₀ count blocks = Unit {0}
