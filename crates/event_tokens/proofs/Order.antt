@@ -1,5 +1,5 @@
 -- The calls that read a list find what the lines of its text mean, in order, wherever blocks end. That `firmware` makes these calls is to be read
--- in its source: `take_block` and `take_list` have no contract that says so.
+-- in its source: `firmware_input::find`, which reads the file, has no contract that could say so.
 -- Assumes nothing.
 use mathlib.Core.Path.{_≡_, refl, ap, _∙_}
 use mathlib.Core.Bool.{Bool, true, false}
