@@ -223,9 +223,14 @@ pub fn rom(random: &mut Random) -> Box<[u8; ROM_SIZE]> {
     rom
 }
 
-/// Generated words as events a few instructions apart, some of them late.
+/// A watchdog clock.
+const WATCHDOG: u32 = 0x0400_0300;
+
+/// Generated words as events a few instructions apart, some of them late. Now and then watchdog
+/// clocks follow one another, mostly enough for a reset.
 pub fn events(random: &mut Random, count: usize) -> Vec<Listed> {
     let mut number = 0;
+    let mut clocks = 0;
     let spread = 1 + random.below(6);
     Traffic::new(random.bits() >> 8)
         .take(count)
@@ -236,8 +241,14 @@ pub fn events(random: &mut Random, count: usize) -> Vec<Listed> {
             } else {
                 0
             };
+            if random.once_in(150) {
+                clocks = 40 + random.below(50);
+            }
             // RESET comes back again and again, so that few runs end low.
-            let word = if random.once_in(40) {
+            let word = if clocks > 0 {
+                clocks -= 1;
+                WATCHDOG
+            } else if random.once_in(40) {
                 reset_pin(!random.once_in(4))
             } else {
                 word

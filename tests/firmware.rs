@@ -99,7 +99,8 @@ struct Seen {
     instructions: u64,
     interrupts: u64,
     events: u64,
-    resets: u64,
+    pin_resets: u64,
+    watchdog_resets: u64,
     numbers: [u64; 23],
 }
 
@@ -107,7 +108,10 @@ struct Seen {
 #[derive(Default)]
 struct Tally {
     interrupts: u64,
-    resets: u64,
+    pin_resets: u64,
+    watchdog_resets: u64,
+    /// RESET's level; only its fall resets.
+    reset: bool,
 }
 
 impl Watch for Tally {
@@ -116,8 +120,12 @@ impl Watch for Tally {
     }
 
     fn event(&mut self, _instruction: u32, word: u32, answer: u32) {
-        let by_pin = word == 0x0300_0000 | (pin::RESET as u32) << 8;
-        self.resets += u64::from(by_pin || answer >> 16 & 1 == 1);
+        self.watchdog_resets += u64::from(answer >> 16 & 1);
+        let [level, ..] = word.to_le_bytes();
+        if level < 2 && word >> 8 == 0x03_0000 | pin::RESET as u32 {
+            self.pin_resets += u64::from(self.reset && level == 0);
+            self.reset = level == 1;
+        }
     }
 }
 
@@ -166,7 +174,10 @@ fn compare(what: &str, case: &Case, seen: &mut Seen) -> (u8, Cpu, [u8; RAM_SIZE]
         case.events,
         &mut answers,
         case.instructions,
-        Tally::default(),
+        Tally {
+            reset: case.chip.level(pin::RESET),
+            ..Tally::default()
+        },
     );
     let expected = Lent {
         cpu: cpu_bytes(&cpu).to_vec(),
@@ -188,7 +199,8 @@ fn compare(what: &str, case: &Case, seen: &mut Seen) -> (u8, Cpu, [u8; RAM_SIZE]
     seen.instructions += told.counted as u64;
     seen.events += told.given as u64;
     seen.interrupts += tally.interrupts;
-    seen.resets += tally.resets;
+    seen.pin_resets += tally.pin_resets;
+    seen.watchdog_resets += tally.watchdog_resets;
     seen.numbers[told.number as usize] += 1;
     (number, cpu, ram, chip)
 }
@@ -387,6 +399,10 @@ fn refusals(seen: &mut Seen) -> usize {
                         }
                         if let Some(last) = lent.cpu.get_mut(7) {
                             *last = over;
+                        }
+                        // P with bits 5 and 4 set, which a run would clear.
+                        if let Some(flags) = lent.cpu.get_mut(4) {
+                            *flags = 0x31;
                         }
                         let events = [0x0000_0000_0400_0000, 0x0000_0001_0400_0000, 0x0000_0009_0400_0000];
                         let before = lent.clone();
@@ -597,13 +613,14 @@ fn main() {
     for number in [0, 5, 6, 20, 21] {
         assert!(seen.numbers[number] > 50, "number {number} comes too seldom: {:?}", seen.numbers);
     }
-    assert!(seen.interrupts > 500 && seen.resets > 50, "{} interrupts, {} resets", seen.interrupts, seen.resets);
+    let resets = [seen.pin_resets, seen.watchdog_resets];
+    assert!(seen.interrupts > 500 && resets.iter().all(|&count| count > 100), "{} interrupts, {resets:?} resets", seen.interrupts);
     println!(
         "firmware agrees: {states} states for 256 opcodes, all operands of ADC and SBC, {tried} refusals before a run, {rounds} programs and {} stored runs",
         runs().len()
     );
     println!(
-        "firmware agrees: in all {} instructions, {} events, {} interrupts, {} resets; the block is read by DDC2B and DDC1",
-        seen.instructions, seen.events, seen.interrupts, seen.resets
+        "firmware agrees: in all {} instructions, {} events, {} interrupts, {} resets by the pin and {} by the watchdog; the block is read by DDC2B and DDC1",
+        seen.instructions, seen.events, seen.interrupts, seen.pin_resets, seen.watchdog_resets
     );
 }

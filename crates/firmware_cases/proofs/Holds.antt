@@ -1,4 +1,4 @@
--- The theorem at work: a firmware that polls the flags while a host talks to another device.
+-- The theorem at work: firmware that polls the flags while a host talks to another device, and firmware that sets up DDC and is interrupted.
 use Prim.Native.Nat.{ℕ, _+_, _%_}
 use mathlib.Core.Path.{_≡_, refl, ap, _∙_}
 use mathlib.Core.Bool.{true}
@@ -13,7 +13,7 @@ use Rattle.machine.specs.Run.{runs, firmware}
 use Rattle.firmware_isolation.specs.Trace.{trace, accessesOf}
 use Rattle.firmware_isolation.specs.Transfers.{RunsAgree, CallsAgree}
 use Rattle.firmware_isolation.proofs.Runs.{firmware-runs-listed, firmware-runs, foreign-of, firmware-calls-listed}
-use Rattle.firmware_cases.specs.Firmware.{cpu, ram, startedChip, startedMachine, idleMachine, lowMachine, clockBit, event, transfer, whole, sdaPut, times, polling, pollingRom}
+use Rattle.firmware_cases.specs.Firmware.{cpu, ram, startedChip, startedMachine, idleMachine, lowMachine, interruptibleMachine, clockBit, event, transfer, whole, sdaPut, times, polling, pollingRom, servicingRom}
 use Rattle.firmware_cases.specs.Tests.{tests}
 use Rattle.firmware_cases.proofs.Opened.{opened}
 
@@ -82,10 +82,37 @@ pub behind-agree : RunsAgree (runs 4 0 refusing (sdaPut 0 0 ++ (event 2 0x030000
 unfolding opened
 behind-agree = firmware-runs 4 refusing startedMachine refl refl start-seen (sdaPut 0 0 ++ (event 2 0x03000000 ∷ [])) (sdaPut 0 1) (record { events = refl; left = refl; right = refl; sda = refl; unread = refl })
 
--- ---- RESET low at first: the first instruction does nothing, a clock then is not gathered, and the transfer begins once RESET is high
+-- ---- an interrupt is taken, and registers of DDC are read and written as the premises allow
+
+-- the list too writes II ADR, II DAT, II STS and MDCON, before the eighth instruction; then comes an address, and flag S with its first fall of
+-- SCL. FEH would match II ADR as it was at first, and 54H as the CPU wrote it.
+abbrev serviced : ℕ → List ℕ
+serviced n = event 7 0x02001356 ∷ event 7 0x02001412 ∷ event 7 0x02001530 ∷ event 7 0x02000502 ∷ transfer 8 n
+
+pub interrupted-agree : RunsAgree (runs 14 0 servicingRom (serviced 0x54) interruptibleMachine) (runs 14 0 servicingRom (serviced 0xfe) interruptibleMachine)
+    (trace 14 0 servicingRom (serviced 0x54) interruptibleMachine) (trace 14 0 servicingRom (serviced 0xfe) interruptibleMachine)
+unfolding opened servicingRom
+interrupted-agree = firmware-runs-listed 14 servicingRom interruptibleMachine refl refl start-seen (serviced 0x54) (serviced 0xfe) (record { events = refl; left = refl; right = refl; sda = refl; unread = refl })
+
+-- the interrupt stands between STA 05 and LDA 15, and RTI leads back to LDA 04
+pub interrupted-accesses : accessesOf (trace 14 0 servicingRom (serviced 0x54) interruptibleMachine)
+    ≡ readAt 0xA000 (Byte 0xA9) ∷ readAt 0xA001 (Byte 0x20) ∷ readAt 0xA002 (Byte 0x85) ∷ readAt 0xA003 (Byte 0x0F) ∷ writeAt 0x0F 0x20
+    ∷ readAt 0xA004 (Byte 0xA9) ∷ readAt 0xA005 (Byte 0x54) ∷ readAt 0xA006 (Byte 0x85) ∷ readAt 0xA007 (Byte 0x13) ∷ writeAt 0x13 0x54
+    ∷ readAt 0xA008 (Byte 0x85) ∷ readAt 0xA009 (Byte 0x14) ∷ writeAt 0x14 0x54 ∷ readAt 0xA00A (Byte 0xA9) ∷ readAt 0xA00B (Byte 0x00)
+    ∷ readAt 0xA00C (Byte 0x85) ∷ readAt 0xA00D (Byte 0x15) ∷ writeAt 0x15 0x00 ∷ readAt 0xA00E (Byte 0x85) ∷ readAt 0xA00F (Byte 0x05) ∷ writeAt 0x05 0x00
+    ∷ writeAt 0x1FF 0xA0 ∷ writeAt 0x1FE 0x10 ∷ writeAt 0x1FD 0x2B ∷ readAt 0xFFFE (Byte 0x12) ∷ readAt 0xFFFF (Byte 0xA0)
+    ∷ readAt 0xA012 (Byte 0xA5) ∷ readAt 0xA013 (Byte 0x15) ∷ readAt 0x15 (Byte 0x00) ∷ readAt 0xA014 (Byte 0xA5) ∷ readAt 0xA015 (Byte 0x04) ∷ readAt 0x04 (Byte 0x03)
+    ∷ readAt 0xA016 (Byte 0xA9) ∷ readAt 0xA017 (Byte 0x3F) ∷ readAt 0xA018 (Byte 0x85) ∷ readAt 0xA019 (Byte 0x11) ∷ writeAt 0x11 0x3F
+    ∷ readAt 0xA01A (Byte 0x40) ∷ readAt 0x1FD (Byte 0x2B) ∷ readAt 0x1FE (Byte 0x10) ∷ readAt 0x1FF (Byte 0xA0)
+    ∷ readAt 0xA010 (Byte 0xA5) ∷ readAt 0xA011 (Byte 0x04) ∷ readAt 0x04 (Byte 0x03) ∷ []
+unfolding opened servicingRom
+interrupted-accesses = refl
+
+-- ---- RESET low at first: the first instruction does nothing, writes that would turn DDC off or ask for DDC1 are refused, a clock then is not
+-- gathered, and the transfer begins once RESET is high
 
 abbrev afterLow : ℕ → List ℕ
-afterLow n = clockBit 0 (n % 2) ++ (event 1 0x03001C01 ∷ transfer 1 n)
+afterLow n = event 0 0x02001508 ∷ event 0 0x02000501 ∷ (clockBit 0 (n % 2) ++ (event 1 0x03001C01 ∷ transfer 1 n))
 
 pub low-agrees : RunsAgree (runs 5 0 polling (afterLow 0xa2) lowMachine) (runs 5 0 polling (afterLow 0x55) lowMachine) (trace 5 0 polling (afterLow 0xa2) lowMachine) (trace 5 0 polling (afterLow 0x55) lowMachine)
 unfolding opened

@@ -2,16 +2,20 @@
 -- fails, and something compared differs. That the chip is well formed the call tests itself.
 use Prim.Native.Nat.{ℕ}
 use mathlib.Core.Path.{_≡_, refl}
-use mathlib.Core.Bool.{true, false}
+use mathlib.Core.Bool.{Bool, true, false}
 use mathlib.Core.List.{List, [], _∷_, _++_}
-use lib.ListN.{getD}
+use lib.ListN.{getD, drop}
 use Rattle.bus.specs.declared.Phase.{Phase}
 use Rattle.bus.specs.declared.Phase.the-variants.{Idle, Address}
 use Rattle.isolation.specs.Foreign.{none, since}
+use Rattle.memory.specs.declared.Loaded.the-variants.{Byte, Refused}
+use Rattle.instruction.specs.Program.{Access, readAt}
 use Rattle.machine.specs.Machine.{Machine}
 use Rattle.machine.specs.Run.{runs}
-use Rattle.firmware_cases.specs.Firmware.{freshMachine, startedMachine, gatheringMachine, idleMachine, event, transfer, sevenBits, sdaPut, times, polling, adrWriting, turningOff, askingDdc1, port3Reading, dataReading, dataFetching}
+use Rattle.firmware_isolation.specs.Trace.{trace, accessesOf}
+use Rattle.firmware_cases.specs.Firmware.{freshMachine, startedMachine, gatheringMachine, idleMachine, event, transfer, sevenBits, sdaPut, times, polling, adrWriting, turningOff, askingDdc1, port3Reading, dataReading, dataFetching, dataChanging, dataPointing, dataPointingY}
 use Rattle.firmware_cases.specs.Tests.{Tested, tests}
+use Rattle.firmware_cases.specs.Instructions.{registersOf}
 use Rattle.firmware_cases.proofs.Opened.{opened}
 
 -- A after n instructions in each run, and the byte at 0080
@@ -69,11 +73,29 @@ pub own-address-needed : _≡_ {A = Tested × (ℕ × ℕ)} (tests 4 adrWriting 
 unfolding opened
 own-address-needed = refl
 
+-- and as the list wrote it
+abbrev listedAddress : ℕ → List ℕ
+listedAddress n = event 0 0x02001354 ∷ transfer 0 n
+
+pub listed-address-needed : _≡_ {A = Tested × (ℕ × ℕ)} (tests 4 polling startedMachine (since []) (listedAddress 0x54) (listedAddress 0xa2), bytes 4 polling startedMachine (listedAddress 0x54) (listedAddress 0xa2))
+    ((true, false, true, true, true), (0x28, 0x20))
+unfolding opened
+listed-address-needed = refl
+
 -- DDC turned off by the CPU: PT3 shows SDA
 pub ddc-needed : _≡_ {A = Tested × (ℕ × ℕ)} (tests 3 turningOff startedMachine (since []) (sdaPut 0 0) (sdaPut 0 1), accumulators 3 turningOff startedMachine (sdaPut 0 0) (sdaPut 0 1))
     ((true, false, true, true, true), (0, 1))
 unfolding opened
 ddc-needed = refl
+
+-- and by the list
+abbrev turnedOff : ℕ → List ℕ
+turnedOff level = sdaPut 0 level ++ (event 0 0x02001508 ∷ [])
+
+pub listed-ddc-needed : _≡_ {A = Tested × (ℕ × ℕ)} (tests 1 port3Reading startedMachine (since []) (turnedOff 0) (turnedOff 1), accumulators 1 port3Reading startedMachine (turnedOff 0) (turnedOff 1))
+    ((true, false, false, true, true), (0, 1))
+unfolding opened
+listed-ddc-needed = refl
 
 -- a reset by the RESET pin turns DDC off as well: a listed read of PT3 shows SDA
 abbrev resetWith : ℕ → List ℕ
@@ -84,18 +106,6 @@ pub reset-needed : _≡_ {A = Tested × (ℕ × ℕ)} (tests 1 polling startedMa
 unfolding opened
 reset-needed = refl
 
--- DDC1 asked for by the CPU: the rises of VSYNCI load II DAT, which holds the foreign address
-abbrev pulse : List ℕ
-pulse = event 5 0x03001B00 ∷ event 5 0x03001B01 ∷ []
-
-abbrev withVsync : ℕ → List ℕ
-withVsync n = transfer 0 n ++ (pulse ++ (pulse ++ (pulse ++ (pulse ++ (pulse ++ (pulse ++ (pulse ++ (pulse ++ (pulse ++ pulse)))))))))
-
-pub ddc1-needed : _≡_ {A = Tested × (ℕ × ℕ)} (tests 6 askingDdc1 startedMachine (since []) (withVsync 0xa2) (withVsync 0x54), (runs 6 0 askingDdc1 (withVsync 0xa2) startedMachine .machine .chip .core .bus .shifter .register, runs 6 0 askingDdc1 (withVsync 0x54) startedMachine .machine .chip .core .bus .shifter .register))
-    ((true, false, true, true, true), (0xa2, 0x54))
-unfolding opened
-ddc1-needed = refl
-
 -- so does the 64th watchdog clock
 abbrev expiredWith : ℕ → List ℕ
 expiredWith level = sdaPut 0 level ++ (times 64 (event 0 0x04000300) ++ (event 0 0x01000400 ∷ []))
@@ -104,6 +114,34 @@ pub watchdog-needed : _≡_ {A = Tested × (ℕ × ℕ)} (tests 1 polling starte
     ((true, false, false, true, true), (0, 1))
 unfolding opened
 watchdog-needed = refl
+
+-- DDC1 asked for by the CPU: the rises of VSYNCI load II DAT, which holds the foreign address
+abbrev pulse : List ℕ
+pulse = event 5 0x03001B00 ∷ event 5 0x03001B01 ∷ []
+
+abbrev pulses : List ℕ
+pulses = pulse ++ (pulse ++ (pulse ++ (pulse ++ (pulse ++ (pulse ++ (pulse ++ (pulse ++ (pulse ++ pulse))))))))
+
+abbrev withVsync : ℕ → List ℕ
+withVsync n = transfer 0 n ++ pulses
+
+-- what the shift register holds after six instructions in each run
+abbrev shifted : List ℕ → List ℕ → List ℕ → ℕ × ℕ
+shifted rom es fs = (runs 6 0 rom es startedMachine .machine .chip .core .bus .shifter .register, runs 6 0 rom fs startedMachine .machine .chip .core .bus .shifter .register)
+
+pub ddc1-needed : _≡_ {A = Tested × (ℕ × ℕ)} (tests 6 askingDdc1 startedMachine (since []) (withVsync 0xa2) (withVsync 0x54), shifted askingDdc1 (withVsync 0xa2) (withVsync 0x54))
+    ((true, false, true, true, true), (0xa2, 0x54))
+unfolding opened
+ddc1-needed = refl
+
+-- and by the list, the CPU doing nothing (NOP)
+abbrev askedDdc1 : ℕ → List ℕ
+askedDdc1 n = transfer 0 n ++ (event 5 0x02000501 ∷ pulses)
+
+pub listed-ddc1-needed : _≡_ {A = Tested × (ℕ × ℕ)} (tests 6 (times 6 0xEA) startedMachine (since []) (askedDdc1 0xa2) (askedDdc1 0x54), shifted (times 6 0xEA) (askedDdc1 0xa2) (askedDdc1 0x54))
+    ((true, false, false, true, true), (0xa2, 0x54))
+unfolding opened
+listed-ddc1-needed = refl
 
 -- SDA falls in one run alone while SCL is high: a START
 pub sda-needed : _≡_ {A = Tested × (Phase × Phase)} (tests 1 port3Reading idleMachine none (event 0 0x03001800 ∷ []) (event 0 0x03001801 ∷ []), (runs 1 0 port3Reading (event 0 0x03001800 ∷ []) idleMachine .machine .chip .core .bus .phase, runs 1 0 port3Reading (event 0 0x03001801 ∷ []) idleMachine .machine .chip .core .bus .phase))
@@ -131,3 +169,36 @@ pub opcode-needed : _≡_ {A = Tested × (ℕ × ℕ)} (tests 5 dataFetching sta
     ((true, true, true, true, false), (0, 20))
 unfolding opened
 opcode-needed = refl
+
+-- INC 14 reads it too: its byte goes back to II DAT, but N tells A3H from 55H
+pub changed-needed : _≡_ {A = Tested × (Bool × Bool)} (tests 4 dataChanging startedMachine (since []) (transfer 0 0xa2) (transfer 0 0x54), (runs 4 0 dataChanging (transfer 0 0xa2) startedMachine .machine .cpu .p .n, runs 4 0 dataChanging (transfer 0 0x54) startedMachine .machine .cpu .p .n))
+    ((true, true, true, true, false), (true, false))
+unfolding opened
+changed-needed = refl
+
+-- a pointer in II DAT and II STS: to RAM at 00A2, and to the flags at 0010
+pub pointer-needed : _≡_ {A = Tested × (ℕ × ℕ)} (tests 4 dataPointing startedMachine (since []) (transfer 0 0xa2) (transfer 0 0x10), accumulators 4 dataPointing startedMachine (transfer 0 0xa2) (transfer 0 0x10))
+    ((true, true, true, true, false), (0, 0x20))
+unfolding opened
+pointer-needed = refl
+
+-- an instruction that is refused with 21 in both runs, its pointer leading to 0042 and to 0050: the accesses tell the runs apart
+pub refused-needed : _≡_ {A = Tested × (ℕ × ℕ) × (List Access × List Access)} (
+  tests 4 dataPointingY startedMachine (since []) (transfer 0 0x42) (transfer 0 0x50),
+  (runs 4 0 dataPointingY (transfer 0 0x42) startedMachine .number, runs 4 0 dataPointingY (transfer 0 0x50) startedMachine .number),
+  (drop 8 (accessesOf (trace 4 0 dataPointingY (transfer 0 0x42) startedMachine)), drop 8 (accessesOf (trace 4 0 dataPointingY (transfer 0 0x50) startedMachine))),
+) (
+  (true, true, true, true, false),
+  (21, 21),
+  (readAt 0x14 (Byte 0x42) ∷ readAt 0x15 (Byte 0) ∷ readAt 0x42 (Refused 21) ∷ [], readAt 0x14 (Byte 0x50) ∷ readAt 0x15 (Byte 0) ∷ readAt 0x50 (Refused 21) ∷ []),
+)
+unfolding opened
+refused-needed = refl
+
+-- and not the CPU
+abbrev refusedCpu : ℕ → List ℕ
+refusedCpu n = registersOf (runs 4 0 dataPointingY (transfer 0 n) startedMachine .machine .cpu) ∷ runs 4 0 dataPointingY (transfer 0 n) startedMachine .machine .cpu .pc ∷ runs 4 0 dataPointingY (transfer 0 n) startedMachine .machine .cpu .over ∷ []
+
+pub refused-cpu : _≡_ {A = List ℕ × List ℕ} (refusedCpu 0x42, refusedCpu 0x50) (0xFF06 ∷ 0xA005 ∷ 7 ∷ [], 0xFF06 ∷ 0xA005 ∷ 7 ∷ [])
+unfolding opened
+refused-cpu = refl

@@ -1,10 +1,10 @@
 -- The rules of a firmware run at small programs, computed.
 use Prim.Native.Nat.{ℕ}
 use mathlib.Core.Path.{_≡_, refl}
-use mathlib.Core.Bool.{Bool, true}
+use mathlib.Core.Bool.{Bool, true, false}
 use mathlib.Core.List.{List, [], _∷_}
 use native.Mathlib.Omega.{arith}
-use lib.ListN.{getD, length}
+use lib.ListN.{getD, length, drop}
 use Rattle.memory.specs.declared.Loaded.the-variants.{Byte}
 use Rattle.memory.specs.declared.Place.the-variants.{Register, Ram, Rom, Unmapped}
 use Rattle.memory.specs.Memory.{place}
@@ -17,7 +17,7 @@ use Rattle.firmware_rules.specs.Numbers.{madeBy}
 use Rattle.firmware_rules.specs.Parts.{renumbered}
 use Rattle.firmware_rules.specs.Refusals.{turnNumber, refusedPast}
 use Rattle.firmware_rules.proofs.Refusals.{run-refused-at}
-use Rattle.firmware_cases.specs.Firmware.{cpu, ram, startedChip, startedMachine, requestingMachine, stackMachine, indexMachine, over31Machine, over32Cpu, event, polling, pollingRom}
+use Rattle.firmware_cases.specs.Firmware.{cpu, ram, startedChip, startedMachine, requestingMachine, workingMachine, stackMachine, indexMachine, over31Machine, over32Cpu, event, times, polling, pollingRom, restingRom}
 use Rattle.firmware_cases.proofs.Opened.{opened}
 use Rattle.firmware_cases.proofs.Holds.{rom-length}
 
@@ -151,6 +151,28 @@ pub reset-low : _≡_ {A = List ℕ × Bool} (
     (0 ∷ 2 ∷ 0 ∷ 7 ∷ 255 ∷ 0 ∷ [], true)
 unfolding opened
 reset-low = refl
+
+-- 64 watchdog clocks reset the chip, which takes back its request: I is set, PC comes from FFFC, all else of the CPU is kept, at no cycles; then
+-- the NOP at B234
+abbrev watched : ℕ → List ℕ
+watched n = times n (event 0 0x04000300)
+
+abbrev clockedRun : ℕ → Machine
+clockedRun n = runs 1 0 restingRom (watched n) workingMachine .machine
+
+pub watchdog-restarts : _≡_ {A = List ℕ × (Bool × Bool × Bool × Bool × Bool × Bool)} (
+  runs 1 0 restingRom (watched 64) workingMachine .number ∷ clockedRun 64 .cpu .a ∷ clockedRun 64 .cpu .x ∷ clockedRun 64 .cpu .y ∷ clockedRun 64 .cpu .s
+      ∷ clockedRun 64 .cpu .pc ∷ clockedRun 64 .cpu .over ∷ drop 62 (runs 1 0 restingRom (watched 64) workingMachine .answers),
+  (clockedRun 64 .cpu .p .n, clockedRun 64 .cpu .p .v, clockedRun 64 .cpu .p .d, clockedRun 64 .cpu .p .i, clockedRun 64 .cpu .p .z, clockedRun 64 .cpu .p .c),
+)
+    (0 ∷ 7 ∷ 8 ∷ 9 ∷ 0x80 ∷ 0xB235 ∷ 7 ∷ 0x2000 ∷ 0x10000 ∷ [], (true, false, true, true, false, false))
+unfolding opened restingRom
+watchdog-restarts = refl
+
+-- 63 do not: the interrupt is taken
+pub watchdog-waits : _≡_ {A = List ℕ} (clockedRun 63 .cpu .s ∷ clockedRun 63 .cpu .pc ∷ clockedRun 63 .cpu .over ∷ []) (0x7D ∷ 0xC013 ∷ 14 ∷ [])
+unfolding opened restingRom
+watchdog-waits = refl
 
 -- a late event holds back the one behind it: none of the two is given before instruction 5, both are before it
 abbrev late : List ℕ

@@ -67,9 +67,21 @@ unfoldable pub requestingMachine : Machine
 unfolding startedChip
 requestingMachine = machine interruptibleCpu ram (wordsGiven startedChip (0x02000F20 ∷ 0x03001900 ∷ []))
 
+-- a request as before; N and D set and I clear, no register at 0, five cycles over
+unfoldable pub workingMachine : Machine
+unfolding startedChip
+workingMachine =
+    machine (record { a = 7; x = 8; y = 9; s = 0x80; p = flags true false true false false false; pc = 0xA000; over = 5 }) ram
+    (wordsGiven startedChip (0x02000F20 ∷ 0x03001900 ∷ []))
+
 unfoldable pub over31Machine : Machine
 unfolding startedChip
 over31Machine = machine over31Cpu ram startedChip
+
+-- I clear at a START, no flag enabled yet
+unfoldable pub interruptibleMachine : Machine
+unfolding startedChip
+interruptibleMachine = machine interruptibleCpu ram startedChip
 
 -- JSR 1234 in RAM at 01FD, where the stack is
 unfoldable pub stackMachine : Machine
@@ -152,3 +164,30 @@ dataReading = 0xEA ∷ 0xEA ∷ 0xEA ∷ 0xA5 ∷ 0x14 ∷ []
 -- NOP, NOP, NOP, JMP 0014
 abbrev pub dataFetching : List ℕ
 dataFetching = 0xEA ∷ 0xEA ∷ 0xEA ∷ 0x4C ∷ 0x14 ∷ 0x00 ∷ []
+
+-- NOP, NOP, NOP, INC 14
+abbrev pub dataChanging : List ℕ
+dataChanging = 0xEA ∷ 0xEA ∷ 0xEA ∷ 0xE6 ∷ 0x14 ∷ []
+
+-- LDA #00, STA 15 (START cleared, so that II STS reads 00), NOP, LDA (14,X)
+abbrev pub dataPointing : List ℕ
+dataPointing = 0xA9 ∷ 0x00 ∷ 0x85 ∷ 0x15 ∷ 0xEA ∷ 0xA1 ∷ 0x14 ∷ []
+
+-- the same with LDA (14),Y
+abbrev pub dataPointingY : List ℕ
+dataPointingY = 0xA9 ∷ 0x00 ∷ 0x85 ∷ 0x15 ∷ 0xEA ∷ 0xB1 ∷ 0x14 ∷ []
+
+-- LDA #20, STA 0F (flag S enabled), LDA #54, STA 13 (II ADR), STA 14 (II DAT), LDA #00, STA 15 (II STS, ENDDC 0), STA 05 (MDCON, MD1/2 0),
+-- LDA 04 (PT3); from A012 on an interrupt routine: LDA 15, LDA 04, LDA #3F, STA 11 (the flags cleared), RTI
+abbrev pub servicing : List ℕ
+servicing =
+    0xA9 ∷ 0x20 ∷ 0x85 ∷ 0x0F ∷ 0xA9 ∷ 0x54 ∷ 0x85 ∷ 0x13 ∷ 0x85 ∷ 0x14 ∷ 0xA9 ∷ 0x00 ∷ 0x85 ∷ 0x15 ∷ 0x85 ∷ 0x05 ∷ 0xA5 ∷ 0x04
+    ∷ 0xA5 ∷ 0x15 ∷ 0xA5 ∷ 0x04 ∷ 0xA9 ∷ 0x3F ∷ 0x85 ∷ 0x11 ∷ 0x40 ∷ []
+
+-- the whole ROM of it, with the vector of the interrupt
+unfoldable pub servicingRom : List ℕ
+servicingRom = servicing ++ (replicate 24547 0 ++ (0x12 ∷ 0xA0 ∷ []))
+
+-- a whole ROM of NOPs: a reset leads to B234, an interrupt to C012
+unfoldable pub restingRom : List ℕ
+restingRom = replicate 24572 0xEA ++ (0x34 ∷ 0xB2 ∷ 0x12 ∷ 0xC0 ∷ [])

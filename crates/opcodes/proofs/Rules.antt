@@ -62,6 +62,48 @@ pub no-cycles : allBelow (λ (k : ℕ). isDocumented (operationOf (entryOf k)) |
 unfolding opcodes operations operationNumbered operationOf cyclesOf entryOf
 no-cycles = refl
 
+-- ---- the operation says what kind of operand there is, and the mode is of that kind
+
+-- none, A, the distance of a branch, a byte or an address, and 4 for opcodes that are not documented
+unfoldable pub operandOf : Operation → ℕ
+operandOf (Implied o) = 0
+operandOf Rts = 0
+operandOf Rti = 0
+operandOf Brk = 0
+operandOf Pha = 0
+operandOf Php = 0
+operandOf Pla = 0
+operandOf Plp = 0
+operandOf (ModifyA o) = 1
+operandOf (Branch o) = 2
+operandOf (Read o) = 3
+operandOf (Store o) = 3
+operandOf (Modify o) = 3
+operandOf Jmp = 3
+operandOf Jsr = 3
+operandOf Undocumented = 4
+
+unfoldable pub operandBy : Mode → ℕ
+operandBy mode.Implied = 0
+operandBy mode.Accumulator = 1
+operandBy mode.Relative = 2
+operandBy mode.Immediate = 3
+operandBy mode.ZeroPage = 3
+operandBy mode.ZeroPageX = 3
+operandBy mode.ZeroPageY = 3
+operandBy mode.Absolute = 3
+operandBy mode.AbsoluteX = 3
+operandBy mode.AbsoluteY = 3
+operandBy mode.AbsoluteIndirect = 3
+operandBy mode.IndexedIndirect = 3
+operandBy mode.IndirectIndexed = 3
+operandBy mode.Undocumented = 4
+
+-- so a mode is Implied, Accumulator or Relative exactly where the operation takes no operand, is one of A, is a branch
+pub mode-fits : allBelow (λ (k : ℕ). eqb (operandBy (modeOf (entryOf k))) (operandOf (operationOf (entryOf k)))) 256 ≡ true
+unfolding opcodes operations operationNumbered operationOf modes modeNumbered modeOf entryOf operandOf operandBy
+mode-fits = refl
+
 -- ---- base cycles are at most seven
 
 hasFewCycles : ℕ → Bool
