@@ -29,7 +29,7 @@ use Rattle.instruction.specs.Program.{andThen, perform, accesses}
 use Rattle.instruction.specs.Instruction.{trap, execute, instructionOf, instructionBy, interrupted, resetCpu}
 use Rattle.instruction_turn.specs.InstructionTurn.{destination, stored}
 use Rattle.machine.specs.Machine.{load, instruct, isRequesting, interruptTaken, afterInterrupt, turn}
-use Rattle.machine.specs.Run.{occurred, fed, answersBefore, left, runs}
+use Rattle.machine.specs.Run.{occurred, afterEvents, answersBefore, left, runs}
 use Rattle.isolation.specs.Foreign.{observe, permitted, untouched}
 use Rattle.firmware_isolation.specs.Trace.{interruptAccesses, instructionAccesses, turnAccesses, eventsBefore, trace}
 use Rattle.firmware_rules.specs.History.{interruptGiven, interruptCycles, instructionGiven, instructionCycles, turnGiven, turnCycles, givenBefore, history, cyclesCounted}
@@ -39,5 +39,5 @@ use Rattle.firmware_cases.specs.Tests.{tests}
 
 -- a proof that names this on its `unfolding` line computes runs
 unfoldable pub opened : ℕ
-unfolding comparedIn compared phaseLetGo bit merge withBit table rowOf resetValue writeMask readMask isWritable isReadable resets event noEvent noPlace badByte decode counted overflowed latched zeroed cycleNext stepLines latchLines clearLines zeroLines stepPeriods latchPeriods clearPeriods onHsync linesOnVsync onVsync intervalNext linesOnPeriod onPeriod hselCleared clearOverflow zeroSync wellSync timerNext timerOverflows watchdogNext watchdogFires loadsAtRise shifterAtRise matches gathered phaseAtRise dataAtRise matchesAtRise statusAtRise holdsAtFall acknowledges phaseAtFall heldLonger phaseAtPeriod mode changesMode pullsAtBit pullsSda pullsScl sdaPulled sclPulled reservedMask reservedAt reservedApart gatheredFits phaseFits isIdle isUnused busFits wellFormed port0 port1 port2 port3 hvcon shown reading released requested resetAt resetCore fresh busAtMode busAtRise sclRise sclFall leaveDdc1 onSclDdc1 onSclDdc2b onScl sclMoved started stopped onSdaDdc2b onSda sdaMoved busAtVsync loadsAtVsync target syncAtHsel mdconWritten clrflgWritten clrwdtWritten iiadrWritten statusWritten iistsWritten busRisen busAtIidat iidatWritten writtenTo keptBy written storedBy writeNumber writeRegister writeKept portKind pinKind port0Moved port1Moved port2Moved p16Moved hsyncMoved vsyncRise vsyncMoved onReset resetMoved pinMovedAs pinMoved periodClock timerRuns timerStep timerClock watchdogClock clockedAs clocked polarityFound coreAfter watchdogReset wasReset keptAfter next numberGiven byteGiven answered opcodes operations operationNumbered modes modeNumbered operationOf modeOf lengthOf cyclesOf isJsr entryOf readOperation storeOperation modifyOperation impliedOperation taken pushedP pulledP place stackPlace afterPush then branchTarget branchTo locate andThen perform accesses trap execute instructionOf instructionBy interrupted resetCpu destination stored load instruct isRequesting interruptTaken afterInterrupt turn occurred fed answersBefore left runs observe permitted untouched interruptAccesses instructionAccesses turnAccesses eventsBefore trace idleChip startedChip freshMachine startedMachine gatheringMachine idleMachine lowMachine requestingMachine interruptibleMachine workingMachine stackMachine indexMachine over31Machine clockBit transfer sevenBits whole tests interruptGiven interruptCycles instructionGiven instructionCycles turnGiven turnCycles givenBefore history cyclesCounted madeBy
+unfolding comparedIn compared phaseLetGo bit merge withBit table rowOf resetValue writeMask readMask isWritable isReadable resets event noEvent noPlace badByte decode counted overflowed latched zeroed cycleNext stepLines latchLines clearLines zeroLines stepPeriods latchPeriods clearPeriods onHsync linesOnVsync onVsync intervalNext linesOnPeriod onPeriod hselCleared clearOverflow zeroSync wellSync timerNext timerOverflows watchdogNext watchdogFires loadsAtRise shifterAtRise matches gathered phaseAtRise dataAtRise matchesAtRise statusAtRise holdsAtFall acknowledges phaseAtFall heldLonger phaseAtPeriod mode changesMode pullsAtBit pullsSda pullsScl sdaPulled sclPulled reservedMask reservedAt reservedApart gatheredFits phaseFits isIdle isUnused busFits wellFormed port0 port1 port2 port3 hvcon shown reading released requested resetAt resetCore fresh busAtMode busAtRise sclRise sclFall leaveDdc1 onSclDdc1 onSclDdc2b onScl sclMoved started stopped onSdaDdc2b onSda sdaMoved busAtVsync loadsAtVsync target syncAtHsel mdconWritten clrflgWritten clrwdtWritten iiadrWritten statusWritten iistsWritten busRisen busAtIidat iidatWritten writtenTo keptBy written storedBy writeNumber writeRegister writeKept portKind pinKind port0Moved port1Moved port2Moved p16Moved hsyncMoved vsyncRise vsyncMoved onReset resetMoved pinMovedAs pinMoved periodClock timerRuns timerStep timerClock watchdogClock clockedAs clocked polarityFound coreAfter watchdogReset wasReset keptAfter next numberGiven byteGiven answered opcodes operations operationNumbered modes modeNumbered operationOf modeOf lengthOf cyclesOf isJsr entryOf readOperation storeOperation modifyOperation impliedOperation taken pushedP pulledP place stackPlace afterPush then branchTarget branchTo locate andThen perform accesses trap execute instructionOf instructionBy interrupted resetCpu destination stored load instruct isRequesting interruptTaken afterInterrupt turn occurred afterEvents answersBefore left runs observe permitted untouched interruptAccesses instructionAccesses turnAccesses eventsBefore trace idleChip startedChip freshMachine startedMachine gatheringMachine idleMachine lowMachine requestingMachine interruptibleMachine workingMachine stackMachine indexMachine over31Machine clockBit transfer sevenBits whole tests interruptGiven interruptCycles instructionGiven instructionCycles turnGiven turnCycles givenBefore history cyclesCounted madeBy
 opened = 0

@@ -13,7 +13,7 @@ use Rattle.step.specs.Step.{answered}
 use Rattle.isolation.specs.Foreign.{Observer, permitted, sameButSda, equalAtHigh, comparedAnswer}
 use Rattle.instruction.specs.Program.{Access}
 use Rattle.machine.specs.Machine.{Machine}
-use Rattle.machine.specs.Run.{numberOf, wordOf, occurred, fed, left}
+use Rattle.machine.specs.Run.{numberOf, wordOf, occurred, afterEvents, left}
 use Rattle.firmware_isolation.specs.Trace.{Entry, given, entries, eventsBefore}
 use Rattle.firmware_isolation.specs.Transfers.{sameEvent, alikeEvents, within, ForeignLists, comparedTrace}
 use Rattle.firmware_isolation.proofs.Observers.{watch}
@@ -103,9 +103,9 @@ module _ (rom : List ℕ) (i n : ℕ) (e f : ℕ) (es fs : List ℕ) (x y : ℕ)
   pair-by : (b b′ : Bool) → b ≡ b′ → ltb i (numberOf e) ≡ b
       → ForeignLists n (e ∷ es) (f ∷ fs) o p (pick b [] (given e x ∷ eventsBefore rom i es l) ++ s) (pick b′ [] (given f y ∷ eventsBefore rom i fs l′) ++ t)
       → (ltb i (numberOf e) ≡ false → ForeignLists n (e ∷ es) (f ∷ fs) o p (given e x ∷ (eventsBefore rom i es l ++ s)) (given f y ∷ (eventsBefore rom i fs l′ ++ t))
-      → FedLists n (left i es) (left i fs) (given e x ∷ eventsBefore rom i es l) (given f y ∷ eventsBefore rom i fs l′) (fed rom i es l) (fed rom i fs l′) s t)
+      → FedLists n (left i es) (left i fs) (given e x ∷ eventsBefore rom i es l) (given f y ∷ eventsBefore rom i fs l′) (afterEvents rom i es l) (afterEvents rom i fs l′) s t)
       → FedLists n (pick b (e ∷ es) (left i es)) (pick b′ (f ∷ fs) (left i fs)) (pick b [] (given e x ∷ eventsBefore rom i es l)) (pick b′ [] (given f y ∷ eventsBefore rom i fs l′))
-      (pick b m (fed rom i es l)) (pick b′ m′ (fed rom i fs l′)) s t
+      (pick b m (afterEvents rom i es l)) (pick b′ m′ (afterEvents rom i fs l′)) s t
   pair-by true true z h q go = unfed k q
   pair-by true false z h q go = absurd (true≢false z)
   pair-by false true z h q go = absurd (true≢false (sym z))
@@ -113,8 +113,8 @@ module _ (rom : List ℕ) (i n : ℕ) (e f : ℕ) (es fs : List ℕ) (x y : ℕ)
 
 pub feeds-listed : (rom : List ℕ) (i n : ℕ) → ltb i n ≡ true → (es fs : List ℕ) {m m′ : Machine} {o p : Observer} (s t : List Entry) → Both m m′ o p
     → ForeignLists n es fs o p (eventsBefore rom i es m ++ s) (eventsBefore rom i fs m′ ++ t)
-    → FedLists n (left i es) (left i fs) (eventsBefore rom i es m) (eventsBefore rom i fs m′) (fed rom i es m) (fed rom i fs m′) s t
-unfolding eventsBefore fed left
+    → FedLists n (left i es) (left i fs) (eventsBefore rom i es m) (eventsBefore rom i fs m′) (afterEvents rom i es m) (afterEvents rom i fs m′) s t
+unfolding eventsBefore afterEvents left
 feeds-listed rom i n h [] [] s t k q = unfed k q
 feeds-listed rom i n h [] (f ∷ fs) s t k q =
     let z = right-alone i n h f (within n fs) (ltb (numberOf f) n) refl (q .events) in

@@ -21,7 +21,7 @@ use Rattle.isolation.proofs.Theorems.{self-related, flags-lt}
 use Rattle.operations.specs.declared.Cpu.{Cpu}
 use Rattle.instruction.specs.Program.{Access}
 use Rattle.machine.specs.Machine.{Machine, machine, Turned, turn}
-use Rattle.machine.specs.Run.{Ended, ended, prepended, onTurned, runs, called, isWellFormed, firmware, numberOf, wordOf, occurred, fed, left, answersBefore}
+use Rattle.machine.specs.Run.{Ended, ended, prepended, onTurned, runs, called, isWellFormed, firmware, numberOf, wordOf, occurred, afterEvents, left, answersBefore}
 use Rattle.firmware_isolation.specs.Trace.{Entry, given, made, entries, turnAccesses, eventsBefore, trace, wordsOf, answersOf, accessesOf}
 use Rattle.firmware_isolation.specs.Transfers.{happening, mayHappen, leavesData, throughout, leavesSda, equalThroughout, ForeignLists, ForeignRuns, OneForeignTransfer, comparedTrace, RunsAgree, CallsAgree}
 use Rattle.firmware_isolation.proofs.Observers.{watch}
@@ -65,7 +65,7 @@ pub trace-answers : (n i : ℕ) (rom es : List ℕ) (m : Machine) → answersOf 
 unfolding trace runs
 trace-answers zero i rom es m = refl
 trace-answers (suc n) i rom es m =
-    let f = fed rom i es m in
+    let f = afterEvents rom i es m in
     let s = trace n (i + 1) rom (left i es) (turn rom f .machine) in
     answers-append (eventsBefore rom i es m) (behindEvents n i rom (left i es) f)
     ∙ ap₂ _++_ (before-answers rom i es m)
@@ -149,8 +149,8 @@ two-runs : (n i : ℕ) (rom es fs : List ℕ) {m m′ : Machine} {o p : Observer
 unfolding trace runs
 two-runs zero i rom es fs k q = record { state = ends-with k; number = refl; counted = refl; happened = refl }
 two-runs (suc n) i rom es fs {m} {m′} k q =
-    let a = fed rom i es m in
-    let b = fed rom i fs m′ in
+    let a = afterEvents rom i es m in
+    let b = afterEvents rom i fs m′ in
     let s = behindEvents n i rom (left i es) a in
     let t = behindEvents n i rom (left i fs) b in
     let f = feeds rom i es fs s t k (later-behind n i rom (left i es) a) (later-behind n i rom (left i fs) b) q in
@@ -164,8 +164,8 @@ two-runs-listed : (n i n′ : ℕ) → i + n ≡ n′ → (rom es fs : List ℕ)
 unfolding trace runs
 two-runs-listed zero i n′ e rom es fs k q = record { state = ends-with k; number = refl; counted = refl; happened = refl }
 two-runs-listed (suc n) i n′ e rom es fs {m} {m′} k q =
-    let a = fed rom i es m in
-    let b = fed rom i fs m′ in
+    let a = afterEvents rom i es m in
+    let b = afterEvents rom i fs m′ in
     let es′ = left i es in
     let fs′ = left i fs in
     let s = behindEvents n i rom es′ a in

@@ -28,7 +28,7 @@ use Rattle.execution.specs.declared.Destination.{Destination}
 use Rattle.execution.specs.declared.Destination.the-variants as to
 use Rattle.instruction_turn.specs.InstructionTurn.{destination, stored, cyclesWith, counted, isInterrupted}
 use Rattle.machine.specs.Machine.{Machine, machine, turned, load, finished, storedTo, completed, instruct, isRequesting, interruptTaken, afterInterrupt, turn}
-use Rattle.machine.specs.Run.{Ended, ended, runs, fed, left, occurred, numberOf, wordOf, isWellFormed}
+use Rattle.machine.specs.Run.{Ended, ended, runs, afterEvents, left, occurred, numberOf, wordOf, isWellFormed}
 use Rattle.firmware_rules.specs.History.{Given, listed, written, clocked, eventOf, chipAfter, clocksIn, clockDue, givenTo, givenWith, cyclesTo, cyclesBy, instructionResult, interruptResult, interruptGiven, interruptCycles, instructionGiven, instructionCycles, turnGiven, turnCycles, givenBefore, history, cyclesCounted}
 use Rattle.firmware_rules.proofs.Trees.{Regular, documented-regular, undocumented-rejected}
 
@@ -183,17 +183,17 @@ occurred-counted rom m w o =
     let z = reset-over (wasReset (m .chip) (decode w)) rom (m .cpu) in
     record { chip = refl; balance = record { sum = omega (arith, z); small = omega (arith, z) } }
 
-fed-by : (b : Bool) (m x : Machine) (s : List Given) → m .cpu .over < 32 → Counted m x 0 s → Counted m (pick b m x) 0 (pick b [] s)
-fed-by true m x s o h = nothing m o
-fed-by false m x s o h = h
+afterEvents-by : (b : Bool) (m x : Machine) (s : List Given) → m .cpu .over < 32 → Counted m x 0 s → Counted m (pick b m x) 0 (pick b [] s)
+afterEvents-by true m x s o h = nothing m o
+afterEvents-by false m x s o h = h
 
-fed-counted : (rom : List ℕ) (i : ℕ) (es : List ℕ) (m : Machine) → m .cpu .over < 32 → Counted m (fed rom i es m) 0 (givenBefore i es)
-unfolding fed givenBefore
-fed-counted rom i [] m o = nothing m o
-fed-counted rom i (e ∷ es) m o =
+afterEvents-counted : (rom : List ℕ) (i : ℕ) (es : List ℕ) (m : Machine) → m .cpu .over < 32 → Counted m (afterEvents rom i es m) 0 (givenBefore i es)
+unfolding afterEvents givenBefore
+afterEvents-counted rom i [] m o = nothing m o
+afterEvents-counted rom i (e ∷ es) m o =
     let one = occurred-counted rom m (wordOf e) o in
-    fed-by (ltb i (numberOf e)) m (fed rom i es (occurred rom m (wordOf e))) (listed (wordOf e) ∷ givenBefore i es) o
-    (joined one (fed-counted rom i es (occurred rom m (wordOf e)) (one .balance .small)))
+    afterEvents-by (ltb i (numberOf e)) m (afterEvents rom i es (occurred rom m (wordOf e))) (listed (wordOf e) ∷ givenBefore i es) o
+    (joined one (afterEvents-counted rom i es (occurred rom m (wordOf e)) (one .balance .small)))
 
 -- ---- a run
 
@@ -206,9 +206,9 @@ pub run-counted : (n i : ℕ) (rom es : List ℕ) (m : Machine) → m .cpu .over
 unfolding runs cyclesCounted history
 run-counted zero i rom es m o = nothing m o
 run-counted (suc n) i rom es m o =
-    let f = fed-counted rom i es m o in
-    let x = turn rom (fed rom i es m) in
-    let t = turn-counted rom (fed rom i es m) (f .balance .small) in
+    let f = afterEvents-counted rom i es m o in
+    let x = turn rom (afterEvents rom i es m) in
+    let t = turn-counted rom (afterEvents rom i es m) (f .balance .small) in
     let r = run-counted n (i + 1) rom (left i es) (x .machine) (t .balance .small) in
     let z = joined f (joined t (on-counted (eqb (x .number) 0) (x .machine) (x .machine) (x .number) i (runs n (i + 1) rom (left i es) (x .machine))
     (cyclesCounted n (i + 1) rom (left i es) (x .machine)) (history n (i + 1) rom (left i es) (x .machine)) (t .balance .small) r)) in

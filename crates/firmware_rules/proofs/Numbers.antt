@@ -28,7 +28,7 @@ use Rattle.execution.specs.declared.Destination.{Destination}
 use Rattle.execution.specs.declared.Destination.the-variants as to
 use Rattle.instruction_turn.specs.InstructionTurn.{destinationAt, destination, cyclesWith, isInterrupted}
 use Rattle.machine.specs.Machine.{Machine, machine, Turned, turned, registerRead, loadAt, load, finished, storedTo, completed, instruct, isRequesting, interruptTaken, afterInterrupt, turn}
-use Rattle.machine.specs.Run.{Ended, ended, runs, fed, left}
+use Rattle.machine.specs.Run.{Ended, ended, runs, afterEvents, left}
 use Rattle.machine.proofs.Interrupts.{interrupt-is, clock-reset}
 use Rattle.firmware_rules.specs.Numbers.{writtenNumber, firstRefused, isUndocumented, madeBy, instructionNumber}
 use Rattle.firmware_rules.proofs.Trees.{Regular, documented-regular, undocumented-rejected}
@@ -279,8 +279,8 @@ pub run-number : (n i : ℕ) (rom es : List ℕ) (m : Machine) → RunNumber (ru
 unfolding runs
 run-number zero i rom es m = none
 run-number (suc n) i rom es m =
-    let x = turn rom (fed rom i es m) in
-    on-known x i (λ (t : Machine). runs n (i + 1) rom (left i es) t) (turn-number rom (fed rom i es m)) (run-number n (i + 1) rom (left i es) (x .machine)) (eqb (x .number) 0)
+    let x = turn rom (afterEvents rom i es m) in
+    on-known x i (λ (t : Machine). runs n (i + 1) rom (left i es) t) (turn-number rom (afterEvents rom i es m)) (run-number n (i + 1) rom (left i es) (x .machine)) (eqb (x .number) 0)
 
 -- ---- what a refusal leaves
 

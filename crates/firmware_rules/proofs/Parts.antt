@@ -12,7 +12,7 @@ use Rattle.bits.specs.Byte.{pick}
 use Rattle.events.specs.Word.{decode}
 use Rattle.step.specs.Step.{answered}
 use Rattle.machine.specs.Machine.{Machine, machine, Turned, turn}
-use Rattle.machine.specs.Run.{numberOf, wordOf, occurred, fed, answersBefore, left, Ended, ended, prepended, onTurned, runs}
+use Rattle.machine.specs.Run.{numberOf, wordOf, occurred, afterEvents, answersBefore, left, Ended, ended, prepended, onTurned, runs}
 use Rattle.firmware_rules.specs.Parts.{earlier, renumbered, followed, runInParts}
 
 -- ---- renumbered events
@@ -33,11 +33,11 @@ due-equal i n e = due-by i n (numberOf e) (ltb i (numberOf e - n)) refl ∙ ap (
 pick-equal : {A : Type 0} (b b′ : Bool) (x y x′ y′ : A) → b ≡ b′ → x ≡ x′ → y ≡ y′ → pick b x y ≡ pick b′ x′ y′
 pick-equal b b′ x y x′ y′ h p q = rw (h, p, q)
 
-fed-shift : (rom : List ℕ) (i n : ℕ) (es : List ℕ) (m : Machine) → fed rom (i + n) es m ≡ fed rom i (renumbered n es) m
-unfolding fed
-fed-shift rom i n [] m = refl
-fed-shift rom i n (e ∷ es) m =
-    pick-equal _ _ _ _ _ _ (due-equal i n e) refl (fed-shift rom i n es (occurred rom m (wordOf e)) ∙ ap (λ (w : ℕ). fed rom i (renumbered n es) (occurred rom m w)) (sym (earlier-word n e)))
+afterEvents-shift : (rom : List ℕ) (i n : ℕ) (es : List ℕ) (m : Machine) → afterEvents rom (i + n) es m ≡ afterEvents rom i (renumbered n es) m
+unfolding afterEvents
+afterEvents-shift rom i n [] m = refl
+afterEvents-shift rom i n (e ∷ es) m =
+    pick-equal _ _ _ _ _ _ (due-equal i n e) refl (afterEvents-shift rom i n es (occurred rom m (wordOf e)) ∙ ap (λ (w : ℕ). afterEvents rom i (renumbered n es) (occurred rom m w)) (sym (earlier-word n e)))
 
 answers-shift : (rom : List ℕ) (i n : ℕ) (es : List ℕ) (m : Machine) → answersBefore rom (i + n) es m ≡ answersBefore rom i (renumbered n es) m
 unfolding answersBefore
@@ -72,12 +72,12 @@ unfolding runs
 runs-shift zero i n rom es m = refl
 runs-shift (suc k) i n rom es m =
     let j : i + n + 1 ≡ i + 1 + n = omega arith in
-    let x = turn rom (fed rom i (renumbered n es) m) in
+    let x = turn rom (afterEvents rom i (renumbered n es) m) in
     let r : runs k (i + n + 1) rom (left (i + n) es) (x .machine) ≡ further n (runs k (i + 1) rom (left i (renumbered n es)) (x .machine))
     = ap (λ (a : ℕ). runs k a rom (left (i + n) es) (x .machine)) j ∙ runs-shift k (i + 1) n rom (left (i + n) es) (x .machine)
     ∙ ap (λ (l : List ℕ). further n (runs k (i + 1) rom l (x .machine))) (left-shift i n es) in
     let o = on-shift x i n (λ (t : Machine). runs k (i + n + 1) rom (left (i + n) es) t) (λ (t : Machine). runs k (i + 1) rom (left i (renumbered n es)) t) r (eqb (x .number) 0) in
-    ap₂ (λ (l : List ℕ) (y : Machine). prepended l (onTurned (turn rom y) (i + n) (λ (t : Machine). runs k (i + n + 1) rom (left (i + n) es) t))) (answers-shift rom i n es m) (fed-shift rom i n es m)
+    ap₂ (λ (l : List ℕ) (y : Machine). prepended l (onTurned (turn rom y) (i + n) (λ (t : Machine). runs k (i + n + 1) rom (left (i + n) es) t))) (answers-shift rom i n es m) (afterEvents-shift rom i n es m)
     ∙ ap (prepended (answersBefore rom i (renumbered n es) m)) o
 
 -- ---- the events left
@@ -106,7 +106,7 @@ after-dropped : (n i : ℕ) (rom es : List ℕ) (m : Machine) → eqb (runs n i 
 unfolding runs
 after-dropped zero i rom es m h = refl
 after-dropped (suc n) i rom es m h =
-    let x = turn rom (fed rom i es m) in
+    let x = turn rom (afterEvents rom i es m) in
     let r = runs n (i + 1) rom (left i es) (x .machine) in
     let a = answersBefore rom i es m in
     on-dropped x i r a (leftAfter n (i + 1) (left i es)) es (eqb (x .number) 0) refl
@@ -122,7 +122,7 @@ pub run-next : (n i : ℕ) (rom es : List ℕ) (m : Machine) → eqb (runs n i r
 unfolding runs
 run-next zero i rom es m h = omega arith
 run-next (suc n) i rom es m h =
-    let x = turn rom (fed rom i es m) in
+    let x = turn rom (afterEvents rom i es m) in
     let j : i + 1 + n ≡ i + suc n = omega arith in
     on-next x i (i + suc n) (runs n (i + 1) rom (left i es) (x .machine)) (eqb (x .number) 0) refl (λ z. run-next n (i + 1) rom (left i es) (x .machine) z ∙ j) h
 
@@ -152,7 +152,7 @@ parts zero k i rom es m =
 parts (suc n) k i rom es m =
     let p : suc n + k ≡ suc (n + k) = omega arith in
     let q : i + 1 + n ≡ i + suc n = omega arith in
-    let x = turn rom (fed rom i es m) in
+    let x = turn rom (afterEvents rom i es m) in
     let l = left i es in
     let h = parts n k (i + 1) rom l (x .machine) ∙ ap (λ (j : ℕ). pick (eqb (runs n (i + 1) rom l (x .machine) .number) 0)
     (prepended (runs n (i + 1) rom l (x .machine) .answers) (runs k j rom (leftAfter n (i + 1) l) (runs n (i + 1) rom l (x .machine) .machine))) (runs n (i + 1) rom l (x .machine))) q in

@@ -10,7 +10,7 @@ use Rattle.bits.specs.Byte.{pick}
 use Rattle.chip.specs.declared.Chip.{Chip}
 use Rattle.operations.specs.declared.Cpu.{Cpu}
 use Rattle.machine.specs.Machine.{Machine, machine, turned, Turned, instruct, afterInterrupt, turn}
-use Rattle.machine.specs.Run.{fed, answersBefore, Ended, ended, prepended, runs, Called, called, firmware}
+use Rattle.machine.specs.Run.{afterEvents, answersBefore, Ended, ended, prepended, runs, Called, called, firmware}
 use Rattle.firmware_rules.specs.Numbers.{instructionNumber}
 use Rattle.firmware_rules.specs.Refusals.{turnNumber, eventsPast, machinePast, refusedPast}
 use Rattle.firmware_rules.proofs.Numbers.{RefusedNumber, write-only, read-only, not-documented, not-mapped, RunNumber, none, refusal, instruct-number, turn-refused}
@@ -38,15 +38,15 @@ turn-high rom m h = high-by (m .chip .core .reset) (instructionNumber rom (after
 
 -- ---- a run
 
-run-stops : (n i : ℕ) (rom es : List ℕ) (m : Machine) → eqb (turn rom (fed rom i es m) .number) 0 ≡ false
-    → runs (suc n) i rom es m ≡ ended (turn rom (fed rom i es m) .machine) (turn rom (fed rom i es m) .number) i (answersBefore rom i es m ++ [])
+run-stops : (n i : ℕ) (rom es : List ℕ) (m : Machine) → eqb (turn rom (afterEvents rom i es m) .number) 0 ≡ false
+    → runs (suc n) i rom es m ≡ ended (turn rom (afterEvents rom i es m) .machine) (turn rom (afterEvents rom i es m) .number) i (answersBefore rom i es m ++ [])
 unfolding runs
 run-stops n i rom es m h = rw h
 
-run-stopped : (n i : ℕ) (rom es : List ℕ) (m : Machine) → eqb (turnNumber rom (fed rom i es m)) 0 ≡ false
-    → runs (suc n) i rom es m ≡ ended (afterInterrupt rom (fed rom i es m)) (turnNumber rom (fed rom i es m)) i (answersBefore rom i es m)
+run-stopped : (n i : ℕ) (rom es : List ℕ) (m : Machine) → eqb (turnNumber rom (afterEvents rom i es m)) 0 ≡ false
+    → runs (suc n) i rom es m ≡ ended (afterInterrupt rom (afterEvents rom i es m)) (turnNumber rom (afterEvents rom i es m)) i (answersBefore rom i es m)
 run-stopped n i rom es m h =
-    let x = fed rom i es m in
+    let x = afterEvents rom i es m in
     let t : eqb (turn rom x .number) 0 ≡ false = ap (λ (a : ℕ). eqb a 0) (turn-told rom x) ∙ h in
     run-stops n i rom es m t
     ∙ ap₂ (λ (y : Machine) (a : ℕ). ended y a i (answersBefore rom i es m ++ [])) (turn-refused rom x t) (turn-told rom x)
@@ -76,10 +76,10 @@ one-by : (t : Turned) (i : ℕ) (b : Bool) → eqb (t .number) 0 ≡ b → eqb (
 one-by t i true e h = absurd (true≢false h)
 one-by t i false e h = e
 
-one-fails : (i : ℕ) (rom es : List ℕ) (m : Machine) → eqb (runs 1 i rom es m .number) 0 ≡ false → eqb (turnNumber rom (fed rom i es m)) 0 ≡ false
+one-fails : (i : ℕ) (rom es : List ℕ) (m : Machine) → eqb (runs 1 i rom es m .number) 0 ≡ false → eqb (turnNumber rom (afterEvents rom i es m)) 0 ≡ false
 unfolding runs
 one-fails i rom es m h =
-    let x = fed rom i es m in
+    let x = afterEvents rom i es m in
     ap (λ (a : ℕ). eqb a 0) (sym (turn-told rom x)) ∙ one-by (turn rom x) i (eqb (turn rom x .number) 0) refl h
 
 refused-by : (n i : ℕ) (rom es : List ℕ) (m : Machine) (b : Bool) → eqb (runs n i rom es m .number) 0 ≡ b → (eqb (runs n i rom es m .number) 0 ≡ false → Refused n i rom es m)

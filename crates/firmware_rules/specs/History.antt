@@ -18,7 +18,7 @@ use Rattle.execution.specs.declared.Destination.{Destination}
 use Rattle.execution.specs.declared.Destination.the-variants as to
 use Rattle.instruction_turn.specs.InstructionTurn.{destination, cyclesWith, isInterrupted}
 use Rattle.machine.specs.Machine.{Machine, load, isRequesting, afterInterrupt, turn}
-use Rattle.machine.specs.Run.{numberOf, wordOf, fed, left}
+use Rattle.machine.specs.Run.{numberOf, wordOf, afterEvents, left}
 
 -- a listed word; a register written by an instruction, with its byte; the 8 µs clock that cycles complete
 pub data Given : Type 0 where
@@ -104,12 +104,12 @@ unfoldable pub history : ℕ → ℕ → List ℕ → List ℕ → Machine → L
 history zero i rom es m = []
 history (suc n) i rom es m =
     givenBefore i es
-    ++ (turnGiven rom (fed rom i es m)
-    ++ pick (eqb (turn rom (fed rom i es m) .number) 0) (history n (i + 1) rom (left i es) (turn rom (fed rom i es m) .machine)) [])
+    ++ (turnGiven rom (afterEvents rom i es m)
+    ++ pick (eqb (turn rom (afterEvents rom i es m) .number) 0) (history n (i + 1) rom (left i es) (turn rom (afterEvents rom i es m) .machine)) [])
 
 -- the cycles counted in it
 unfoldable pub cyclesCounted : ℕ → ℕ → List ℕ → List ℕ → Machine → ℕ
 cyclesCounted zero i rom es m = 0
 cyclesCounted (suc n) i rom es m =
-    turnCycles rom (fed rom i es m)
-    + pick (eqb (turn rom (fed rom i es m) .number) 0) (cyclesCounted n (i + 1) rom (left i es) (turn rom (fed rom i es m) .machine)) 0
+    turnCycles rom (afterEvents rom i es m)
+    + pick (eqb (turn rom (afterEvents rom i es m) .number) 0) (cyclesCounted n (i + 1) rom (left i es) (turn rom (afterEvents rom i es m) .machine)) 0

@@ -4,7 +4,7 @@ use mathlib.Core.List.{List, _++_}
 use lib.ListN.{length, drop}
 use Rattle.bits.specs.Byte.{pick}
 use Rattle.machine.specs.Machine.{Machine, afterInterrupt}
-use Rattle.machine.specs.Run.{fed, answersBefore, Ended, ended, runs}
+use Rattle.machine.specs.Run.{afterEvents, answersBefore, Ended, ended, runs}
 use Rattle.firmware_rules.specs.Numbers.{instructionNumber}
 
 -- the number of a turn by the accesses of its instruction, behind the interrupt; while RESET is low there are none
@@ -16,7 +16,7 @@ abbrev pub eventsPast : ℕ → ℕ → List ℕ → List ℕ → Machine → Li
 eventsPast n i rom es m = drop (length (runs n i rom es m .answers)) es
 
 abbrev pub machinePast : ℕ → ℕ → List ℕ → List ℕ → Machine → Machine
-machinePast n i rom es m = fed rom (i + n) (eventsPast n i rom es m) (runs n i rom es m .machine)
+machinePast n i rom es m = afterEvents rom (i + n) (eventsPast n i rom es m) (runs n i rom es m .machine)
 
 -- a run that the next instruction then ends: CPU, RAM and chip are as before that instruction, its events and interrupt done; it is not
 -- counted, and the answers of its events are the last

@@ -19,7 +19,7 @@ use Rattle.step.specs.Step.{answered}
 use Rattle.operations.specs.declared.Cpu.{Cpu}
 use Rattle.machine.specs.Machine.{Machine, machine, Turned, turn}
 use Rattle.machine.specs.Seen.{Knows}
-use Rattle.machine.specs.Run.{numberOf, wordOf, occurred, fed, answersBefore, left, Ended, ended, prepended, onTurned, runs, Called, called}
+use Rattle.machine.specs.Run.{numberOf, wordOf, occurred, afterEvents, answersBefore, left, Ended, ended, prepended, onTurned, runs, Called, called}
 use Rattle.machine.proofs.Turns.{Later, none, next-at, onEnded, split, runs-next}
 use Rattle.firmware_run.specs.declared.FirmwareResult.{FirmwareResult}
 use Rattle.firmware_run.specs.declared.Occurred.{Occurred}
@@ -92,7 +92,7 @@ prepended-twice l k e = ap (λ (a : List ℕ). ended (e .machine) (e .number) (e
 
 runs-event : (n i : ℕ) (rom : List ℕ) (e : ℕ) (es : List ℕ) (m : Machine) → i < n → numberOf e ≤ i
     → runs (n - i) i rom (e ∷ es) m ≡ prepended (answered (m .chip) (decode (wordOf e)) ∷ []) (runs (n - i) i rom es (occurred rom m (wordOf e)))
-unfolding runs fed answersBefore left
+unfolding runs afterEvents answersBefore left
 runs-event n i rom e es m h g =
     let j : n - i ≡ suc (n - (i + 1)) = omega arith in
     let z : ltb i (numberOf e) ≡ false = le-ltb i (numberOf e) g in
@@ -124,8 +124,8 @@ module _ (n : ℕ) (rom es places : List ℕ) (whole : Ended) (answers ram seen 
     pub some : given < length es
     some = until-some n i es given more due
 
-    pub fed-less : measure n es i (given + 1) < measure n es i given
-    fed-less = omega (arith, some)
+    pub afterEvents-less : measure n es i (given + 1) < measure n es i given
+    afterEvents-less = omega (arith, some)
 
     goes-set : (w : ℕ) → w ≡ wordOf (getD es given 0) → (o : Occurred) (r s : List ℕ) → o ≡ occurredWith rom c (chipOf registers core) w
         → r ≡ next (chipOf registers core) (decode w) .registers → s ≡ seenAfterEvent seen (decode w)
@@ -149,10 +149,10 @@ module _ (n : ℕ) (rom es places : List ℕ) (whole : Ended) (answers ram seen 
           size = rw u (event-length seen (decode w) (h .size));
         }
 
-    pub fed-goes : (v : ℕ) → v ≡ getD es given 0 → (w : ℕ) → w ≡ wordOf v → (o : Occurred) (r s a : List ℕ) → o ≡ occurredWith rom c (chipOf registers core) w
+    pub afterEvents-goes : (v : ℕ) → v ≡ getD es given 0 → (w : ℕ) → w ≡ wordOf v → (o : Occurred) (r s a : List ℕ) → o ≡ occurredWith rom c (chipOf registers core) w
         → r ≡ next (chipOf registers core) (decode w) .registers → s ≡ seenAfterEvent seen (decode w) → a ≡ set answers given (o .answer)
         → Going n rom es places whole a ram s r (o .core) (o .cpu) i (given + 1)
-    fed-goes v x w e o r s a p q u y = rw y (goes-set w (e ∙ ap wordOf x) o r s p q u)
+    afterEvents-goes v x w e o r s a p q u y = rw y (goes-set w (e ∙ ap wordOf x) o r s p q u)
 
   -- instructions were done
   module _ (to : ℕ) (at : to ≡ until n (drop given es)) (later : i < to) (s : Settled) (r ram′ : List ℕ)

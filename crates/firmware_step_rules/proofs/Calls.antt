@@ -19,7 +19,7 @@ use Rattle.step.specs.Step.{answered}
 use Rattle.operations.specs.declared.Cpu.{Cpu}
 use Rattle.instruction.specs.Instruction.{resetCpu}
 use Rattle.machine.specs.Machine.{Machine, machine, Turned, turn}
-use Rattle.machine.specs.Run.{numberOf, wordOf, occurred, fed, answersBefore, left, Ended, ended, prepended, runs, called, isWellFormed}
+use Rattle.machine.specs.Run.{numberOf, wordOf, occurred, afterEvents, answersBefore, left, Ended, ended, prepended, runs, called, isWellFormed}
 use Rattle.firmware_rules.proofs.Clocks.{run-well-formed}
 use Rattle.firmware_rules.proofs.Calls.{is-run}
 use Rattle.firmware_steps.specs.Steps.{powerUp}
@@ -38,7 +38,7 @@ on-moved t i d x y true h = h
 on-moved t i d x y false h = refl
 
 runs-moved : (k i d : ℕ) (rom : List ℕ) (m : Machine) → runs k (i + d) rom [] m ≡ moved i (runs k d rom [] m)
-unfolding runs fed answersBefore left
+unfolding runs afterEvents answersBefore left
 runs-moved zero i d rom m = refl
 runs-moved (suc k) i d rom m =
     let q : i + d + 1 ≡ i + (d + 1) = omega arith in

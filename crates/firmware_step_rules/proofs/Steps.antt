@@ -11,7 +11,7 @@ use Rattle.bits.specs.Byte.{pick}
 use Rattle.events.specs.Word.{decode}
 use Rattle.step.specs.Step.{answered}
 use Rattle.machine.specs.Machine.{Machine, Turned, turn}
-use Rattle.machine.specs.Run.{numberOf, wordOf, occurred, fed, answersBefore, left, Ended, ended, prepended, runs}
+use Rattle.machine.specs.Run.{numberOf, wordOf, occurred, afterEvents, answersBefore, left, Ended, ended, prepended, runs}
 use Rattle.firmware_rules.proofs.Parts.{run-next}
 use Rattle.firmware_step_rules.specs.Steps.{upTo, least, onEvent, inSteps}
 
@@ -22,7 +22,7 @@ on-first t i x y b h = ap (λ (z : Ended). prepended [] (pick b z (ended (t .mac
 
 -- before its number an event changes nothing
 pub before-event : (k i : ℕ) (rom : List ℕ) (e : ℕ) (es : List ℕ) (m : Machine) → k ≤ numberOf e - i → runs k i rom (e ∷ es) m ≡ runs k i rom [] m
-unfolding runs fed answersBefore left
+unfolding runs afterEvents answersBefore left
 before-event zero i rom e es m h = refl
 before-event (suc k) i rom e es m h =
     rw (lt-ltb i (numberOf e) (omega (arith, h)))
@@ -37,7 +37,7 @@ on-parts t i w r f false h g = rw h
 -- and the run goes on from there
 pub before-event-parts : (k j i : ℕ) (rom : List ℕ) (e : ℕ) (es : List ℕ) (m : Machine) → k ≤ numberOf e - i
     → runs (k + j) i rom (e ∷ es) m ≡ pick (eqb (runs k i rom [] m .number) 0) (runs j (i + k) rom (e ∷ es) (runs k i rom [] m .machine)) (runs k i rom [] m)
-unfolding runs fed answersBefore left
+unfolding runs afterEvents answersBefore left
 before-event-parts zero j i rom e es m h =
     let p : 0 + j ≡ j = omega arith in
     let q : i + 0 ≡ i = omega arith in
@@ -56,7 +56,7 @@ before-event-parts (suc k) j i rom e es m h =
 
 pub due : (j i : ℕ) (rom : List ℕ) (e : ℕ) (es : List ℕ) (m : Machine) → 0 < j → numberOf e ≤ i
     → runs j i rom (e ∷ es) m ≡ prepended (answered (m .chip) (decode (wordOf e)) ∷ []) (runs j i rom es (occurred rom m (wordOf e)))
-unfolding runs fed answersBefore left
+unfolding runs afterEvents answersBefore left
 due zero i rom e es m z h = absurd (omega (arith, z))
 due (suc j) i rom e es m z h = rw (le-ltb i (numberOf e) h)
 

@@ -7,14 +7,14 @@ use mathlib.Core.List.{List, []}
 use lib.Dec.{eqb}
 use Rattle.bits.specs.Byte.{pick}
 use Rattle.machine.specs.Machine.{Machine, Turned, turn}
-use Rattle.machine.specs.Run.{fed, answersBefore, left, Ended, ended, prepended, onTurned, runs}
+use Rattle.machine.specs.Run.{afterEvents, answersBefore, left, Ended, ended, prepended, onTurned, runs}
 use Rattle.firmware_steps.specs.Steps.{beforeInstruction}
 use Rattle.firmware_steps.proofs.Before.{turn-before}
 use Rattle.firmware_step_rules.specs.Steps.{traced}
 
 -- one instruction from behind the interrupt is one with it
 pub one-before : (i : ℕ) (rom : List ℕ) (m : Machine) → runs 1 i rom [] (beforeInstruction rom m) ≡ runs 1 i rom [] m
-unfolding runs fed answersBefore left
+unfolding runs afterEvents answersBefore left
 one-before i rom m = ap (λ (t : Turned). prepended [] (onTurned t i (λ (x : Machine). ended x 0 (i + 1) []))) (turn-before rom m)
 
 on-one : (t : Turned) (i : ℕ) (f : Machine → Ended) (y : Ended) (b : Bool) → eqb (t .number) 0 ≡ b → f (t .machine) ≡ y
@@ -26,7 +26,7 @@ on-one t i f y true h g = g
 on-one t i f y false h g = rw h
 
 pub traced-run : (n i : ℕ) (rom : List ℕ) (m : Machine) → traced n i rom m ≡ runs n i rom [] m
-unfolding traced runs fed answersBefore left
+unfolding traced runs afterEvents answersBefore left
 traced-run zero i rom m = refl
 traced-run (suc n) i rom m =
     let t = turn rom m in

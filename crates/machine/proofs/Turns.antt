@@ -11,7 +11,7 @@ use Rattle.chip.specs.declared.Chip.{Chip}
 use Rattle.operations.specs.declared.Cpu.{Cpu}
 use Rattle.instruction_turn.specs.InstructionTurn.{isInterrupted}
 use Rattle.machine.specs.Machine.{Machine, machine, Turned, isRequesting, interruptTaken, turn}
-use Rattle.machine.specs.Run.{numberOf, fed, answersBefore, left, Ended, ended, onTurned, runs}
+use Rattle.machine.specs.Run.{numberOf, afterEvents, answersBefore, left, Ended, ended, onTurned, runs}
 use Rattle.machine.proofs.Interrupts.{interrupt-turn}
 
 -- ---- no event is due before instruction `to`
@@ -21,12 +21,12 @@ pub data Later (to : ℕ) : List ℕ → Type 0 where
   next-at : (e : ℕ) (es : List ℕ) → to ≤ numberOf e → Later to (e ∷ es)
 
 pub record Idle (rom : List ℕ) (i : ℕ) (es : List ℕ) (m : Machine) : Type 0 where
-  pub state : fed rom i es m ≡ m
+  pub state : afterEvents rom i es m ≡ m
   pub answers : answersBefore rom i es m ≡ []
   pub rest : left i es ≡ es
 
 pub idle : (rom : List ℕ) (i to : ℕ) (es : List ℕ) (m : Machine) → i < to → Later to es → Idle rom i es m
-unfolding fed answersBefore left
+unfolding afterEvents answersBefore left
 idle rom i to [] m h none = record { state = refl; answers = refl; rest = refl }
 idle rom i to (e ∷ es) m h (next-at _ _ g) =
     let z : ltb i (numberOf e) ≡ true = lt-ltb i (numberOf e) (omega arith) in
@@ -72,7 +72,7 @@ unfolding turn
 turn-low rom m h = rw h
 
 runs-low-by : (n i : ℕ) (rom : List ℕ) (m : Machine) → m .chip .core .reset ≡ false → runs n i rom [] m ≡ ended m 0 (i + n) []
-unfolding runs fed answersBefore left
+unfolding runs afterEvents answersBefore left
 runs-low-by zero i rom m h = ap (λ (j : ℕ). ended m 0 j []) (let z : i ≡ i + 0 = omega arith in z)
 runs-low-by (suc n) i rom m h =
     rw (turn-low rom m h) (runs-low-by n (i + 1) rom m h ∙ ap (λ (j : ℕ). ended m 0 j []) (let z : i + 1 + n ≡ i + suc n = omega arith in z))
@@ -94,7 +94,7 @@ onward-by t i false e f g h z = rw e refl
 
 split-by : (l n i to : ℕ) (rom es : List ℕ) (m : Machine) → to ≡ i + l → to ≤ n → Later to es
     → runs (n - i) i rom es m ≡ onEnded (runs l i rom [] m) (λ (j : ℕ) (t : Machine). runs (n - j) j rom es t)
-unfolding runs fed answersBefore left
+unfolding runs afterEvents answersBefore left
 split-by zero n i to rom es m e h d = refl
 split-by (suc l) n i to rom es m e h d =
     runs-turn n i rom es m (omega arith) (idle rom i to es m (omega arith) d)
@@ -112,7 +112,7 @@ next-by t i j true e f z h = z h
 next-by t i j false e f z h = absurd (true≢false (sym h ∙ e))
 
 pub runs-next : (l i : ℕ) (rom : List ℕ) (m : Machine) → eqb (runs l i rom [] m .number) 0 ≡ true → runs l i rom [] m .next ≡ i + l
-unfolding runs fed answersBefore left
+unfolding runs afterEvents answersBefore left
 runs-next zero i rom m h = omega arith
 runs-next (suc l) i rom m h =
     next-by (turn rom m) i (i + suc l) (eqb (turn rom m .number) 0) refl (λ (t : Machine). runs l (i + 1) rom [] t)

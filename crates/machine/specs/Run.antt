@@ -29,9 +29,9 @@ occurred rom m w = machine (pick (wasReset (m .chip) (decode w)) (resetCpu rom (
 
 -- the events given before instruction i are those from the head of the list on up to the first with a number above i, which holds back all
 -- behind it: the machine after them, their answers, and the events left
-unfoldable pub fed : List ℕ → ℕ → List ℕ → Machine → Machine
-fed rom i [] m = m
-fed rom i (e ∷ es) m = pick (ltb i (numberOf e)) m (fed rom i es (occurred rom m (wordOf e)))
+unfoldable pub afterEvents : List ℕ → ℕ → List ℕ → Machine → Machine
+afterEvents rom i [] m = m
+afterEvents rom i (e ∷ es) m = pick (ltb i (numberOf e)) m (afterEvents rom i es (occurred rom m (wordOf e)))
 
 unfoldable pub answersBefore : List ℕ → ℕ → List ℕ → Machine → List ℕ
 answersBefore rom i [] m = []
@@ -67,7 +67,7 @@ unfoldable pub runs : ℕ → ℕ → List ℕ → List ℕ → Machine → Ende
 runs zero i rom es m = ended m 0 i []
 runs (suc n) i rom es m =
     prepended (answersBefore rom i es m)
-    (onTurned (turn rom (fed rom i es m)) i (λ (t : Machine). runs n (i + 1) rom (left i es) t))
+    (onTurned (turn rom (afterEvents rom i es m)) i (λ (t : Machine). runs n (i + 1) rom (left i es) t))
 
 -- ---- the firmware call
 

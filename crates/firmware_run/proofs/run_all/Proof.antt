@@ -5,7 +5,7 @@ use borrow.Author.Tests.{eq-eqb, ne-eqb}
 use Rattle.chip.specs.State.{chipOf}
 use Rattle.machine.specs.Machine.{machine}
 use Rattle.machine.specs.Run.{runs}
-use Rattle.firmware_run.proofs.Going.{Going, measure, some, fed-less, fed-goes, on-less, on-goes, on-ends, first, finish, stop}
+use Rattle.firmware_run.proofs.Going.{Going, measure, some, afterEvents-less, afterEvents-goes, on-less, on-goes, on-ends, first, finish, stop}
 use Rattle.firmware_run.proofs.run_all.Statement.{statement}
 use Rattle.firmware_run.proofs.run_all.Tie as tie
 
@@ -30,8 +30,8 @@ run-all-spec =
     (λ c κs. search needs)
     (λ c κs. search needs)
     (λ c. omega (arith, c .before .before .before .before .before .before .before .before .before .before .before .before .before .before .before .before .before .before .before .before .before .good .1 .1 .1 .1 .0, some _ _ _ _ _ _ _ _ _ _ _ _ _ (c .before .before .before .before .before .before .before .before .before .before .before .before .before .before .before .before .before .before .before .before .before .pre) (c .before .before .before .before .before .before .before .before .before .before .before .before .before .before .loop .inv) (c .before .before .before .before .before .before .before .before .before .before .before .before .before .loop-test .taken) _ (c .before .before .before .before .before .before .before .before .before .before .before .before .until .ensures) (c .before .before .before .before .before .before .before .before .before .before .before .if1 .taken)))
-    (λ c. fed-less _ _ _ _ _ _ _ _ _ _ _ _ _ (c .before .before .before .before .before .before .before .before .before .before .before .before .before .before .before .before .before .before .before .before .before .pre) (c .before .before .before .before .before .before .before .before .before .before .before .before .before .before .loop .inv) (c .before .before .before .before .before .before .before .before .before .before .before .before .before .loop-test .taken) _ (c .before .before .before .before .before .before .before .before .before .before .before .before .until .ensures) (c .before .before .before .before .before .before .before .before .before .before .before .if1 .taken))
-    (λ c. fed-goes _ _ _ _ _ _ _ _ _ _ _ _ _ (c .before .before .before .before .before .before .before .before .before .before .before .before .before .before .before .before .before .before .before .before .before .pre) (c .before .before .before .before .before .before .before .before .before .before .before .before .before .before .loop .inv) (c .before .before .before .before .before .before .before .before .before .before .before .before .before .loop-test .taken) _ (c .before .before .before .before .before .before .before .before .before .before .before .before .until .ensures) (c .before .before .before .before .before .before .before .before .before .before .before .if1 .taken) _ (c .before .before .before .before .before .before .before .before .event-at .ensures) _ (c .before .before .before .before .before .before .before .word-of .ensures) _ _ _ _ (c .before .before .before .before .before .before .occur .ensures .0) (c .before .before .before .before .before .before .occur .ensures .1) (c .before .before .before .before .before .before .occur .ensures .2) (c .before .before .before .before .put .ensures))
+    (λ c. afterEvents-less _ _ _ _ _ _ _ _ _ _ _ _ _ (c .before .before .before .before .before .before .before .before .before .before .before .before .before .before .before .before .before .before .before .before .before .pre) (c .before .before .before .before .before .before .before .before .before .before .before .before .before .before .loop .inv) (c .before .before .before .before .before .before .before .before .before .before .before .before .before .loop-test .taken) _ (c .before .before .before .before .before .before .before .before .before .before .before .before .until .ensures) (c .before .before .before .before .before .before .before .before .before .before .before .if1 .taken))
+    (λ c. afterEvents-goes _ _ _ _ _ _ _ _ _ _ _ _ _ (c .before .before .before .before .before .before .before .before .before .before .before .before .before .before .before .before .before .before .before .before .before .pre) (c .before .before .before .before .before .before .before .before .before .before .before .before .before .before .loop .inv) (c .before .before .before .before .before .before .before .before .before .before .before .before .before .loop-test .taken) _ (c .before .before .before .before .before .before .before .before .before .before .before .before .until .ensures) (c .before .before .before .before .before .before .before .before .before .before .before .if1 .taken) _ (c .before .before .before .before .before .before .before .before .event-at .ensures) _ (c .before .before .before .before .before .before .before .word-of .ensures) _ _ _ _ (c .before .before .before .before .before .before .occur .ensures .0) (c .before .before .before .before .before .before .occur .ensures .1) (c .before .before .before .before .before .before .occur .ensures .2) (c .before .before .before .before .put .ensures))
     (λ c κs. (c .before .before .before .before .before .before .before .before .before .before .table .ensures, c .before .before .before .before .if1 .left, c .before .before .before .before .before .before .before .loop .inv .knows, c .before .before .before .before .before .before .before .loop .inv .size))
     (λ c. c .before .before .before .before .before .before .before .before .before .before .before .before .loop .inv .same)
     (λ c. stop _ _ _ _ _ _ _ _ _ _ _ _ _ (c .before .before .before .before .before .before .before .before .before .before .before .before .before .before .before .before .before .before .before .pre) (c .before .before .before .before .before .before .before .before .before .before .before .before .loop .inv) _ _ _ _ _ (on-ends _ _ _ _ _ _ _ _ _ _ _ _ _ (c .before .before .before .before .before .before .before .before .before .before .before .before .before .before .before .before .before .before .before .pre) (c .before .before .before .before .before .before .before .before .before .before .before .before .loop .inv) (c .before .before .before .before .before .before .before .before .before .before .before .loop-test .taken) _ (c .before .before .before .before .before .before .before .before .before .before .until .ensures) (c .before .before .before .before .before .before .before .before .before .if1 .left) _ _ _ (c .before .before .before .before .proceed .ensures .0) (ne-eqb _ _ (c .if2 .taken))))
