@@ -6,11 +6,20 @@ use event_lines::Meaning;
 use firmware_input::Place;
 use firmware_print::Asked;
 use firmware_print::Item;
+use firmware_trace::Run;
 use libc::STDERR_FILENO;
 
-// A run with the events of an open list, until no instruction follows, or without one, where `fd` is negative; whether the events are still well
-// formed. A proved loop has to end, and nothing says that a list does, so the loop counts down, from a number that no run uses up.
-fn run_image(fd: i32, rom: &[u8; 24576], asked: Asked) -> bool {
+// The instructions past the last event, and the last line.
+fn finish(run: Run, ram: &mut [u8; 256], rom: &[u8], asked: Asked) {
+    let last = firmware_print::take(run, ram, rom, asked, Item::End);
+    if !last.printed {
+        os::fail(b"firmware: standard output");
+    }
+}
+
+// A run with the events of an open list, until no instruction follows; whether they are still well formed. A proved loop has to end, and
+// nothing says that a list does, so the loop counts down, from a number that no run uses up.
+fn run_events(fd: i32, rom: &[u8], asked: Asked) -> bool {
     let mut ram = [0u8; 256];
     let mut block = io::large_buffer();
     let mut run = firmware_trace::power_up(rom);
@@ -21,7 +30,7 @@ fn run_image(fd: i32, rom: &[u8; 24576], asked: Asked) -> bool {
         last: false,
         failed: false,
     };
-    let mut turns = if fd < 0 { 0 } else { u64::MAX };
+    let mut turns = u64::MAX;
     while turns > 0 {
         let found = firmware_input::find(fd, &mut block, place);
         let meaning = found.meaning;
@@ -40,10 +49,7 @@ fn run_image(fd: i32, rom: &[u8; 24576], asked: Asked) -> bool {
         }
         turns -= 1;
     }
-    let last = firmware_print::take(run, &mut ram, rom, asked, Item::End);
-    if !last.printed {
-        os::fail(b"firmware: standard output");
-    }
+    finish(run, &mut ram, rom, asked);
     true
 }
 
@@ -53,9 +59,14 @@ fn run_listed(at: usize, rom: &[u8; 24576], asked: Asked) {
     if fd < 0 {
         return;
     }
-    if !run_image(fd, rom, asked) {
+    if !run_events(fd, rom, asked) {
         firmware_input::tell_changed(at);
     }
+}
+
+fn run_alone(rom: &[u8; 24576], asked: Asked) {
+    let mut ram = [0u8; 256];
+    finish(firmware_trace::power_up(rom), &mut ram, rom, asked);
 }
 
 // ROM is argument `first`, COUNT the next, and EVENTS the one behind it.
@@ -82,7 +93,7 @@ fn start(first: usize, traced: bool)
     if arguments == first + 3 {
         run_listed(first + 2, &rom, asked);
     } else {
-        run_image(-1, &rom, asked);
+        run_alone(&rom, asked);
     }
 }
 

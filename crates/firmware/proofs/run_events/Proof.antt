@@ -1,14 +1,14 @@
--- `firmware::run_image` is safe and ends: the measure is the number of turns that may still come.
+-- `firmware::run_events` is safe and ends: the measure is the number of turns that may still come.
 -- Assumes nothing.
 use borrow.Author.Needs.{needs}
-use Rattle.firmware.proofs.run_image.Statement.{statement}
-use Rattle.firmware.proofs.run_image.Tie as tie
+use Rattle.firmware.proofs.run_events.Statement.{statement}
+use Rattle.firmware.proofs.run_events.Tie as tie
 
 abbrev Inv-loop : tie.InvT-loop
-Inv-loop fd rom asked ram₀ block₀ run₀ place₀ turns₀ t13 ram block run place turns = Unit {0}
+Inv-loop fd rom asked ram₀ block₀ run₀ place₀ turns₀ ram block run place turns = Unit {0}
 
 abbrev μ-loop : tie.MeasureT-loop
-μ-loop fd rom asked ram₀ block₀ run₀ place₀ turns₀ t13 ram block run place turns = turns
+μ-loop fd rom asked ram₀ block₀ run₀ place₀ turns₀ ram block run place turns = turns
 
 large-buffer-requires : tie.Need-large-buffer-requires Inv-loop μ-loop
 large-buffer-requires c κs = search needs
@@ -52,23 +52,14 @@ loop-less c = search needs
 loop-again : tie.Need-loop-again Inv-loop μ-loop
 loop-again c = search needs
 
-take-requires-2 : tie.Need-take-requires-2 Inv-loop μ-loop
-take-requires-2 c κs = search needs
-
-slice-aggregate-fail : tie.Need-slice-aggregate-fail Inv-loop μ-loop
-slice-aggregate-fail c = search needs
-
-fail-requires : tie.Need-fail-requires Inv-loop μ-loop
-fail-requires c κs = search needs
+finish-requires : tie.Need-finish-requires Inv-loop μ-loop
+finish-requires c κs = search needs
 
 returns-2 : tie.Need-returns-2 Inv-loop μ-loop
 returns-2 c = search needs
 
-returns-3 : tie.Need-returns-3 Inv-loop μ-loop
-returns-3 c = search needs
-
-pub run-image-spec : {M : Type 1} → statement M
-run-image-spec =
+pub run-events-spec : {M : Type 1} → statement M
+run-events-spec =
     tie.close
     (tie.spec
     Inv-loop
@@ -87,8 +78,5 @@ run-image-spec =
     sub-turns
     loop-less
     loop-again
-    take-requires-2
-    slice-aggregate-fail
-    fail-requires
-    returns-2
-    returns-3)
+    finish-requires
+    returns-2)
