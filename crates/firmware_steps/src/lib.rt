@@ -188,7 +188,8 @@ pub fn load(ram: &[u8; 256], rom: &[u8], chip: Chip, a: u16) -> Loaded
     }
 }
 
-// Instructions with no event between: a firmware call with an empty list.
+// Instructions with no event between: a firmware call with an empty list. RAM is copied in and out: in an array of its own the loop of
+// instructions reaches it without a pointer.
 // Wrong answers: no instruction; one, whatever is asked.
 pub fn run_on(
     cpu: Cpu,
@@ -201,13 +202,16 @@ pub fn run_on(
 {
     let events = [0u64; 1];
     let mut answers = [0u32; 1];
-    firmware_run::run(
+    let mut own = *ram;
+    let result = firmware_run::run(
         cpu,
-        ram,
+        &mut own,
         rom,
         chip,
         &events[..0],
         &mut answers[..0],
         instructions,
-    )
+    );
+    *ram = own;
+    result
 }
