@@ -10,10 +10,10 @@ source scripts/library.sh
 words=80000
 
 # Some ten per cent above what docs/PERFORMANCE.md says.
-list_ceiling=100
+list_ceiling=92
 step_ceiling=1010
 replay_ceiling=150
-firmware_ceiling=110
+firmware_ceiling=105
 host_ceiling=160
 
 library capi firmware_capi

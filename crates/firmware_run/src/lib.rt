@@ -138,7 +138,7 @@ fn occur(
 
 // ---- the run
 
-// The run, once it may begin. One turn of the loop gives an event, or brings the instructions on to where the chip is needed.
+// The run, once it may begin. One turn of the loop gives an event, or does the instructions up to the next one.
 fn run_all(
     cpu: Cpu,
     ram: &mut [u8; 256],

@@ -27,7 +27,7 @@ pub enum Store {
     PushThree(u8, u8, u8, u8),
 }
 
-// Where an address leads. ROM is asked for first, and RAM before registers: what is commonest lies on the straight way.
+// Where an address leads. ROM is asked for first, and RAM before registers, as they are commonest.
 // Wrong answers: 0200 mapped; 0026 taken for a register.
 pub fn place_of(a: u16) -> Place
     ensures { λ r. ⌜ (r ≡ place a) × Reaches r ⌝ }
