@@ -3,7 +3,7 @@
 # them from nothing. Prints the last line of it and the time that it took. Usage: bench/base.sh
 set -euo pipefail
 cd "$(dirname "$0")/.."
-roots="replay vectors rates_capi report listcall invariant frame causes counting observed transfers isolation cases"
+roots="replay vectors rates_capi chip_rate_report list_call_laws chip_laws chip_write_laws chip_flag_laws chip_count_laws chip_observed_laws bus_transfer_laws isolation_laws chip_cases"
 work=$(mktemp -d)
 trap 'rm -rf "$work"' EXIT
 wanted=$(python3 - $roots << 'EOF'

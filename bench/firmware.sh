@@ -11,7 +11,7 @@ work=$(mktemp -d)
 trap 'rm -rf "$work"' EXIT
 rt check firmware > "$work/log" || { cat "$work/log"; exit 1; }
 source scripts/library.sh
-library capi firmware_capi
+library chip_capi firmware_capi
 cargo build --offline --quiet --release --features proved,area --bin firmware_compare
 
 # a row for each image; one with two lists of events has two ratios with them
@@ -25,7 +25,7 @@ target/cargo/release/firmware_compare bench | awk -F ', ' '
 command -v sim65 > /dev/null || { echo "sim65 is not installed: the second table is left out"; exit 0; }
 shifts='0 16 32 48'
 for shift in $shifts; do
-    cc -O2 -Iinclude -DSHIFT="$shift" -o "$work/call-$shift" bench/firmware.c target/staticlib/libfirmware_capi.a target/staticlib/libcapi.a
+    cc -O2 -Iinclude -DSHIFT="$shift" -o "$work/call-$shift" bench/firmware.c target/staticlib/libfirmware_capi.a target/staticlib/libchip_capi.a
 done
 python3 - "$turns" $(for shift in $shifts; do echo "$work/call-$shift"; done) << 'END'
 import pathlib, resource, statistics, struct, subprocess, sys, tempfile

@@ -2,7 +2,7 @@
 """A chip that a program keeps: it is made, stepped, stored in a file, read back and stepped on. Usage: chip.py LIBRARY FILE
 
 LIBRARY is a shared one made of the proved static library:
-    cc -shared -o libnt6861.so -Wl,--whole-archive target/staticlib/libcapi.a -Wl,--no-whole-archive
+    cc -shared -o libnt6861.so -Wl,--whole-archive target/staticlib/libchip_capi.a -Wl,--no-whole-archive
 """
 import ctypes
 import sys

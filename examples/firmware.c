@@ -1,8 +1,8 @@
 /* A firmware image run from C: power up, events at instructions, the run in two calls. A host sends an address on the bus, first that of
  * another device, then the monitor's own, and the port of the picture is read before and after it.
  *
- *   rt staticlib capi && rt staticlib firmware_capi
- *   cc -Iinclude -o target/firmware-example examples/firmware.c target/staticlib/libfirmware_capi.a target/staticlib/libcapi.a
+ *   rt staticlib chip_capi && rt staticlib firmware_capi
+ *   cc -Iinclude -o target/firmware-example examples/firmware.c target/staticlib/libfirmware_capi.a target/staticlib/libchip_capi.a
  *   target/firmware-example images/recall.rom
  */
 #include <stdio.h>
@@ -10,7 +10,7 @@
 
 #include "nt6861.h"
 
-enum { ROM_START = 0xA000, RESET_VECTOR = 0xFFFC, SDA = 24, SCL = 25, READ_PT0 = 0x01000000 };
+enum { ROM_START = 0xA000, RESET_VECTOR = 0xFFFC, SDA = NT6861_PIN_SDA, SCL = NT6861_PIN_SCL };
 
 /* all that a run goes on from: CPU, RAM and chip */
 struct machine {
@@ -41,7 +41,7 @@ static void event(uint32_t instruction, uint32_t word)
 
 static void level(uint32_t instruction, uint32_t pin, uint32_t value)
 {
-    event(instruction, 0x03000000 | pin << 8 | value);
+    event(instruction, NT6861_PIN(pin, value));
 }
 
 /* START, eight bits and the ninth clock, with ten instructions from edge to edge */
@@ -86,7 +86,7 @@ static void host(uint32_t address)
     power_up(&m);
 
     listed = 0;
-    event(100, READ_PT0);
+    event(100, NT6861_READ(NT6861_PT0));
     at = send_address(110, address);
     number = run(&m, at + 200);
     print(&m, number);
@@ -94,7 +94,7 @@ static void host(uint32_t address)
 
     /* it goes on from there: one more read, before instruction 0 of this call */
     listed = 0;
-    event(0, READ_PT0);
+    event(0, NT6861_READ(NT6861_PT0));
     number = run(&m, 100);
     print(&m, number);
     printf("PT0 after: %08lX\n", (unsigned long)answers[0]);
@@ -118,7 +118,7 @@ int main(int count, char **given)
     m.cpu[5] = 0x00;
     m.cpu[6] = 0x02; /* no memory at 0200: the fetch is refused with 21 */
     listed = 0;
-    event(0, READ_PT0);
+    event(0, NT6861_READ(NT6861_PT0));
     printf("a fetch at 0200\n");
     print(&m, run(&m, 100));
     return 0;

@@ -10,7 +10,95 @@
 extern "C" {
 #endif
 
-/* ---- the chip: library capi
+/* ---- names: what the numbers of docs/WORDS.md and docs/NUMBERS.md are called here */
+
+/* Registers by address, after the data sheet's names without blanks. */
+enum nt6861_register {
+    NT6861_PT0 = 0x00, NT6861_PT1 = 0x01, NT6861_PT2DIR = 0x02, NT6861_PT2 = 0x03, NT6861_PT3 = 0x04,
+    NT6861_MDCON = 0x05, NT6861_HVCON = 0x06, NT6861_HCNTL = 0x07, NT6861_HCNTH = 0x08, NT6861_VCNTL = 0x09,
+    NT6861_VCNTH = 0x0a, NT6861_SYNCON = 0x0b, NT6861_ENDAC = 0x0c, NT6861_AD0 = 0x0d, NT6861_AD1 = 0x0e,
+    NT6861_IEX = 0x0f, NT6861_IRQX = 0x10, NT6861_CLRFLG = 0x11, NT6861_CLRWDT = 0x12, NT6861_IIADR = 0x13,
+    NT6861_IIDAT = 0x14, NT6861_IISTS = 0x15, NT6861_BT = 0x16, NT6861_BTCON = 0x17, NT6861_DACH0 = 0x18,
+    NT6861_DACH1 = 0x19, NT6861_DACH2 = 0x1a, NT6861_DACH3 = 0x1b, NT6861_DACH4 = 0x1c, NT6861_DACH5 = 0x1d,
+    NT6861_DACH6 = 0x1e, NT6861_DACH7 = 0x1f, NT6861_DACH8 = 0x20, NT6861_DACH9 = 0x21, NT6861_DACH10 = 0x22,
+    NT6861_DACH11 = 0x23, NT6861_DACH12 = 0x24, NT6861_DACH13 = 0x25,
+};
+
+/* Pins. P30 is SDA, P31 is SCL. */
+enum nt6861_pin {
+    NT6861_PIN_P00 = 0, NT6861_PIN_P01 = 1, NT6861_PIN_P02 = 2, NT6861_PIN_P03 = 3, NT6861_PIN_P04 = 4,
+    NT6861_PIN_P05 = 5, NT6861_PIN_P06 = 6, NT6861_PIN_P07 = 7, NT6861_PIN_P10 = 8, NT6861_PIN_P11 = 9,
+    NT6861_PIN_P12 = 10, NT6861_PIN_P13 = 11, NT6861_PIN_P14 = 12, NT6861_PIN_P15 = 13, NT6861_PIN_P16 = 14,
+    NT6861_PIN_P20 = 16, NT6861_PIN_P21 = 17, NT6861_PIN_P22 = 18, NT6861_PIN_P23 = 19, NT6861_PIN_P24 = 20,
+    NT6861_PIN_P25 = 21, NT6861_PIN_P26 = 22, NT6861_PIN_P27 = 23, NT6861_PIN_SDA = 24, NT6861_PIN_SCL = 25,
+    NT6861_PIN_HSYNCI = 26, NT6861_PIN_VSYNCI = 27, NT6861_PIN_RESET = 28,
+};
+
+/* Clocks: of 8 us, the base timer's for TBS 0 and 1, the watchdog's. */
+enum nt6861_clock { NT6861_CLOCK_PERIOD = 0, NT6861_CLOCK_BASE0 = 1, NT6861_CLOCK_BASE1 = 2, NT6861_CLOCK_WATCHDOG = 3 };
+
+/* Requests in bits 15 to 8 of an answer, flags of IRQX and enables of IEX: a bit for each source. */
+enum nt6861_request {
+    NT6861_REQUEST_V = 0x01, NT6861_REQUEST_E = 0x02, NT6861_REQUEST_R = 0x04, NT6861_REQUEST_A = 0x08, NT6861_REQUEST_D = 0x10,
+    NT6861_REQUEST_S = 0x20
+};
+
+/* Numbers given back; docs/NUMBERS.md says of each call which it gives, in which order, and what they leave. */
+enum nt6861_number {
+    NT6861_DONE = 0,
+    NT6861_NO_EVENT = 1,           /* kind not 1 to 5, or a bit of the zero field */
+    NT6861_NO_SUCH_PLACE = 2,      /* no register, pin, clock or polarity has that number */
+    NT6861_BAD_BYTE = 3,           /* B is none that the kind takes */
+    NT6861_IN_RESET = 4,           /* a read or write while RESET is low */
+    NT6861_WRITE_ONLY = 5,         /* a read of a write-only register */
+    NT6861_READ_ONLY = 6,          /* a write to a read-only register */
+    NT6861_TOO_FEW_PLACES = 7,     /* fewer answer places than words */
+    NT6861_ILL_FORMED = 8,         /* the state that is offered is ill formed */
+    NT6861_BLOCK_SHORT = 10,       /* recordings: a block of fewer than 512 bytes */
+    NT6861_BLOCK_SUM = 11,         /* recordings: not the sum of the first 508 bytes */
+    NT6861_BLOCK_NUMBER = 12,      /* recordings: not the block that is due, or a number above 65,535 */
+    NT6861_BLOCK_COUNT = 13,       /* recordings: a word count above 126 */
+    NT6861_BLOCK_UNUSED = 14,      /* recordings: an unused word is not zero */
+    NT6861_BAD_LENGTH = 15,        /* an area of another length */
+    NT6861_TOO_MANY_WORDS = 16,    /* recordings: more than 126 words for a block */
+    NT6861_BLOCK_AREA = 17,        /* recordings: an area that is not of 512 bytes */
+    NT6861_UNDOCUMENTED = 20,      /* firmware: an opcode that is not documented */
+    NT6861_NOT_MAPPED = 21,        /* firmware: an access where nothing is mapped, or a write to ROM */
+    NT6861_BAD_IMAGE = 22,         /* firmware: the image has another length than 24,576 bytes */
+    NT6862_NO_SUCH_CHIP = 23,      /* sync counters: a chip of neither kind asked for */
+    NT6861_EDID_LENGTH = 30,       /* EDID: not 128 bytes */
+    NT6861_EDID_HEADER = 31,
+    NT6861_EDID_VERSION = 32,      /* EDID: neither 1.3 nor 1.4 */
+    NT6861_EDID_SUM = 33,
+    NT6861_EDID_DIGITAL = 34,      /* EDID 1.3: bits 6 to 1 of a digital byte 20 */
+    NT6861_EDID_DEPTH = 35,        /* EDID 1.4: the reserved depth */
+    NT6861_EDID_INTERFACE = 36,    /* EDID 1.4: an undefined interface */
+    NT6861_VCD_MALFORMED = 40,     /* value change dumps: what the standard does not have */
+    NT6861_VCD_TIME_BACK = 41,     /* time goes back */
+    NT6861_VCD_VARIABLES = 42,     /* a 33rd variable */
+    NT6861_VCD_NO_ROOM = 43,       /* no room for the next word */
+    NT6861_VCD_TIME_LARGE = 44     /* a time above 64 bits in ps */
+};
+
+/* Event words: the kind in the top byte, then a zero byte, A and B. NT6861_WRITE(NT6861_IEX, NT6861_REQUEST_V) enables V. */
+#define NT6861_WORD(kind, a, b) ((uint32_t)(kind) << 24 | (uint32_t)(a) << 8 | (uint32_t)(b))
+#define NT6861_READ(reg) NT6861_WORD(1, reg, 0)
+#define NT6861_WRITE(reg, byte) NT6861_WORD(2, reg, byte)
+#define NT6861_PIN(pin, level) NT6861_WORD(3, pin, level)
+#define NT6861_CLOCK(clock) NT6861_WORD(4, clock, 0)
+#define NT6861_POLARITY_H(level) NT6861_WORD(5, 0, level)
+#define NT6861_POLARITY_V(level) NT6861_WORD(5, 1, level)
+
+/* An answer word, taken apart. */
+#define NT6861_NUMBER_OF(answer) ((uint32_t)(answer) >> 24)
+#define NT6861_WATCHDOG_RESET(answer) ((uint32_t)(answer) >> 16 & 1)
+#define NT6861_REQUESTS_OF(answer) ((uint32_t)(answer) >> 8 & 0x3f)
+#define NT6861_BYTE_OF(answer) ((uint32_t)(answer) & 0xff)
+
+/* The bytes of a chip. */
+#define NT6861_AREA 128
+
+/* ---- the chip: library chip_capi
  *
  * A chip is a state in an area of 128 bytes that the caller lends (docs/STATE.md). It may be copied, stored in a file and lent again;
  * the library keeps nothing. An area of another length answers 15, and one whose bytes are not those of a well formed state 8, both

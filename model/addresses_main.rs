@@ -1,7 +1,9 @@
-//! ./addresses II-ADR: the addresses in a list of bus changes on standard input, two bytes a change (18H SDA or 19H SCL, and its
-//! level), each with its outcome, one a line; or the number of the refusal alone, with status 1. The proved library finds them.
+//! `./nt6861 addresses`: the addresses in a list of bus changes on standard input, two bytes a change (18H SDA or 19H SCL, and its
+//! level), each with its outcome, one a line; or the number of the refusal alone, with status 1. The proved library finds them. The arguments
+//! are what to call the input where something is told, and the byte in II ADR.
 
 mod addresses_link;
+mod descriptors;
 use addresses_link::addresses;
 use std::fmt::Write as _;
 use std::io::{Read, Write};
@@ -9,26 +11,27 @@ use std::process::ExitCode;
 
 const OUTCOMES: [&str; 4] = ["none", "a0", "ii-adr", "both"];
 
-/// What cannot be read or written ends the program with status 2, whether or not that can be told.
-fn stopped(why: &str) -> ExitCode {
-    let _ = writeln!(std::io::stderr(), "addresses: {why}");
-    ExitCode::from(2)
+/// The status with its reason; where that cannot be written the status stays.
+fn ended(status: u8, why: &str) -> ExitCode {
+    let _ = writeln!(std::io::stderr(), "nt6861 addresses: {why}");
+    ExitCode::from(status)
 }
 
 fn main() -> ExitCode {
-    let mut args = std::env::args().skip(1);
-    let (Some(own), None) = (args.next(), args.next()) else {
-        return stopped("one argument, the byte in II ADR");
+    let mut args = std::env::args_os().skip(1).map(|word| word.to_string_lossy().into_owned());
+    let (Some(name), Some(own), None) = (args.next(), args.next(), args.next()) else {
+        return ended(2, "two arguments: the name of the input, and the byte in II ADR");
     };
     let Ok(own) = u8::from_str_radix(&own, 16) else {
-        return stopped("II ADR is a byte of two hex digits");
+        return ended(2, "II ADR is a byte of two hex digits");
     };
+    let (mut input, mut out) = descriptors::standard();
     let mut bytes = Vec::new();
-    if let Err(error) = std::io::stdin().lock().read_to_end(&mut bytes) {
-        return stopped(&format!("standard input: {error}"));
+    if let Err(error) = input.read_to_end(&mut bytes) {
+        return ended(2, &format!("{name}: {}", descriptors::reason(&error)));
     }
     if bytes.len() % 2 == 1 {
-        return stopped("standard input ends within a change");
+        return ended(1, &format!("{name}: ends within a change"));
     }
     let changes: Vec<u16> = bytes.chunks_exact(2).map(|pair| u16::from_be_bytes([pair[0], pair[1]])).collect();
     // an address takes a START and eight rises with a fall before each
@@ -43,8 +46,13 @@ fn main() -> ExitCode {
     } else {
         let _ = writeln!(text, "{number}");
     }
-    if let Err(error) = std::io::stdout().lock().write_all(text.as_bytes()) {
-        return stopped(&format!("standard output: {error}"));
+    if let Err(error) = out.write_all(text.as_bytes()) {
+        return ended(2, &format!("standard output: {}", descriptors::reason(&error)));
     }
-    ExitCode::from(u8::from(number != 0))
+    match number {
+        0 => ExitCode::SUCCESS,
+        2 => ended(1, &format!("{name}: refused with 2, a line that is neither SDA nor SCL")),
+        3 => ended(1, &format!("{name}: refused with 3, a level above 1")),
+        _ => ended(1, &format!("{name}: refused with {number}")),
+    }
 }

@@ -174,6 +174,8 @@ pub trait Watch {
     fn read(&mut self, _address: u16, _byte: u8) {}
     /// The CPU wrote a byte to an address.
     fn written(&mut self, _address: u16, _byte: u8) {}
+    /// CPU cycles completed a clock of 8 µs.
+    fn clock(&mut self) {}
 }
 
 /// Watches nothing.
@@ -293,6 +295,7 @@ impl<W: Watch> Machine<'_, W> {
         if self.cpu.over >= CLOCK_CYCLES {
             self.cpu.over -= CLOCK_CYCLES;
             self.chip.sync_clock();
+            self.watch.clock();
             self.clocks += 1;
         }
     }

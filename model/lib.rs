@@ -1,7 +1,7 @@
 //! A second, independent model of the NT6861 peripherals, for comparison by running.
 //!
 //! It is written from document 01, the wishes of document 02 that touch the chip, and the readings in docs/DECISIONS.md, and
-//! shares no code with the proved crates. `core6502` is the processor around the chip (Wish 5), with `opcodes`, its table,
+//! shares no code with the proved crates. `core6502` is the processor around the chip (Wish 5), with `cpu_opcodes`, its table,
 //! `firmware`, runs as text, `host`, what happens on the bus beside a run, and `programs`, random ones.
 
 pub mod addresses;
@@ -26,4 +26,5 @@ pub mod state;
 mod tests;
 pub mod traffic;
 pub mod vcd;
+pub mod wave;
 pub mod why;

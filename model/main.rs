@@ -9,6 +9,7 @@ use nt6861_model::host::{self, ddc1_bytes};
 use nt6861_model::programs::{self, Random};
 use nt6861_model::replay::{generate, hold_text, outcome_text, replay, sample};
 use nt6861_model::traffic::Traffic;
+use nt6861_model::wave;
 use nt6861_model::why::why_lines;
 use std::fs;
 use std::hint::black_box;
@@ -27,12 +28,18 @@ const USAGE: &str = "usage:
   model outcomes SEED COUNT EVERY        likewise what the current transfer's address was equal
                                          to: none, a0, ii-adr or both
   model why                              words on standard input, for each source why its line is up
+  model wave                             words on standard input, their replay as a value change
+                                         dump on standard output
+  model kept                             words on standard input, those that a dump gives back on
+                                         standard output
   model time COUNT                       speed of the step
   model firmware [-t] ROM COUNT [EVENTS] runs so many instructions of an image from power up, with
                                          the listed events; prints answers and registers, with -t
                                          a trace
   model host ROM DESCRIPTION             the events of a host that does as described, as a list
   model bus ROM COUNT EVENTS             what passes over the bus in such a run, and what DDC1 sends
+  model given ROM COUNT EVENTS           the words that the chip is given in such a run, the CPU's
+                                         accesses and the clocks among them
   model image SEED                       a random program, as an image
   model events SEED COUNT                random events, as a list";
 
@@ -49,6 +56,8 @@ fn main() -> ExitCode {
         ["holds", seed, count, every] => sampled(seed, count, every, hold_text),
         ["outcomes", seed, count, every] => sampled(seed, count, every, outcome_text),
         ["why"] => why(),
+        ["wave"] => wave(),
+        ["kept"] => kept(),
         ["time", count] => time(count),
         ["firmware", "-t", rom, count] => firmware(rom, count, None, true),
         ["firmware", "-t", rom, count, events] => firmware(rom, count, Some(events), true),
@@ -56,6 +65,7 @@ fn main() -> ExitCode {
         ["firmware", rom, count, events] => firmware(rom, count, Some(events), false),
         ["host", rom, description] => hosted(rom, description),
         ["bus", rom, count, events] => bus(rom, count, events),
+        ["given", rom, count, events] => given(rom, count, events),
         ["image", seed] => random_image(seed),
         ["events", seed, count] => random_events(seed, count),
         _ => Err(USAGE.to_string()),
@@ -106,6 +116,34 @@ fn why() -> Result<bool, String> {
         .read_to_end(&mut bytes)
         .map_err(|error| error.to_string())?;
     print_bytes(why_lines(&bytes).as_bytes())
+}
+
+/// The whole words on standard input.
+fn words_given() -> Result<Vec<u32>, String> {
+    let mut bytes = Vec::new();
+    io::stdin()
+        .lock()
+        .read_to_end(&mut bytes)
+        .map_err(|error| error.to_string())?;
+    Ok(bytes
+        .chunks_exact(4)
+        .map(|word| u32::from_le_bytes([word[0], word[1], word[2], word[3]]))
+        .collect())
+}
+
+fn wave() -> Result<bool, String> {
+    let words = words_given()?;
+    let mut out = io::BufWriter::new(io::stdout().lock());
+    wave::dump(&mut Chip::fresh(), words.into_iter(), &mut out)
+        .and_then(|()| out.flush())
+        .map_err(|error| error.to_string())?;
+    Ok(true)
+}
+
+fn kept() -> Result<bool, String> {
+    let words = words_given()?;
+    let bytes: Vec<u8> = wave::kept(words.into_iter()).flat_map(u32::to_le_bytes).collect();
+    print_bytes(&bytes)
 }
 
 fn words(seed: &str, count: &str, tail: &str) -> Result<bool, String> {
@@ -241,6 +279,11 @@ fn dump(bytes: &[u8]) -> String {
         digits.join(" ") + "\n"
     };
     bytes.chunks(16).map(line).collect()
+}
+
+fn given(rom: &str, count: &str, events: &str) -> Result<bool, String> {
+    let words = wave::words_of_run(&image(rom)?, instructions(count)?, &listed(events)?);
+    print_bytes(&words.into_iter().flat_map(u32::to_le_bytes).collect::<Vec<u8>>())
 }
 
 fn bus(rom: &str, count: &str, events: &str) -> Result<bool, String> {

@@ -1,5 +1,5 @@
 #!/usr/bin/env bash
-# Compares `./counters6862` with the independent model of the counters: generated scripts of four seeds, the hand-worked
+# Compares `./nt6861 counters6862` with the independent model of the counters: generated scripts of four seeds, the hand-worked
 # lines of crates/counters6862, malformed lines, and the example of the README; then the calls of the C interface, linked from their
 # static library, from C by the header and, beside the same model, from Rust. A difference prints the line and both outputs.
 set -euo pipefail
@@ -9,12 +9,15 @@ trap 'rm -rf "$work"' EXIT
 source scripts/library.sh
 cargo build --offline --quiet --release --bin model6862
 model=target/cargo/release/model6862
-program=./counters6862
+program=(./nt6861 counters6862)
 
 # same NAME: the program's lines and the model's for the script of that name
 same() {
-    "$program" < "$work/$1" > "$work/proved"
+    local status=0 expected=0
+    "${program[@]}" < "$work/$1" > "$work/proved" 2> "$work/said" || status=$?
     "$model" run < "$work/$1" > "$work/expected"
+    ! tail -n 1 "$work/expected" | grep -q malformed || expected=1
+    [ "$status" = "$expected" ] || { echo "counters6862: $1 ends with status $status, not $expected"; exit 1; }
     cmp -s "$work/proved" "$work/expected" && return
     echo "counters6862: $1 differs; the first lines of the difference (program <, model >):"
     diff "$work/proved" "$work/expected" | head -n 4
@@ -53,5 +56,5 @@ library sync6862_capi
 cc -std=c99 -Wall -Wextra -Werror -Iinclude -o "$work/c" tests/counters6862.c target/staticlib/libsync6862_capi.a
 "$work/c"
 cargo build --offline --quiet --release --features proved --bin calls6862
-echo "counters6862 agrees: $lines lines of scripts, $malformed scripts with a line of every form"
 target/cargo/release/calls6862
+echo "counters6862 agrees: $lines lines of scripts, $malformed scripts with a line of every form"

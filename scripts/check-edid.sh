@@ -1,6 +1,6 @@
 #!/usr/bin/env bash
 # Compares the proved check of EDID blocks and the programs edid, feed and replay with an independent check and the independent
-# chip, builds and runs a program in C over the header, sees that refused blocks are told, and runs README's example. Ends in a line
+# chip, builds and runs a program in C over the header, and sees that refused blocks are told. Ends in a line
 # for each part, or names the first difference and fails. scripts/check-commands.sh tries reads and writes that fail.
 set -euo pipefail
 cd "$(dirname "$0")/.."
@@ -15,21 +15,12 @@ target/cargo/release/edid
 cc -std=c99 -Wall -Wextra -Werror -Iinclude -o "$work/edid" tests/edid.c target/staticlib/libedid_capi.a
 "$work/edid" < crates/edid/stdin
 
-# a refused block: ./edid prints its verdict, ./feed writes nothing and tells the number, both with status 1
+# a refused block: ./nt6861 edid prints its verdict, ./nt6861 feed writes nothing and tells the number, both with status 1
 head -c 127 crates/edid/stdin > "$work/short"
 status=0
-./edid "$work/short" > "$work/out" 2> "$work/err" || status=$?
+./nt6861 edid "$work/short" > "$work/out" 2> "$work/err" || status=$?
 [ "$status" = 1 ] && [ "$(cat "$work/out")" = '30 length' ] && [ ! -s "$work/err" ] || { echo "edid: a refused block: status $status, $(cat "$work/out" "$work/err")"; exit 1; }
 status=0
-./feed "$work/short" > "$work/out" 2> "$work/err" || status=$?
-[ "$status" = 1 ] && [ ! -s "$work/out" ] && [ "$(cat "$work/err")" = 'feed: the block is refused: 30' ] || { echo "feed: a refused block: status $status, $(cat "$work/err")"; exit 1; }
-echo "edid: refused blocks are told by ./edid and ./feed"
-
-# the commands of README's section, each with the lines that it prints
-awk '/^## / { on = /^## An EDID base block/ } on' README.md | sed -n 's/^    //p' > "$work/example"
-grep '^\$ ' "$work/example" | sed 's/^\$ //' | while IFS= read -r command; do
-    echo "\$ $command"
-    bash -c "$command" || true
-done > "$work/printed"
-diff "$work/example" "$work/printed"
-echo "edid: README's example prints what it says ($(grep -c '^\$ ' "$work/example") commands)"
+./nt6861 feed "$work/short" > "$work/out" 2> "$work/err" || status=$?
+[ "$status" = 1 ] && [ ! -s "$work/out" ] && [ "$(cat "$work/err")" = 'nt6861 feed: the block is refused: 30, length' ] || { echo "feed: a refused block: status $status, $(cat "$work/err")"; exit 1; }
+echo "edid: refused blocks are told by ./nt6861 edid and ./nt6861 feed"

@@ -2,7 +2,7 @@
 # Firmware images and their runs on the independent core: the images are what their sources make, where the assembler is installed;
 # the lists of events are what the hosts' descriptions make; the EDID block is what a host reads; the commands of docs/RECALL.md and
 # images/README.md print what these pages say; malformed files are told. Where crates.txt has the program `firmware`, the same runs
-# and refusals of the proved program print the same, and ./firmware is tried on files that cannot be read and outputs that cannot be
+# and refusals of the proved program print the same, and ./nt6861 firmware is tried on files that cannot be read and outputs that cannot be
 # written; where it has `firmware_capi`, the call for C is compared with the core. Ends in a line for each part, or names the first
 # difference and fails.
 set -euo pipefail
@@ -15,8 +15,7 @@ model=target/cargo/release/model
 proved=''
 if grep -q '^firmware:' crates.txt; then
     proved=target/bin/firmware
-    source scripts/program.sh
-    ready firmware
+    program firmware
 fi
 
 fail() {
@@ -39,12 +38,12 @@ same() {
     local status=0
     "$model" firmware "$@" > "$work/expected" 2> "$work/told" || status=$?
     [ -n "$proved" ] || return 0
-    "$proved" "$@" > "$work/printed" 2> "$work/said" || true
+    "$proved" "$@" > "$work/printed" 2> "$work/said" || fail "$* ends with status $?"
     cmp -s "$work/expected" "$work/printed" || {
         diff "$work/printed" "$work/expected" | head -n 4
         fail "$* differs (program <, model >)"
     }
-    [ "$status" = 0 ] || diff "$work/said" "$work/told" || fail "$* is told otherwise"
+    diff "$work/said" "$work/told" || fail "$* is told otherwise"
 }
 
 runs=0
@@ -92,8 +91,8 @@ if grep -q '^firmware_capi:' crates.txt; then
     library firmware_capi
     cargo build --offline --quiet --release --features proved,area --bin firmware_compare
     target/cargo/release/firmware_compare
-    library capi
-    cc -Wall -Wextra -Werror -Iinclude tests/firmware.c -o "$work/c" target/staticlib/libfirmware_capi.a target/staticlib/libcapi.a
+    library chip_capi
+    cc -Wall -Wextra -Werror -Iinclude tests/firmware.c -o "$work/c" target/staticlib/libfirmware_capi.a target/staticlib/libchip_capi.a
     "$work/c" < images/sort.rom
 fi
 
@@ -145,28 +144,33 @@ tried() {
     "${@:3}" > "$work/printed" 2> "$work/said" || status=$?
     [ "$status" = "$1" ] && [ ! -s "$work/printed" ] && [ "$(cat "$work/said")" = "$2" ] || fail "${*:3}: status $status, told: $(cat "$work/said")"
 }
-full_disk() { ./firmware "$@" > /dev/full; }
-closed_output() { ./firmware "$@" >&-; }
-piped_list() { ./firmware images/sort.rom 9 /dev/stdin < <(cat images/sort.events); }
+full_disk() { ./nt6861 firmware "$@" > /dev/full; }
+closed_output() { ./nt6861 firmware "$@" >&-; }
+piped_list() { ./nt6861 firmware images/sort.rom 9 /dev/stdin < <(cat images/sort.events); }
+arguments=(images/sort.rom 1 images/sort.events 1)
 if [ -n "$proved" ]; then
-    tried 2 'usage: firmware [-t] ROM COUNT [EVENTS]' ./firmware
-    tried 2 'usage: firmware [-t] ROM COUNT [EVENTS]' ./firmware -t images/sort.rom
-    tried 2 'usage: firmware [-t] ROM COUNT [EVENTS]' ./firmware images/sort.rom 1 images/sort.events 1
-    tried 2 "$work/missing: No such file or directory" ./firmware "$work/missing" 1
-    tried 2 "$work: Is a directory" ./firmware "$work" 1
-    tried 2 "$work/missing: No such file or directory" ./firmware -t images/sort.rom 1 "$work/missing"
-    tried 2 "$work: Is a directory" ./firmware images/sort.rom 1 "$work"
-    tried 2 '/dev/stdin: cannot be read twice; give a file' piped_list
-    tried 2 "$work/short: 24575 bytes, not 24576" ./firmware "$work/short" 1
+    for count in 0 1 4; do
+        tried 2 "nt6861 firmware: an image, a count and a list at most, and $count arguments are given; ./nt6861 firmware -h says what it takes" \
+            ./nt6861 firmware "${arguments[@]:0:count}"
+    done
+    tried 2 "nt6861 firmware: $work/missing: No such file or directory" ./nt6861 firmware "$work/missing" 1
+    tried 2 "nt6861 firmware: $work: Is a directory" ./nt6861 firmware "$work" 1
+    tried 2 "nt6861 firmware: $work/missing: No such file or directory" ./nt6861 firmware -t images/sort.rom 1 "$work/missing"
+    tried 2 "nt6861 firmware: $work: Is a directory" ./nt6861 firmware images/sort.rom 1 "$work"
+    tried 2 'nt6861 firmware: /dev/stdin: cannot be read twice; give a file' piped_list
+    tried 2 'nt6861 firmware: 4294967296: not a decimal number up to 4294967295' ./nt6861 firmware images/sort.rom 4294967296
+    tried 1 "nt6861 firmware: $work/short: 24575 bytes, not 24576" ./nt6861 firmware "$work/short" 1
+    printf '0 04000000\n\n1 0400000\n' > "$work/wrong.events"
+    tried 1 "nt6861 firmware: $work/wrong.events:3: not NUMBER WORD" ./nt6861 firmware images/sort.rom 1 "$work/wrong.events"
     touch "$work/unreadable"
     chmod 000 "$work/unreadable"
-    [ -r "$work/unreadable" ] || tried 2 "$work/unreadable: Permission denied" ./firmware "$work/unreadable" 1
-    tried 2 'firmware: standard output: No space left on device' full_disk images/sort.rom 9
-    tried 2 'firmware: standard output: No space left on device' full_disk -t images/sort.rom 9 images/sort.events
-    tried 2 'firmware: standard output is closed' closed_output images/sort.rom 9
-    { ./firmware -t images/crc.rom 100000 2> "$work/said" || echo "$?" > "$work/status"; } | head -n 1 > "$work/first"
+    [ -r "$work/unreadable" ] || tried 2 "nt6861 firmware: $work/unreadable: Permission denied" ./nt6861 firmware "$work/unreadable" 1
+    tried 2 'nt6861 firmware: standard output: No space left on device' full_disk images/sort.rom 9
+    tried 2 'nt6861 firmware: standard output: No space left on device' full_disk -t images/sort.rom 9 images/sort.events
+    tried 2 'nt6861 firmware: standard output is closed' closed_output images/sort.rom 9
+    { ./nt6861 firmware -t images/crc.rom 100000 2> "$work/said" || echo "$?" > "$work/status"; } | head -n 1 > "$work/first"
     [ "$(cat "$work/status")" = 141 ] && [ ! -s "$work/said" ] || fail "a closed pipe: status $(cat "$work/status"), told: $(cat "$work/said")"
-    echo "firmware: $((tried + 1)) uses of ./firmware that fail are told"
+    echo "firmware: $((tried + 1)) uses of ./nt6861 firmware that fail are told"
 fi
 
 # the commands of the pages, each with the lines that it prints

@@ -1,5 +1,6 @@
 #!/usr/bin/env bash
-# The picture of the crates in docs/READING.md is that of crates.txt, and crates.txt lists what each crate's files need, and no more.
+# crates.txt lists what each crate's files need, and no more, and docs/CRATES.md has its row for each.
 set -euo pipefail
 cd "$(dirname "$0")/.."
-python3 scripts/graph.py --check
+python3 scripts/crates.py --check
+python3 scripts/graph.py

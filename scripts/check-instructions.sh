@@ -10,13 +10,13 @@ source scripts/library.sh
 words=80000
 
 # Some ten per cent above what docs/PERFORMANCE.md says.
-list_ceiling=92
-step_ceiling=1010
-replay_ceiling=150
-firmware_ceiling=105
-host_ceiling=160
+list_ceiling=83
+step_ceiling=1012
+replay_ceiling=138
+firmware_ceiling=104
+host_ceiling=163
 
-library capi firmware_capi
+library chip_capi firmware_capi
 rt check replay > "$work/log" 2>&1 || { cat "$work/log"; exit 1; }
 cargo build --offline --quiet --release --features proved --bin bench --bin model
 cargo build --offline --quiet --release --features proved,area --bin firmware_compare
@@ -53,7 +53,7 @@ held() {
     echo "instructions: $1 takes $2, and the ceiling is $3. Look at:"
     echo "  call places: advance_core, and what it calls, is called at one place of a library, or it no longer stands in the loop;"
     echo "  joins: a struct with an array in it that two branches return, or one part put by a copy of the whole and not by with_*;"
-    echo "  order of fields: fields of 1 or 2 bytes side by side that the compiler moves as one number (sync::LineCounter, bus::Phase, arithmetic::Flags);"
+    echo "  order of fields: fields of 1 or 2 bytes side by side that the compiler moves as one number (sync::LineCounter, bus::Phase, cpu_arithmetic::Flags);"
     echo "  tables: a const array is built anew at each use. docs/PERFORMANCE.md tells what each of these has cost."
 }
 held "a word of the list call" "$list" "$list_ceiling"

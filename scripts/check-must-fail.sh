@@ -86,5 +86,9 @@ while read -r source name kind; do
     [ "$count" -ge 2 ] || complain "$crate::$name has $count wrong answers tried, not two"
 done < <(signatures)
 
+# edit files alone name wrong answers: a comment that did would come to differ from what is tried
+naming=$(grep -lE '^ *// Wrong answers:' crates/*/src/*.rt || true)
+[ -z "$naming" ] || complain "comments name wrong answers: ${naming//$'\n'/ }"
+
 [ "$bad" = 0 ] && echo "must-fail: $answers wrong answers, each refused at a fact of its own proof or theorem; at least two for each of $functions public functions; $silent only read or write"
 exit "$bad"

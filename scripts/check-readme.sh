@@ -2,4 +2,7 @@
 # Runs the examples of README.md as they are written: commands, and listings.
 set -euo pipefail
 cd "$(dirname "$0")/.."
+source scripts/library.sh
+front vcd vcd_capi
+front addresses addresses_capi
 python3 scripts/readme.py README.md

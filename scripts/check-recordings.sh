@@ -70,18 +70,17 @@ grep -q 'more words than' "$work/said" && [ "$(stat -c %s "$work/recorded")" = 3
 # what cannot be read or written is told, and the status says so
 told() {
     local status=0
-    "${@:2}" 2> "$work/said" || status=$?
-    [ "$status" = 1 ] && grep -q "$1" "$work/said" || failed "'$1' is not told: status $status, $(cat "$work/said")"
+    "${@:3}" 2> "$work/said" || status=$?
+    [ "$status" = "$1" ] && grep -q "$2" "$work/said" || failed "'$2' is not told: status $status, $(cat "$work/said")"
 }
-touch target/bin/record target/bin/recording
-told 'cannot read' ./record /
-told 'cannot read' ./recording /
-told 'ends within a word' ./record crates/replay/stdin > /dev/null
-told 'bad block' ./recording crates/recording/stdin > /dev/null
-told 'cannot write' ./record crates/record/stdin > /dev/full
-told 'cannot write' ./recording crates/record/stdout > /dev/full
+told 2 'Is a directory' ./nt6861 record /
+told 2 'Is a directory' ./nt6861 recording /
+told 1 'ends within a word' ./nt6861 record crates/replay/stdin > /dev/null
+told 1 'bad block' ./nt6861 recording crates/recording/stdin > /dev/null
+told 2 'cannot write' ./nt6861 record crates/record/stdin > /dev/full
+told 2 'cannot write' ./nt6861 recording crates/record/stdout > /dev/full
 
 # the example of README.md
-./record crates/record/stdin > "$work/example.rec"
-./recording "$work/example.rec" | cmp - <(head -n 7 crates/replay/stdout)
+./nt6861 record crates/record/stdin > "$work/example.rec"
+./nt6861 recording "$work/example.rec" | cmp - <(head -n 7 crates/replay/stdout)
 echo "recordings agree: $compared recordings replayed, limits and failures told"

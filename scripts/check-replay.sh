@@ -1,5 +1,5 @@
 #!/usr/bin/env bash
-# Tries ./replay as people use it: words given one at a time, a stream cut anywhere, bytes left over, inputs that cannot be read, and
+# Tries ./nt6861 replay as people use it: words given one at a time, a stream cut anywhere, bytes left over, inputs that cannot be read, and
 # outputs that cannot be written. scripts/check-commands.sh tries what it has in common with the other commands.
 set -euo pipefail
 cd "$(dirname "$0")/.."
@@ -34,7 +34,7 @@ word() {
 # ---- a conversation: each answer comes before the next word is given
 words=(01000600 02000F01 03001B00 03001B01 01001000 02002600 02001101)
 answers=(0000003C 00000000 00000000 00000100 00000101 02000100 00000000)
-coproc chip { ./replay; }
+coproc chip { ./nt6861 replay; }
 for i in "${!words[@]}"; do
     word "${words[$i]}" >&"${chip[1]}"
     tried=$((tried + 1))
@@ -63,25 +63,25 @@ cmp -s "$work/whole" "$work/parts" || complain "a stream that comes in parts is 
 word 01000600 > "$work/one"
 printf '\000\006\000' > "$work/three"
 : > "$work/none"
-tried 0 0000003C '' ./replay "$work/one"
-tried 0 01000000 '' ./replay "$work/three"
-tried 0 '' '' ./replay "$work/none"
+tried 0 0000003C '' ./nt6861 replay "$work/one"
+tried 0 01000000 '' ./nt6861 replay "$work/three"
+tried 0 '' '' ./nt6861 replay "$work/none"
 
 # ---- reads and writes that fail
-in_directory() { ./replay < "$work"; }
-full_disk() { ./replay "$work/one" > /dev/full; }
+in_directory() { ./nt6861 replay < "$work"; }
+full_disk() { ./nt6861 replay "$work/one" > /dev/full; }
 not_ready() { python3 -c 'import os, subprocess, sys
 r, w = os.pipe()
 os.set_blocking(r, False)
-sys.exit(subprocess.run(["./replay"], stdin=r).returncode)'; }
-tried 1 '' 'replay: standard input: Is a directory' in_directory
-tried 1 '' 'replay: standard output: No space left on device' full_disk
-tried 1 '' 'replay: standard input: Resource temporarily unavailable' not_ready
+sys.exit(subprocess.run(["./nt6861", "replay"], stdin=r).returncode)'; }
+tried 2 '' 'nt6861 replay: standard input: Is a directory' in_directory
+tried 2 '' 'nt6861 replay: standard output: No space left on device' full_disk
+tried 2 '' 'nt6861 replay: standard input: Resource temporarily unavailable' not_ready
 tried=$((tried + 1))
 for i in {1..200}; do cat "$work/words"; done > "$work/many"
-{ ./replay "$work/many" 2> "$work/err" || echo "$?" > "$work/status"; } | head -n 1 > "$work/first"
+{ ./nt6861 replay "$work/many" 2> "$work/err" || echo "$?" > "$work/status"; } | head -n 1 > "$work/first"
 [ "$(cat "$work/status")" = 141 ] || complain "a closed pipe: status $(cat "$work/status"), not 141, that of SIGPIPE"
 [ ! -s "$work/err" ] || complain "a closed pipe: said '$(cat "$work/err")'"
 
-[ "$bad" = 0 ] && echo "replay: $tried uses of ./replay behave as said: a conversation, parts, failed reads and writes"
+[ "$bad" = 0 ] && echo "replay: $tried uses of ./nt6861 replay behave as said: a conversation, parts, failed reads and writes"
 exit "$bad"

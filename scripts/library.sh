@@ -1,23 +1,40 @@
-# Read by the checks that link proved libraries, in the folder at the top.
+# Read by the checks, in the folder at the top: what is proved, made where that is not done yet. Known by content (scripts/made.sh), and under
+# one lock, so that checks that run side by side make it once and none reads a file that is being written.
 
-# library NAME..: target/staticlib/libNAME.a of each, made where there is none or a source is newer. Under one lock, so that checks that
-# run side by side make it once and none reads a library that is being written.
+# made_or_told CALL NAME..: in a shell of its own, so that nothing of it reaches the check
+made_or_told() (
+    source scripts/made.sh
+    tell() { :; }
+    fail() {
+        echo "$*"
+        exit 1
+    }
+    heed_signals
+    "$@" 2>&1
+)
+
+# library NAME..: target/staticlib/libNAME.a of each
 library() {
-    local name file log
-    mkdir -p target
+    local name before
     for name in "$@"; do
-        file=target/staticlib/lib$name.a
-        (
-            flock 9
-            old=''
-            if [ -f "$file" ]; then
-                [ -n "$(find crates crates.txt -newer "$file" -type f -print -quit)" ] || exit 0
-                old=yes
-            fi
-            log=$(command rt staticlib "$name" 2>&1 9>&-) || { echo "$log"; exit 1; }
-            # cargo does not look at a library's age: the programs that link one are built anew
-            [ -z "$old" ] || awk -F '"' '/^name/ { name = $2 } /^required-features/ { print name }' Cargo.toml |
-                while read -r program; do rm -f target/cargo/release/deps/"$program"-*; done
-        ) 9> "${RT_TURN:-target/turn}" || exit 1
+        before=$(sha256sum "target/staticlib/lib$name.a" 2> /dev/null) || true
+        made_or_told proved_library "$name" || exit 1
+        # cargo does not look into a library: where it is another one, the programs that link it are built anew
+        [ -z "$before" ] || [ "$before" = "$(sha256sum "target/staticlib/lib$name.a")" ] || awk -F '"' '/^name/ { name = $2 } /^required-features/ { print name }' Cargo.toml |
+            while read -r program; do rm -f target/cargo/release/deps/"$program"-*; done
     done
+}
+
+# program NAME..: target/bin/NAME of each
+program() {
+    local name
+    for name in "$@"; do
+        made_or_told proved_program "$name" || exit 1
+    done
+}
+
+# front FRONT CRATE: the Rust program of a command over its proved library. A check that compares what ./nt6861 says asks for it first, so that
+# nothing is said of building or waiting meanwhile.
+front() {
+    made_or_told built_front "$1" "$2" || exit 1
 }

@@ -7,7 +7,7 @@ A name in a cell is written between backquotes, and each column takes names of i
     theorem         crate.name of a theorem
     wrong program   crate/label, a must-fail edit: a file of one wrong program, or a labelled wrong answer in a file of several
     case            name.txt, a listing of crates/vectors/data; P7, a row of the table of cases; crate.name of a theorem that
-                    computes a run, of the crate cases or of one whose name ends in _cases
+                    computes a run, of a crate whose name ends in _cases
 No cell is empty. A cell without a name is a reason in words. A clause that begins with "no " is one too, and may name anything that
 exists; clauses are parted by semicolons. Every labelled edit stands in some row's "wrong program", and every listing in some row's "case".
 """
@@ -69,9 +69,9 @@ definitions = found("*/specs/**/*.antt", r"^ *(?:(?:unfoldable|abbrev) )*pub (?:
 types = found("*/src/*.rt", r"(?:struct|enum|const) (\w+)")
 theorems = theorems_proved()
 proof_items = found("*/proofs/**/*.antt", r"^ *(?:(?:unfoldable|abbrev) )*pub (?:(?:data|record) )?([^\s:]+)")
-computed = {name for name in theorems if re.match(r"(?:[a-z0-9_]*_)?cases\.", name)}
+computed = {name for name in theorems if re.match(r"[a-z0-9_]*_cases\.", name)}
 listings = {str(path.relative_to(CRATES / "vectors/data")) for path in (CRATES / "vectors/data").rglob("*.txt")}
-table = {f"P{n}" for path in CRATES.glob("cases/specs/*.antt") for n in re.findall(r"number = (\d+);", path.read_text())}
+table = {f"P{n}" for path in CRATES.glob("chip_cases/specs/*.antt") for n in re.findall(r"number = (\d+);", path.read_text())}
 labels, functions = edits(), contracts()
 KINDS = {
     "definition": definitions | types,

@@ -3,7 +3,7 @@
 
 Registers: address, name, reset value, write and read column are those of `registers::TABLE`; each bit that the code names stands in
 its register's row with its number. Pins and clocks have the numbers of `events`. Every word with a pin or an address of the tables
-is taken, and every other one refused with 2. Each block of words and answers is run by target/bin/vectors from a fresh chip.
+is taken, and every other one refused with 2. The names of include/nt6861.h have the numbers of the code. Each block of words and answers is run by target/bin/vectors from a fresh chip.
 """
 import pathlib
 import re
@@ -34,13 +34,14 @@ def agree(what, page, code):
 
 def check_registers():
     """gives the addresses of the table"""
-    body = REGISTERS.split("const TABLE: [Row; 38] = [")[1].split("\n];")[0]
-    fields = r"\s+reset: 0x(\w+),\s+write: 0x(\w+),\s+read: 0x(\w+),\s+writable: (\w+),\s+readable: (\w+),"
-    code = re.findall(r"// (\w+)\n\s+Row \{" + fields, body)
+    body = REGISTERS.split("const TABLE: [u32; 38] = [")[1].split("\n];")[0]
+    packed = re.findall(r"0x(\w\w)_(\w\w)_(\w\w)_(\w\w), // (\w\w) (\w+)", body)
+    agree("addresses beside the rows of the code", [row[4] for row in packed], [f"{number:02X}" for number in range(38)])
+    code = [(name, reset, write, read, int(taken, 16) > 1, int(taken, 16) % 2 == 1) for reset, write, read, taken, _, name in packed]
     rows = table("Registers", "address")
     agree("number of registers", len(rows), len(code))
     for number, (row, (name, reset, write, read, writable, readable)) in enumerate(zip(rows, code)):
-        shown = [f"{number:02X}", name, reset.upper(), write.upper() if writable == "true" else "refused", read.upper() if readable == "true" else "refused"]
+        shown = [f"{number:02X}", name, reset.upper(), write.upper() if writable else "refused", read.upper() if readable else "refused"]
         agree(f"register {number:02X}", row[:5], shown)
     meaning = {row[1]: row[5] for row in rows}
     owners, asked = [], 0
@@ -81,6 +82,26 @@ def check_clocks():
             complaints.append(f"clock {number}: the page has '{rows.get(number)}', the code {name}")
 
 
+def check_header():
+    """gives how many names include/nt6861.h has: registers, pins, clocks and bits of requests with the numbers of the code"""
+    header = pathlib.Path("include/nt6861.h").read_text()
+    named = {name: int(number, 0) for name, number in re.findall(r"NT6861_(\w+) = (\w+)", header)}
+    code = dict(re.findall(r"^pub const (\w+): u8 = (\w+);", REGISTERS.split("// Bits that a rule names")[0], re.M))
+    code |= {f"DACH{n}": str(0x18 + n) for n in range(14)}
+    pins = dict(re.findall(r"^pub const (\w+): u8 = (\d+);", EVENTS.split("PERIOD")[0], re.M))
+    code |= {f"PIN_{name}": number for name, number in pins.items()}
+    code |= {f"PIN_P{port}{bit}": str(8 * port + bit) for port in range(3) for bit in range(8) if (port, bit) != (1, 7)}
+    code |= {f"CLOCK_{name}": number for name, number in re.findall(r"pub const (PERIOD|BASE0|BASE1|WATCHDOG): u8 = (\d+);", EVENTS)}
+    bits = dict(re.findall(r"^pub const INT(\w): u8 = (\d);", REGISTERS, re.M))
+    code |= {f"REQUEST_{name}": str(1 << int(number)) for name, number in bits.items()}
+    for name, number in code.items():
+        agree(f"NT6861_{name} of include/nt6861.h", named.get(name), int(number, 0))
+    given = {int(number) for number in re.findall(r"NT686[12]_\w+ = (\d+)", header.split("enum nt6861_number")[1].split("};")[0])}
+    rows = {int(number) for number in re.findall(r"^\| (\d+) \|", pathlib.Path("docs/NUMBERS.md").read_text(), re.M)}
+    agree("numbers of include/nt6861.h beside docs/NUMBERS.md", sorted(given), sorted(rows))
+    return len(code) + len(given)
+
+
 def run(name, text):
     with tempfile.TemporaryDirectory() as folder:
         pathlib.Path(folder, "block.txt").write_text(text)
@@ -98,6 +119,7 @@ def main():
     addresses = check_registers()
     pins = check_pins()
     check_clocks()
+    names = check_header()
     readable = {int(row[0], 16) for row in table("Registers", "address") if row[4] != "refused"}
     run("pins", taken(3, 1, pins))
     run("clocks", taken(4, 0, {0, 1, 2, 3}))
@@ -115,7 +137,7 @@ def main():
         print(f"words: {text}")
     if complaints:
         sys.exit(1)
-    print(f"words: docs/WORDS.md agrees with the code: {len(addresses)} registers, {len(pins)} pins, 4 clocks, {len(blocks)} blocks of words run")
+    print(f"words: docs/WORDS.md agrees with the code: {len(addresses)} registers, {len(pins)} pins, 4 clocks, {len(blocks)} blocks of words run; {names} names of include/nt6861.h have the numbers of the code")
 
 
 main()

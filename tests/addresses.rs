@@ -9,7 +9,7 @@ use nt6861_model::traffic::Rng;
 mod addresses_link;
 use addresses_link::addresses;
 
-#[link(name = "capi", kind = "static")]
+#[link(name = "chip_capi", kind = "static")]
 extern "C" {
     fn nt6861_replay(words: *const u32, count: usize, answers: *mut u32, places: usize) -> u8;
 }

@@ -1,6 +1,6 @@
-//! The proved chip for programs in Rust: safe calls on a state in 128 bytes, over the library capi (include/nt6861.h).
+//! The proved chip for programs in Rust: safe calls on a state in 128 bytes, over the library chip_capi (include/nt6861.h).
 
-#[link(name = "capi", kind = "static")]
+#[link(name = "chip_capi", kind = "static")]
 extern "C" {
     fn nt6861_fresh(area: *mut u8, length: usize) -> u8;
     fn nt6861_step(area: *mut u8, length: usize, word: u32) -> u32;

@@ -6,7 +6,6 @@ use plain_bus::Reading;
 
 // Lists the addresses in a list of changes: returns 0, each address with its outcome to the start of `found` and how many they are
 // in `count`; or 2, 3 or 7, and writes nothing.
-// Wrong answers: the count cleared where the places are too few; 0 whatever is wrong.
 #[no_mangle]
 pub extern "C" fn nt6861_addresses(
     own: u8,

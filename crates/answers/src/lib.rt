@@ -11,7 +11,6 @@ pub struct AnswerFields {
 }
 
 // The answer word with these parts; bits 23..17 are 0.
-// Wrong answers: the byte read where the requests stand; the watchdog reset told in bit 17.
 pub fn answer(number: u8, watchdog: bool, requests: u8, byte: u8) -> u32
     ensures { λ r. ⌜ r ≡ answerWord number watchdog requests byte ⌝ }
 {
@@ -21,7 +20,6 @@ pub fn answer(number: u8, watchdog: bool, requests: u8, byte: u8) -> u32
 }
 
 // The parts of an answer word; bits 23..17 are not looked at.
-// Wrong answers: the byte read given for the requests; the watchdog reset taken from bit 17.
 pub fn answer_fields(word: u32) -> AnswerFields
     ensures { λ r. ⌜ r ≡ answerFields word ⌝ }
 {

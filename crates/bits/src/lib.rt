@@ -4,7 +4,6 @@ ghost use Prim.Native.Nat.{_%_};
 ghost use Rattle.bits.specs.Byte.{bit as bitOf, merge as mergeOf, withBit, num as numOf, weightIf};
 
 // The bits of `mask` from `new`, the others from `old`.
-// Wrong answers: old and new exchanged; a written 0 that leaves the old 1.
 pub fn merge(mask: u8, old: u8, new: u8) -> u8
     ensures { λ r. ⌜ r ≡ mergeOf mask old new ⌝ }
 {
@@ -12,7 +11,6 @@ pub fn merge(mask: u8, old: u8, new: u8) -> u8
 }
 
 // Bit k of x, for k counted modulo 8.
-// Wrong answers: bit k + 1; bit 0 given for bit 7.
 pub fn bit(k: u8, x: u8) -> bool
     ensures { λ r. ⌜ r ≡ bitOf (k % 8) x ⌝ }
 {
@@ -20,7 +18,6 @@ pub fn bit(k: u8, x: u8) -> bool
 }
 
 // The byte x with bit k, counted modulo 8, put to v.
-// Wrong answers: the bit inverted; the other bits cleared.
 pub fn with_bit(x: u8, k: u8, v: bool) -> u8
     ensures { λ r. ⌜ r ≡ withBit x k v ⌝ }
 {
@@ -29,7 +26,6 @@ pub fn with_bit(x: u8, k: u8, v: bool) -> u8
 }
 
 // A level as a number.
-// Wrong answers: 1 for false; 255 for true.
 pub fn num(v: bool) -> u8
     ensures { λ r. ⌜ r ≡ numOf v ⌝ }
 {
@@ -37,7 +33,6 @@ pub fn num(v: bool) -> u8
 }
 
 // The weight of bit k, counted modulo 8, where the bit is 1, else 0.
-// Wrong answers: 1, the bit without its weight; the weight where the bit is 0.
 pub fn weight_if(v: bool, k: u8) -> u8
     ensures { λ r. ⌜ r ≡ weightIf v k ⌝ }
 {

@@ -1,7 +1,7 @@
 -- What the reader of a block gives, as a number and a count apart.
 use Prim.Native.Nat.{ℕ}
-use Rattle.blocks.specs.declared.BlockRead.{BlockRead}
-use Rattle.blocks.specs.declared.BlockRead.the-variants.{Words, Refused}
+use Rattle.recording_blocks.specs.declared.BlockRead.{BlockRead}
+use Rattle.recording_blocks.specs.declared.BlockRead.the-variants.{Words, Refused}
 
 -- 0 for words, else the number of the refusal
 abbrev pub statusOf : BlockRead → ℕ

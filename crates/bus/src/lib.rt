@@ -73,7 +73,6 @@ pub struct Shifter {
 }
 
 // The edge from one level to the next.
-// Wrong answers: rise and fall exchanged; a rise where the level was 1 already.
 pub fn edge_between(old: bool, new: bool) -> Edge
     ensures { λ r. ⌜ r ≡ edge old new ⌝ }
 {
@@ -85,7 +84,6 @@ pub fn edge_between(old: bool, new: bool) -> Edge
 }
 
 // The mode by ENDDC of II STS and MD1/2 of MDCON.
-// Wrong answers: DDC on where ENDDC is 1; DDC2B where MD1/2 is 1.
 pub fn mode_of(status: u8, mdcon: u8) -> Mode
     ensures { λ r. ⌜ r ≡ mode status mdcon ⌝ }
 {
@@ -110,7 +108,6 @@ fn mode_number(mode: Mode) -> u8
 }
 
 // The two modes differ.
-// Wrong answers: false from DDC1 to DDC2B; true where the same mode is set again.
 pub fn changes_mode(old: Mode, new: Mode) -> bool
     ensures { λ r. ⌜ r ≡ changesMode old new ⌝ }
 {
@@ -118,7 +115,6 @@ pub fn changes_mode(old: Mode, new: Mode) -> bool
 }
 
 // The level of a line: wired-AND of the outside and the chip.
-// Wrong answers: 1 where the chip pulls and the outside is 1; 1 wherever the chip does not pull.
 pub fn line_level(pulled: bool, level: bool) -> bool
     ensures { λ r. ⌜ r ≡ line pulled level ⌝ }
 {
@@ -126,7 +122,6 @@ pub fn line_level(pulled: bool, level: bool) -> bool
 }
 
 // A transmit pulls SDA at this count.
-// Wrong answers: the lowest bit first; pulled where the bit is 1.
 pub fn pulls_at_bit(count: u8, byte: u8) -> bool
     ensures { λ r. ⌜ r ≡ pullsAtBit count byte ⌝ }
 {
@@ -138,7 +133,6 @@ pub fn pulls_at_bit(count: u8, byte: u8) -> bool
 }
 
 // The phase pulls SDA.
-// Wrong answers: pulled while the bits of an address are gathered; released where a transmit puts a 0.
 pub fn pulls_sda(phase: Phase) -> bool
     ensures { λ r. ⌜ r ≡ pullsSda phase ⌝ }
 {
@@ -169,7 +163,6 @@ pub fn pulls_sda(phase: Phase) -> bool
 }
 
 // The phase pulls SCL.
-// Wrong answers: false while held; true for the acknowledge.
 pub fn pulls_scl(phase: Phase) -> bool
     ensures { λ r. ⌜ r ≡ pullsScl phase ⌝ }
 {
@@ -200,7 +193,6 @@ pub fn pulls_scl(phase: Phase) -> bool
 }
 
 // The outcome of the comparison that the phase keeps.
-// Wrong answers: none while SCL is held; none in a transmit.
 pub fn compared_in(phase: Phase) -> Comparison
     ensures { λ r. ⌜ r ≡ comparedIn phase ⌝ }
 {
@@ -228,7 +220,6 @@ pub fn compared_in(phase: Phase) -> Comparison
 }
 
 // SDA is pulled, in a mode with its phase and shift register.
-// Wrong answers: true where the top bit of DDC1 is 1; the phase looked at with DDC off.
 pub fn sda_pulled(mode: Mode, phase: Phase, s: Shifter) -> bool
     ensures { λ r. ⌜ r ≡ sdaPulled mode phase s ⌝ }
 {
@@ -240,7 +231,6 @@ pub fn sda_pulled(mode: Mode, phase: Phase, s: Shifter) -> bool
 }
 
 // SCL is pulled, in a mode with its phase.
-// Wrong answers: false while held in DDC2B; the phase looked at in DDC1.
 pub fn scl_pulled(mode: Mode, phase: Phase) -> bool
     ensures { λ r. ⌜ r ≡ sclPulled mode phase ⌝ }
 {
@@ -252,7 +242,6 @@ pub fn scl_pulled(mode: Mode, phase: Phase) -> bool
 }
 
 // A rise of VSYNCI loads the shift register.
-// Wrong answers: true on the first rise, nine edges being left; true at one edge left.
 pub fn loads_at_rise(s: Shifter) -> bool
     ensures { λ r. ⌜ r ≡ loadsAtRise s ⌝ }
 {
@@ -260,7 +249,6 @@ pub fn loads_at_rise(s: Shifter) -> bool
 }
 
 // The shift register after a rise of VSYNCI.
-// Wrong answers: seven edges left by a load, so without the null bit; a zero shifted in.
 pub fn shifter_at_rise(byte: u8, s: Shifter) -> Shifter
     ensures { λ r. ⌜ r ≡ shifterAtRise byte s ⌝ }
 {

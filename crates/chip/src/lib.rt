@@ -38,8 +38,8 @@ pub struct Pins {
 
 // What edges, clocks, pins and the bus move, and what steers them: numbers and small enums, no array. IRQX, MDCON, the polarity
 // bits of HVCON and BT stand here, since the chip itself moves them. `sda`, `scl` and `reset` are outside levels; they stand
-// apart from `pins` since the bus looks at SDA and SCL and everything at RESET, and since of two states that differ in SDA
-// alone all of `pins` is then the same.
+// apart from `chip_pins` since the bus looks at SDA and SCL and everything at RESET, and since of two states that differ in SDA
+// alone all of `chip_pins` is then the same.
 pub struct Core {
     pub irqx: u8,
     pub mdcon: u8,
@@ -85,7 +85,6 @@ fn idle_bus(iists: u8, iiadr: u8, iidat: u8) -> Bus
 }
 
 // The bus after a change of mode: lines released, no transfer, ones in the shift register, nine edges left.
-// Wrong answers: eight edges left, so the first load one rise early; II DAT cleared.
 pub fn released(b: Bus) -> Bus
     ensures { λ r. ⌜ r ≡ releasedOf b ⌝ }
 {
@@ -94,7 +93,6 @@ pub fn released(b: Bus) -> Bus
 
 // ---- one part of the core put anew, the others kept
 
-// Wrong answers: IRQX as it was; MDCON put too.
 pub fn with_irqx(c: Core, irqx: u8) -> Core
     ensures { λ r. ⌜ r ≡ withIrqx c irqx ⌝ }
 {
@@ -116,7 +114,6 @@ pub fn with_irqx(c: Core, irqx: u8) -> Core
     }
 }
 
-// Wrong answers: MDCON as it was; BT put too.
 pub fn with_mdcon(c: Core, mdcon: u8) -> Core
     ensures { λ r. ⌜ r ≡ withMdcon c mdcon ⌝ }
 {
@@ -138,7 +135,6 @@ pub fn with_mdcon(c: Core, mdcon: u8) -> Core
     }
 }
 
-// Wrong answers: the polarities as they were; BT put too.
 pub fn with_polarity(c: Core, polarity: u8) -> Core
     ensures { λ r. ⌜ r ≡ withPolarity c polarity ⌝ }
 {
@@ -160,7 +156,6 @@ pub fn with_polarity(c: Core, polarity: u8) -> Core
     }
 }
 
-// Wrong answers: BT as it was; the watchdog put too.
 pub fn with_bt(c: Core, bt: u8) -> Core
     ensures { λ r. ⌜ r ≡ withBt c bt ⌝ }
 {
@@ -182,7 +177,6 @@ pub fn with_bt(c: Core, bt: u8) -> Core
     }
 }
 
-// Wrong answers: the count as it was; BT put too.
 pub fn with_watchdog(c: Core, watchdog: u8) -> Core
     ensures { λ r. ⌜ r ≡ withWatchdog c watchdog ⌝ }
 {
@@ -204,7 +198,6 @@ pub fn with_watchdog(c: Core, watchdog: u8) -> Core
     }
 }
 
-// Wrong answers: the counters as they were; IRQX cleared.
 pub fn with_sync(c: Core, sync: Sync) -> Core
     ensures { λ r. ⌜ r ≡ withSync c sync ⌝ }
 {
@@ -225,7 +218,6 @@ pub fn with_sync(c: Core, sync: Sync) -> Core
     }
 }
 
-// Wrong answers: the bus as it was; the watchdog cleared.
 pub fn with_bus(c: Core, bus: Bus) -> Core
     ensures { λ r. ⌜ r ≡ withBus c bus ⌝ }
 {
@@ -246,7 +238,6 @@ pub fn with_bus(c: Core, bus: Bus) -> Core
     }
 }
 
-// Wrong answers: the levels as they were; the watchdog cleared.
 pub fn with_pins(c: Core, pins: Pins) -> Core
     ensures { λ r. ⌜ r ≡ withPins c pins ⌝ }
 {
@@ -267,7 +258,6 @@ pub fn with_pins(c: Core, pins: Pins) -> Core
     }
 }
 
-// Wrong answers: SDA as it was; SCL put too.
 pub fn with_sda(c: Core, sda: bool) -> Core
     ensures { λ r. ⌜ r ≡ withSda c sda ⌝ }
 {
@@ -289,7 +279,6 @@ pub fn with_sda(c: Core, sda: bool) -> Core
     }
 }
 
-// Wrong answers: SCL as it was; SDA put too.
 pub fn with_scl(c: Core, scl: bool) -> Core
     ensures { λ r. ⌜ r ≡ withScl c scl ⌝ }
 {
@@ -311,7 +300,6 @@ pub fn with_scl(c: Core, scl: bool) -> Core
     }
 }
 
-// Wrong answers: RESET as it was; SCL put too.
 pub fn with_reset(c: Core, reset: bool) -> Core
     ensures { λ r. ⌜ r ≡ withReset c reset ⌝ }
 {
@@ -334,7 +322,6 @@ pub fn with_reset(c: Core, reset: bool) -> Core
 }
 
 // The core with these flags of IRQX set, whether enabled or not; the others stay.
-// Wrong answers: the other flags cleared; only flags that stand already.
 pub fn raised(c: Core, flags: u8) -> Core
     ensures { λ r. ⌜ r ≡ raisedOf c flags ⌝ }
 {
@@ -344,7 +331,6 @@ pub fn raised(c: Core, flags: u8) -> Core
 // ---- what other parts ask of a state
 
 // The mode of DDC.
-// Wrong answers: DDC on where ENDDC is 1; S/C read for MD1/2.
 pub fn mode_of(c: Core) -> Mode
     ensures { λ r. ⌜ r ≡ modeOf c ⌝ }
 {
@@ -352,7 +338,6 @@ pub fn mode_of(c: Core) -> Mode
 }
 
 // HSEL, in MDCON.
-// Wrong answers: S/C, the bit below; HSEL inverted.
 pub fn hsel(c: Core) -> bool
     ensures { λ r. ⌜ r ≡ hselOf c ⌝ }
 {
@@ -360,7 +345,6 @@ pub fn hsel(c: Core) -> bool
 }
 
 // The request lines: the flags of IRQX that IEX enables.
-// Wrong answers: a request where flag or enable is set; all flags, enabled or not.
 pub fn requested(irqx: u8, iex: u8) -> u8
     ensures { λ r. ⌜ r ≡ requestedOf irqx iex ⌝ }
 {
@@ -368,7 +352,6 @@ pub fn requested(irqx: u8, iex: u8) -> u8
 }
 
 // The request lines of a chip.
-// Wrong answers: IRQX under the register behind IEX; IEX under itself.
 pub fn requests(c: Chip) -> u8
     ensures { λ r. ⌜ r ≡ requestsOf c ⌝ }
 {
@@ -380,7 +363,6 @@ pub fn requests(c: Chip) -> u8
 // ---- reset
 
 // Every part of the core at its reset value, at these outside levels.
-// Wrong answers: the sync pins of HVCON, 20H of 2FH, stored with its polarities; zeros in the shift register.
 pub fn reset_at(pins: Pins, sda: bool, scl: bool, reset: bool) -> Core
     ensures { λ r. ⌜ r ≡ resetAt pins sda scl reset ⌝ }
 {
@@ -404,7 +386,6 @@ pub fn reset_at(pins: Pins, sda: bool, scl: bool, reset: bool) -> Core
 }
 
 // A reset keeps the outside levels.
-// Wrong answers: all outside levels put to 1; the counts and their latches kept.
 pub fn reset_core(c: Core) -> Core
     ensures { λ r. ⌜ r ≡ resetCore c ⌝ }
 {
@@ -413,7 +394,6 @@ pub fn reset_core(c: Core) -> Core
 }
 
 // A fresh chip: reset values, and all outside levels 1.
-// Wrong answers: RESET low; a bit 7 at port 1.
 pub fn fresh() -> Chip
     ensures { λ r. ⌜ r ≡ freshOf ⌝ }
 {
@@ -433,7 +413,6 @@ pub fn fresh() -> Chip
 // ---- the array of stored registers
 
 // The byte in a place of the array, 0 past it.
-// Wrong answers: 1 past the array; the byte under the read mask.
 pub fn register_at(registers: &[u8], a: u8) -> u8
     ensures { λ r. ⌜ r ≡ registerAt (now (registers .entry)) a ⌝ }
 {
@@ -452,7 +431,6 @@ fn store(registers: &mut [u8], a: u8, b: u8)
 }
 
 // The array after an event.
-// Wrong answers: a register stored where all is kept; the array kept at a reset.
 pub fn keep(registers: &mut [u8; 38], kept: Kept)
     ensures { λ r. ⌜ now (registers .exit) ≡ keepOf kept (now (registers .entry)) ⌝ }
 {

@@ -3,7 +3,6 @@ ghost use mathlib.Core.Path.{_≡_};
 ghost use Rattle.counters.specs.Count.{counted as countedOf, overflowed as overflowedOf, latched as latchedOf, zeroed as zeroedOf, cycleNext, timerNext, timerOverflows, watchdogNext, watchdogFires};
 
 // The count after a step that is due.
-// Wrong answers: 0 after the last value; the last value in overflow, whatever the count.
 pub fn counted(last: u16, overflow: bool, count: u16) -> u16
     ensures { λ r. ⌜ r ≡ countedOf last overflow count ⌝ }
 {
@@ -14,7 +13,6 @@ pub fn counted(last: u16, overflow: bool, count: u16) -> u16
 }
 
 // The overflow bit after a step that is due.
-// Wrong answers: set by every step; an overflow bit dropped by the next step.
 pub fn overflowed(last: u16, overflow: bool, count: u16) -> bool
     ensures { λ r. ⌜ r ≡ overflowedOf last overflow count ⌝ }
 {
@@ -22,7 +20,6 @@ pub fn overflowed(last: u16, overflow: bool, count: u16) -> bool
 }
 
 // The latch after latching.
-// Wrong answers: the count latched in overflow too; 0, the count being zeroed first.
 pub fn latched(overflow: bool, count: u16, latch: u16) -> u16
     ensures { λ r. ⌜ r ≡ latchedOf overflow count latch ⌝ }
 {
@@ -30,7 +27,6 @@ pub fn latched(overflow: bool, count: u16, latch: u16) -> u16
 }
 
 // The count after latching.
-// Wrong answers: 0 in overflow too; the count kept once latched.
 pub fn zeroed(overflow: bool, count: u16) -> u16
     ensures { λ r. ⌜ r ≡ zeroedOf overflow count ⌝ }
 {
@@ -38,7 +34,6 @@ pub fn zeroed(overflow: bool, count: u16) -> u16
 }
 
 // The next value of a count that runs on from 0.
-// Wrong answers: the last value kept; 1 after the last value.
 pub fn cycle_next(last: u16, n: u16) -> u16
     ensures { λ r. ⌜ r ≡ cycleNext last n ⌝ }
 {
@@ -46,7 +41,6 @@ pub fn cycle_next(last: u16, n: u16) -> u16
 }
 
 // The base timer after its clock.
-// Wrong answers: 255 kept; 1 after 255.
 pub fn timer_next(n: u8) -> u8
     ensures { λ r. ⌜ r ≡ timerNext n ⌝ }
 {
@@ -54,7 +48,6 @@ pub fn timer_next(n: u8) -> u8
 }
 
 // The base timer's clock sets flag R.
-// Wrong answers: true at 254, the step to FF; false at 255, the step being to 0.
 pub fn timer_overflows(n: u8) -> bool
     ensures { λ r. ⌜ r ≡ timerOverflows n ⌝ }
 {
@@ -62,7 +55,6 @@ pub fn timer_overflows(n: u8) -> bool
 }
 
 // The watchdog after its clock.
-// Wrong answers: 64 after 63; 0 after each clock.
 pub fn watchdog_next(n: u8) -> u8
     ensures { λ r. ⌜ r ≡ watchdogNext n ⌝ }
 {
@@ -70,7 +62,6 @@ pub fn watchdog_next(n: u8) -> u8
 }
 
 // The watchdog's clock resets the chip.
-// Wrong answers: true at 62, the 63rd clock; false at 63, which is in range.
 pub fn watchdog_fires(n: u8) -> bool
     ensures { λ r. ⌜ r ≡ watchdogFires n ⌝ }
 {

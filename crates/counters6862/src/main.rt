@@ -1,11 +1,12 @@
 // Runs the script on standard input on the counters of either chip. After each line it prints the number given back and the twelve numbers,
-// and behind those of `field` the report. A malformed line is told with its number, and ends the run. A read or a write that fails ends it
-// too, and is told on standard error.
+// and behind those of `field` the report. A malformed line is told with its number, on standard error too, and ends the run. A read or a
+// write that fails ends it too, and is told on standard error.
+use counters6862_script::Event;
+use counters6862_script::Progress;
+use libc::STDERR_FILENO;
 use libc::STDIN_FILENO;
 use libc::STDOUT_FILENO;
 use rates::Rate;
-use script6862::Event;
-use script6862::Progress;
 
 // The progress after some bytes, and whether all that is due was written.
 struct Taken {
@@ -27,7 +28,7 @@ fn print(text: &[u8]) -> bool {
 
 // The number and the twelve numbers.
 fn print_answer(number: u8, n: [u16; 12]) -> bool {
-    let line = lines6862::line(number, n);
+    let line = counters6862_lines::line(number, n);
     let bytes = line.bytes;
     let count = line.count;
     io::write_all(STDOUT_FILENO, &bytes[..count])
@@ -48,12 +49,15 @@ fn print_report(rate: Rate) -> bool {
         Rate::IllFormed => print(b"ill-formed"),
         Rate::NothingLatched => print(b"nothing-latched"),
         Rate::Overflow => print(b"overflow"),
-        Rate::FieldRate(_) => print_bits(script6862::rate_bits(rate)),
-        Rate::LineRate(_) => print_bits(script6862::rate_bits(rate)),
+        Rate::FieldRate(_) => print_bits(counters6862_script::rate_bits(rate)),
+        Rate::LineRate(_) => print_bits(counters6862_script::rate_bits(rate)),
     }
 }
 
 fn print_malformed(line: u64) -> bool {
+    io::write_all(STDERR_FILENO, b"counters6862: line ");
+    io::print_decimal(STDERR_FILENO, line);
+    io::write_all(STDERR_FILENO, b" malformed\n");
     print(b"line ") & io::print_decimal(STDOUT_FILENO, line) & print(b" malformed\n")
 }
 
@@ -68,12 +72,20 @@ fn print_event(event: Event, line: u64, n: [u16; 12]) -> bool {
     }
 }
 
-fn take_byte(p: Progress, b: u8) -> Taken {
-    let step = script6862::next(p, b);
+// After a write that failed nothing more is written, so that what stands has no hole.
+fn print_next(is_written: bool, event: Event, line: u64, n: [u16; 12]) -> bool {
+    if is_written {
+        return print_event(event, line, n);
+    }
+    false
+}
+
+fn take_byte(p: Progress, b: u8, before: bool) -> Taken {
+    let step = counters6862_script::next(p, b);
     let after = step.progress;
     let event = step.event;
     let numbers = after.numbers;
-    let is_written = print_event(event, after.line, numbers);
+    let is_written = print_next(before, event, after.line, numbers);
     Taken {
         progress: after,
         written: is_written,
@@ -85,9 +97,9 @@ fn take_bytes(start: Progress, bytes: &[u8]) -> Taken {
     let mut is_written = true;
     let mut i = 0;
     while i < bytes.len() {
-        let taken = take_byte(p, bytes[i]);
+        let taken = take_byte(p, bytes[i], is_written);
         p = taken.progress;
-        is_written = is_written & taken.written;
+        is_written = taken.written;
         i += 1;
     }
     Taken {
@@ -103,9 +115,10 @@ fn take_block(p: Progress) -> Turn {
     let n = filled.count;
     let taken = take_bytes(p, &block[..n]);
     let next = taken.progress;
+    let is_ended = next.ended;
     Turn {
         progress: next,
-        more: (n == 65536) & !filled.failed & taken.written,
+        more: (n == 65536) & !filled.failed & taken.written & !is_ended,
         failed: filled.failed,
         written: taken.written,
     }
@@ -113,7 +126,7 @@ fn take_block(p: Progress) -> Turn {
 
 // The end of the input ends its last line.
 fn finish(p: Progress) {
-    let taken = take_byte(p, 10);
+    let taken = take_byte(p, 10, true);
     if taken.written {
         return;
     }
@@ -134,7 +147,7 @@ fn finish_turn(turn: Turn) {
 
 // A proved loop has to end, and nothing says that the input does, so the loop counts blocks down, from a number that no run uses up.
 fn main() {
-    let mut p = script6862::opened();
+    let mut p = counters6862_script::opened();
     let mut blocks = u64::MAX;
     while blocks > 0 {
         let turn = take_block(p);

@@ -3,7 +3,6 @@ ghost use mathlib.Core.Path.{_≡_};
 ghost use Rattle.edid_check.specs.Edid.{verdict, numberOf};
 
 // The number of a block's verdict: 0 where it is accepted, else that of the first rule which it breaks.
-// Wrong answers: 0 whatever the block; bytes past the first 128 not looked at.
 #[no_mangle]
 pub extern "C" fn nt6861_edid(block: &[u8]) -> u8
     ensures { λ r. ⌜ r ≡ numberOf (verdict (now (block .entry))) ⌝ }

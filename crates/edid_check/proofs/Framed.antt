@@ -10,7 +10,7 @@ use lib.Dec.{eqb}
 use lib.ListN.{length, getD, take}
 use lib.Seq.{getD-take}
 use Rattle.bits.proofs.Finite.{both}
-use Rattle.edid_check.specs.Block.{byteAt, lengthFits, headerFits, sumFits, Framed}
+use Rattle.edid_check.specs.Block.{byteAt, lengthFits, headerFits, sumFits, Framed, Fits}
 
 -- the first eight bytes
 eight : (block : List ℕ) → 8 ≤ length block →
@@ -61,12 +61,7 @@ module _ (block : List ℕ) where
   at-place : (l : List ℕ) → take 8 block ≡ l → (i : ℕ) → i < 8 → byteAt block i ≡ getD l i 0
   at-place l e i h = sym (getD-take 8 block i 0 h) ∙ ap (λ (k : List ℕ). getD k i 0) e
 
-  pub record Fits : Type 0 where
-    pub size : lengthFits block ≡ true
-    pub header : headerFits block ≡ true
-    pub sum : sumFits block ≡ true
-
-  pub framed-fits : Framed block → Fits
+  pub framed-fits : Framed block → Fits block
   unfolding headerFits sumFits
   framed-fits k =
       let at = at-place (0 ∷ 0xff ∷ 0xff ∷ 0xff ∷ 0xff ∷ 0xff ∷ 0xff ∷ 0 ∷ []) (k .header) in

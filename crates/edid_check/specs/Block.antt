@@ -1,7 +1,7 @@
 -- An EDID base block: what holds of it in every edition (document 02, Wish 7). Bytes count from 0.
 use Prim.Native.Nat.{ℕ, _+_, _%_}
 use mathlib.Core.Path.{_≡_}
-use mathlib.Core.Bool.{Bool, _&&_}
+use mathlib.Core.Bool.{Bool, true, _&&_}
 use mathlib.Core.List.{List, [], _∷_}
 use lib.Dec.{eqb}
 use lib.ListN.{length, getD, take}
@@ -37,6 +37,12 @@ pub record Framed (block : List ℕ) : Type 0 where
   pub size : length block ≡ 128
   pub header : take 8 block ≡ 0 ∷ 0xff ∷ 0xff ∷ 0xff ∷ 0xff ∷ 0xff ∷ 0xff ∷ 0 ∷ []
   pub sum : sumOf block % 256 ≡ 0
+
+-- and as tests
+pub record Fits (block : List ℕ) : Type 0 where
+  pub size : lengthFits block ≡ true
+  pub header : headerFits block ≡ true
+  pub sum : sumFits block ≡ true
 
 -- ---- the number of the first rule that is broken
 

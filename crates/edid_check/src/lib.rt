@@ -151,7 +151,6 @@ fn contents(block: &[u8]) -> Verdict
 }
 
 // The check of a block of any length.
-// Wrong answers: a block of more than 128 bytes accepted; the sum looked at before the version.
 pub fn check(block: &[u8]) -> Verdict
     ensures { λ r. ⌜ Judged (now (block .entry)) r ⌝ }
 {
@@ -167,7 +166,6 @@ pub fn check(block: &[u8]) -> Verdict
 }
 
 // The number of a verdict: 0 for an accepted block.
-// Wrong answers: 33 for the digital bits; 0 for a wrong version.
 pub fn number(v: Verdict) -> u8
     ensures { λ r. ⌜ r ≡ numberOf v ⌝ }
 {

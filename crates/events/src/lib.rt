@@ -25,6 +25,25 @@ pub const BASE1: u8 = 2;
 
 pub const WATCHDOG: u8 = 3;
 
+// Words of common events: the levels of SDA, SCL, HSYNCI and VSYNCI, and the clock of 8 µs.
+const SDA_LOW: u32 = 0x0300_1800;
+
+const SDA_HIGH: u32 = 0x0300_1801;
+
+const SCL_LOW: u32 = 0x0300_1900;
+
+const SCL_HIGH: u32 = 0x0300_1901;
+
+const HSYNCI_LOW: u32 = 0x0300_1a00;
+
+const HSYNCI_HIGH: u32 = 0x0300_1a01;
+
+const VSYNCI_LOW: u32 = 0x0300_1b00;
+
+const VSYNCI_HIGH: u32 = 0x0300_1b01;
+
+const PERIOD_CLOCK: u32 = 0x0400_0000;
+
 // An event, or the number with which a word is refused.
 pub enum Decoded {
     // a register
@@ -99,9 +118,8 @@ fn event(word: u32) -> Decoded
 }
 
 // The first number that applies refuses the word, else it is an event.
-// Wrong answers: pin 15 taken for a pin; a read with B 1 taken for a read.
-pub fn decode(word: u32) -> Decoded
-    ensures { λ r. ⌜ (r ≡ decodeOf word) × DecodedCase word r ⌝ }
+fn by_fields(word: u32) -> Decoded
+    ensures { λ r. ⌜ r ≡ decodeOf word ⌝ }
 {
     if no_event(word) {
         return Decoded::Refused(1);
@@ -113,6 +131,25 @@ pub fn decode(word: u32) -> Decoded
         return Decoded::Refused(3);
     }
     event(word)
+}
+
+// A word's event, or the number that refuses it. The words of common events are met first, with their event as a constant, so that what
+// takes it apart does not test it again.
+pub fn decode(word: u32) -> Decoded
+    ensures { λ r. ⌜ (r ≡ decodeOf word) × DecodedCase word r ⌝ }
+{
+    match word {
+        SDA_LOW => Decoded::Pin(SDA, false),
+        SDA_HIGH => Decoded::Pin(SDA, true),
+        SCL_LOW => Decoded::Pin(SCL, false),
+        SCL_HIGH => Decoded::Pin(SCL, true),
+        HSYNCI_LOW => Decoded::Pin(HSYNCI, false),
+        HSYNCI_HIGH => Decoded::Pin(HSYNCI, true),
+        VSYNCI_LOW => Decoded::Pin(VSYNCI, false),
+        VSYNCI_HIGH => Decoded::Pin(VSYNCI, true),
+        PERIOD_CLOCK => Decoded::Clock(PERIOD),
+        _ => by_fields(word),
+    }
 }
 
 // The word with these fields.
@@ -136,7 +173,6 @@ fn refused_word(number: u8) -> u32
 }
 
 // The word of an event; for a refusal, one of the words that it refuses.
-// Wrong answers: a write with its register and byte exchanged; for number 2 a word of a register that there is.
 pub fn encode(event: Decoded) -> u32
     ensures { λ r. ⌜ r ≡ encodeOf event ⌝ }
 {

@@ -8,9 +8,9 @@ use libc::STDOUT_FILENO;
 // 21 words before the block and 20 for each of 128 bytes.
 fn send(block: &[u8]) -> bool {
     let mut words = [0u32; 2581];
-    let count = feed_words::feed(block, &mut words);
+    let count = edid_feed::feed(block, &mut words);
     let mut bytes = [0u8; 10324];
-    let size = feed_words::store(&words[..count], &mut bytes);
+    let size = edid_feed::store(&words[..count], &mut bytes);
     io::write_all(STDOUT_FILENO, &bytes[..size])
 }
 

@@ -2,7 +2,7 @@
 // end, with -t a line for each event, interrupt and instruction (images/README.md). What cannot be run is told on standard error, and
 // nothing runs. A list is read twice, so that it may have any length: first every line is checked, then the events are given as they are read.
 ghost use Prim.Native.Nat.{_<_};
-use event_lines::Meaning;
+use firmware_event_lines::Meaning;
 use firmware_input::Place;
 use firmware_print::Asked;
 use firmware_print::Item;
@@ -24,7 +24,7 @@ fn run_events(fd: i32, rom: &[u8], asked: Asked) -> bool {
     let mut block = io::large_buffer();
     let mut run = firmware_trace::power_up(rom);
     let mut place = Place {
-        reader: event_lines::line_start(),
+        reader: firmware_event_lines::line_start(),
         at: 0,
         count: 0,
         last: false,

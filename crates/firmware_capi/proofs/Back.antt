@@ -9,8 +9,8 @@ use borrow.Author.Tests.{lt-ltb, le-ltb}
 use Rattle.bits.specs.Byte.{num}
 use Rattle.bits.proofs.Level.{eqb-num}
 use Rattle.bits.proofs.Mask.{num-lt}
-use Rattle.operations.specs.declared.Cpu.{Cpu}
-use Rattle.operations.specs.Operations.{flags, pulledP}
+use Rattle.cpu_operations.specs.declared.Cpu.{Cpu}
+use Rattle.cpu_operations.specs.Operations.{flags, pulledP}
 use Rattle.firmware_capi.specs.Call.{cpuOf, flagsByte, cpuBytes}
 
 -- bit 7, above the lower bits

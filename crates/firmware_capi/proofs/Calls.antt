@@ -9,8 +9,8 @@ use lib.ListN.{length}
 use borrow.Author.Tests.{eq-eqb, ne-eqb, eqb-true}
 use Rattle.bits.specs.Byte.{pick}
 use Rattle.chip.specs.declared.Chip.{Chip}
-use Rattle.operations.specs.declared.Cpu.{Cpu}
-use Rattle.machine.specs.Run.{Called, firmware}
+use Rattle.cpu_operations.specs.declared.Cpu.{Cpu}
+use Rattle.firmware_machine.specs.Run.{Called, firmware}
 use Rattle.firmware_run.specs.declared.FirmwareResult.{FirmwareResult}
 use Rattle.firmware_run.specs.Firmware.{resultOf}
 use Rattle.state_bytes.specs.Layout.{bytesOf}

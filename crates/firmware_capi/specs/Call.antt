@@ -6,10 +6,10 @@ use lib.Dec.{eqb}
 use lib.ListN.{length, getD}
 use Rattle.bits.specs.Byte.{pick, num}
 use Rattle.chip.specs.declared.Chip.{Chip}
-use Rattle.arithmetic.specs.declared.Flags.{Flags}
-use Rattle.operations.specs.declared.Cpu.{Cpu}
-use Rattle.operations.specs.Operations.{pulledP}
-use Rattle.machine.specs.Run.{Called, firmware}
+use Rattle.cpu_arithmetic.specs.declared.Flags.{Flags}
+use Rattle.cpu_operations.specs.declared.Cpu.{Cpu}
+use Rattle.cpu_operations.specs.Operations.{pulledP}
+use Rattle.firmware_machine.specs.Run.{Called, firmware}
 use Rattle.state_bytes.specs.Layout.{bytesOf}
 use Rattle.state_area.specs.Area.{loaded}
 

@@ -5,10 +5,10 @@ ghost use Prim.Native.Nat.{_+_, _*_};
 ghost use lib.ListN.{length};
 ghost use Rattle.state_bytes.specs.Layout.{bytesOf};
 ghost use Rattle.firmware_capi.specs.Call.{cpuOf, flagsByte, cpuBytes, left, hasBegun, countsOf, runIn, areSized, firmwareIn};
-use arithmetic::Flags;
 use chip::Chip;
+use cpu_arithmetic::Flags;
+use cpu_operations::Cpu;
 use firmware_run::FirmwareResult;
-use operations::Cpu;
 
 // ---- a CPU as eight bytes
 
@@ -22,7 +22,7 @@ fn cpu_of(bytes: &[u8]) -> Cpu
     requires { ⌜ length (now bytes) ≡ 8 ⌝ }
     ensures { λ r. ⌜ r ≡ cpuOf (now (bytes .entry)) ⌝ }
 {
-    let p = operations::pulled_p(bytes[4]);
+    let p = cpu_operations::pulled_p(bytes[4]);
     let pc = word(bytes[5], bytes[6]);
     Cpu {
         a: bytes[0],
@@ -38,12 +38,12 @@ fn cpu_of(bytes: &[u8]) -> Cpu
 fn flags_byte(f: Flags) -> u8
     ensures { λ r. ⌜ r ≡ flagsByte f ⌝ }
 {
-    arithmetic::num(f.n) * 128
-        + arithmetic::num(f.v) * 64
-        + arithmetic::num(f.d) * 8
-        + arithmetic::num(f.i) * 4
-        + arithmetic::num(f.z) * 2
-        + arithmetic::num(f.c)
+    cpu_arithmetic::num(f.n) * 128
+        + cpu_arithmetic::num(f.v) * 64
+        + cpu_arithmetic::num(f.d) * 8
+        + cpu_arithmetic::num(f.i) * 4
+        + cpu_arithmetic::num(f.z) * 2
+        + cpu_arithmetic::num(f.c)
 }
 
 fn keep_cpu(bytes: &mut [u8], c: Cpu)
@@ -178,7 +178,6 @@ fn are_sized(cpu: usize, ram: usize, area: usize, counts: usize) -> bool
 
 // Runs `instructions` instructions of the firmware in `rom` from the CPU, with the events between them, and gives 0 or the number of the
 // refusal of an instruction. Refused before anything runs (15, 8, 22, 7), nothing is touched.
-// Wrong answers: a chip refused with 8 run, and a good one not; one place for the counts asked for.
 #[no_mangle]
 pub extern "C" fn nt6861_firmware(
     cpu: &mut [u8],

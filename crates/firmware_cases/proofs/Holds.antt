@@ -1,20 +1,21 @@
 -- The theorem at work: firmware that polls the flags while a host talks to another device, and firmware that sets up DDC and is interrupted.
-use Prim.Native.Nat.{ℕ, _+_, _%_}
+use Prim.Native.Nat.{ℕ, _+_}
 use mathlib.Core.Path.{_≡_, refl, ap, _∙_}
 use mathlib.Core.Bool.{true}
 use mathlib.Core.List.{List, [], _∷_, _++_}
 use lib.ListN.{length, replicate, length-append, length-replicate}
 use Rattle.bus.specs.declared.Phase.{Phase}
 use Rattle.bus.specs.declared.Phase.the-variants.{Ignoring}
-use Rattle.isolation.specs.Foreign.{since, start-seen, bus-idle}
-use Rattle.memory.specs.declared.Loaded.the-variants.{Byte}
-use Rattle.instruction.specs.Program.{readAt, writeAt}
-use Rattle.machine.specs.Run.{runs, firmware}
-use Rattle.firmware_isolation.specs.Trace.{trace, accessesOf}
-use Rattle.firmware_isolation.specs.Transfers.{RunsAgree, CallsAgree}
-use Rattle.firmware_isolation.proofs.Runs.{firmware-runs-listed, firmware-runs, foreign-of, firmware-calls-listed}
-use Rattle.firmware_cases.specs.Firmware.{cpu, ram, startedChip, startedMachine, idleMachine, lowMachine, interruptibleMachine, clockBit, event, transfer, whole, sdaPut, times, polling, pollingRom, servicingRom}
+use Rattle.isolation_laws.specs.Foreign.{since, start-seen, bus-idle}
+use Rattle.cpu_memory.specs.declared.Loaded.the-variants.{Byte}
+use Rattle.cpu_instruction.specs.Program.{readAt, writeAt}
+use Rattle.firmware_machine.specs.Run.{runs, firmware}
+use Rattle.firmware_isolation_laws.specs.Trace.{trace, accessesOf}
+use Rattle.firmware_isolation_laws.specs.Transfers.{RunsAgree, CallsAgree}
+use Rattle.firmware_isolation_laws.proofs.Runs.{firmware-runs-listed, firmware-runs, foreign-of, firmware-calls-listed}
+use Rattle.firmware_cases.specs.Firmware.{cpu, ram, startedChip, startedMachine, idleMachine, lowMachine, interruptibleMachine, event, transfer, whole, sdaPut, times, polling, pollingRom, servicingRom}
 use Rattle.firmware_cases.specs.Tests.{tests}
+use Rattle.firmware_cases.specs.Holds.{refusing, serviced, afterLow}
 use Rattle.firmware_cases.proofs.Opened.{opened}
 
 -- ---- one transfer: A2H and 54H are not for this chip
@@ -57,9 +58,6 @@ several-agree = firmware-runs-listed 4 polling idleMachine refl refl bus-idle (w
 
 -- ---- an instruction that is refused: NOP, then an opcode that is not documented
 
-abbrev pub refusing : List ℕ
-refusing = 0xEA ∷ 0x02 ∷ []
-
 -- the lists agree, so that equally many of their events are given: the 18 before the two instructions, of 28
 pub refused-agree : RunsAgree (runs 4 0 refusing (transfer 0 0xa2) startedMachine) (runs 4 0 refusing (transfer 0 0x54) startedMachine) (trace 4 0 refusing (transfer 0 0xa2) startedMachine) (trace 4 0 refusing (transfer 0 0x54) startedMachine)
 unfolding opened
@@ -86,9 +84,6 @@ behind-agree = firmware-runs 4 refusing startedMachine refl refl start-seen (sda
 
 -- the list too writes II ADR, II DAT, II STS and MDCON, before the eighth instruction; then comes an address, and flag S with its first fall of
 -- SCL. FEH would match II ADR as it was at first, and 54H as the CPU wrote it.
-abbrev serviced : ℕ → List ℕ
-serviced n = event 7 0x02001356 ∷ event 7 0x02001412 ∷ event 7 0x02001530 ∷ event 7 0x02000502 ∷ transfer 8 n
-
 pub interrupted-agree : RunsAgree (runs 14 0 servicingRom (serviced 0x54) interruptibleMachine) (runs 14 0 servicingRom (serviced 0xfe) interruptibleMachine)
     (trace 14 0 servicingRom (serviced 0x54) interruptibleMachine) (trace 14 0 servicingRom (serviced 0xfe) interruptibleMachine)
 unfolding opened servicingRom
@@ -110,9 +105,6 @@ interrupted-accesses = refl
 
 -- ---- RESET low at first: the first instruction does nothing, writes that would turn DDC off or ask for DDC1 are refused, a clock then is not
 -- gathered, and the transfer begins once RESET is high
-
-abbrev afterLow : ℕ → List ℕ
-afterLow n = event 0 0x02001508 ∷ event 0 0x02000501 ∷ (clockBit 0 (n % 2) ++ (event 1 0x03001C01 ∷ transfer 1 n))
 
 pub low-agrees : RunsAgree (runs 5 0 polling (afterLow 0xa2) lowMachine) (runs 5 0 polling (afterLow 0x55) lowMachine) (trace 5 0 polling (afterLow 0xa2) lowMachine) (trace 5 0 polling (afterLow 0x55) lowMachine)
 unfolding opened

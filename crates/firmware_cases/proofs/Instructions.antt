@@ -1,16 +1,14 @@
 -- The instructions of the 6502, computed, against rows written out by hand.
 use Prim.Native.Nat.{ℕ}
 use mathlib.Core.Path.{_≡_, refl}
-use mathlib.Core.List.{List, [], _∷_, _++_, map}
-use lib.ListN.{replicate}
-use Rattle.arithmetic.specs.Arithmetic.{digitSum, digitDifference, decimalSum, decimalDifference, adc, sbc, compared}
-use Rattle.memory.specs.declared.Loaded.the-variants.{Byte}
-use Rattle.instruction.specs.Program.{Access, readAt, writeAt}
-use Rattle.machine.specs.Machine.{Machine}
-use Rattle.machine.specs.Run.{runs}
-use Rattle.firmware_rules.specs.Numbers.{madeBy}
+use mathlib.Core.List.{List, [], _∷_, map}
+use Rattle.cpu_arithmetic.specs.Arithmetic.{digitSum, digitDifference, decimalSum, decimalDifference, adc, sbc, compared}
+use Rattle.cpu_memory.specs.declared.Loaded.the-variants.{Byte}
+use Rattle.cpu_instruction.specs.Program.{Access, readAt, writeAt}
+use Rattle.firmware_laws.specs.Numbers.{madeBy}
 use Rattle.firmware_cases.specs.Firmware.{ram}
-use Rattle.firmware_cases.specs.Instructions.{ramWith, registersOf, startsFrom, ran, said, operationRows, crossingRows, binaryRows, decimalRows, branchRan, branchSaid, branchRows}
+use Rattle.firmware_cases.specs.Instructions.{ramWith, ran, said, operationRows, crossingRows, binaryRows, decimalRows, branchRan, branchSaid, branchRows}
+use Rattle.firmware_cases.specs.Starts.{start, after, jumping}
 use Rattle.firmware_cases.proofs.Opened.{opened}
 
 pub operation-rows : map ran operationRows ≡ map said operationRows
@@ -34,12 +32,6 @@ unfolding opened
 branch-rows = refl
 
 -- ---- what wraps, by the accesses
-
-abbrev start : ℕ → List ℕ → Machine
-start r l = startsFrom 0xA000 r l
-
-abbrev after : List ℕ → Machine → ℕ × ℕ
-after rom m = (registersOf (runs 1 0 rom [] m .machine .cpu), runs 1 0 rom [] m .machine .cpu .pc)
 
 -- an index wraps in page zero: LDA 90,X and LDX 90,Y with 80H read 10; LDA (81,X) with FFH has its pointer at 80, here 0090
 pub zero-page-wraps : madeBy (0xB5 ∷ 0x90 ∷ []) (start 0x008000FF00 ram) ∷ madeBy (0xB6 ∷ 0x90 ∷ []) (start 0x000080FF00 ram) ∷ madeBy (0xA1 ∷ 0x81 ∷ []) (start 0x00FF00FF00 (ramWith 0 0x900000)) ∷ []
@@ -65,9 +57,6 @@ unfolding opened
 jump-wraps = refl
 
 -- JMP (A0FF) at A000 has its own opcode for a high byte, and not the byte at A100
-abbrev jumping : List ℕ
-jumping = 0x6C ∷ 0xFF ∷ 0xA0 ∷ (replicate 252 0 ++ (0x34 ∷ 0x12 ∷ []))
-
 pub jump-to-own-opcode : after jumping (start 0 ram) ≡ (0, 0x6C34)
 unfolding opened
 jump-to-own-opcode = refl

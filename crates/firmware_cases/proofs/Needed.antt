@@ -3,27 +3,19 @@
 use Prim.Native.Nat.{ℕ}
 use mathlib.Core.Path.{_≡_, refl}
 use mathlib.Core.Bool.{Bool, true, false}
-use mathlib.Core.List.{List, [], _∷_, _++_}
+use mathlib.Core.List.{List, [], _∷_}
 use lib.ListN.{getD, drop}
 use Rattle.bus.specs.declared.Phase.{Phase}
 use Rattle.bus.specs.declared.Phase.the-variants.{Idle, Address}
-use Rattle.isolation.specs.Foreign.{none, since}
-use Rattle.memory.specs.declared.Loaded.the-variants.{Byte, Refused}
-use Rattle.instruction.specs.Program.{Access, readAt}
-use Rattle.machine.specs.Machine.{Machine}
-use Rattle.machine.specs.Run.{runs}
-use Rattle.firmware_isolation.specs.Trace.{trace, accessesOf}
+use Rattle.isolation_laws.specs.Foreign.{none, since}
+use Rattle.cpu_memory.specs.declared.Loaded.the-variants.{Byte, Refused}
+use Rattle.cpu_instruction.specs.Program.{Access, readAt}
+use Rattle.firmware_machine.specs.Run.{runs}
+use Rattle.firmware_isolation_laws.specs.Trace.{trace, accessesOf}
 use Rattle.firmware_cases.specs.Firmware.{freshMachine, startedMachine, gatheringMachine, idleMachine, event, transfer, sevenBits, sdaPut, times, polling, adrWriting, turningOff, askingDdc1, port3Reading, dataReading, dataFetching, dataChanging, dataPointing, dataPointingY}
 use Rattle.firmware_cases.specs.Tests.{Tested, tests}
-use Rattle.firmware_cases.specs.Instructions.{registersOf}
+use Rattle.firmware_cases.specs.Needed.{accumulators, bytes, listedAddress, turnedOff, resetWith, expiredWith, withVsync, shifted, askedDdc1, fallAfter, refusedCpu}
 use Rattle.firmware_cases.proofs.Opened.{opened}
-
--- A after n instructions in each run, and the byte at 0080
-abbrev accumulators : ℕ → List ℕ → Machine → List ℕ → List ℕ → ℕ × ℕ
-accumulators n rom m es fs = (runs n 0 rom es m .machine .cpu .a, runs n 0 rom fs m .machine .cpu .a)
-
-abbrev bytes : ℕ → List ℕ → Machine → List ℕ → List ℕ → ℕ × ℕ
-bytes n rom m es fs = (getD (runs n 0 rom es m .machine .ram) 0 0, getD (runs n 0 rom fs m .machine .ram) 0 0)
 
 -- ---- the first chip
 
@@ -74,9 +66,6 @@ unfolding opened
 own-address-needed = refl
 
 -- and as the list wrote it
-abbrev listedAddress : ℕ → List ℕ
-listedAddress n = event 0 0x02001354 ∷ transfer 0 n
-
 pub listed-address-needed : _≡_ {A = Tested × (ℕ × ℕ)} (tests 4 polling startedMachine (since []) (listedAddress 0x54) (listedAddress 0xa2), bytes 4 polling startedMachine (listedAddress 0x54) (listedAddress 0xa2))
     ((true, false, true, true, true), (0x28, 0x20))
 unfolding opened
@@ -89,55 +78,30 @@ unfolding opened
 ddc-needed = refl
 
 -- and by the list
-abbrev turnedOff : ℕ → List ℕ
-turnedOff level = sdaPut 0 level ++ (event 0 0x02001508 ∷ [])
-
 pub listed-ddc-needed : _≡_ {A = Tested × (ℕ × ℕ)} (tests 1 port3Reading startedMachine (since []) (turnedOff 0) (turnedOff 1), accumulators 1 port3Reading startedMachine (turnedOff 0) (turnedOff 1))
     ((true, false, false, true, true), (0, 1))
 unfolding opened
 listed-ddc-needed = refl
 
 -- a reset by the RESET pin turns DDC off as well: a listed read of PT3 shows SDA
-abbrev resetWith : ℕ → List ℕ
-resetWith level = sdaPut 0 level ++ (event 0 0x03001C00 ∷ event 0 0x03001C01 ∷ event 0 0x01000400 ∷ [])
-
 pub reset-needed : _≡_ {A = Tested × (ℕ × ℕ)} (tests 1 polling startedMachine (since []) (resetWith 0) (resetWith 1), (getD (runs 1 0 polling (resetWith 0) startedMachine .answers) 4 0, getD (runs 1 0 polling (resetWith 1) startedMachine .answers) 4 0))
     ((true, false, false, true, true), (0, 1))
 unfolding opened
 reset-needed = refl
 
 -- so does the 64th watchdog clock
-abbrev expiredWith : ℕ → List ℕ
-expiredWith level = sdaPut 0 level ++ (times 64 (event 0 0x04000300) ++ (event 0 0x01000400 ∷ []))
-
 pub watchdog-needed : _≡_ {A = Tested × (ℕ × ℕ)} (tests 1 polling startedMachine (since []) (expiredWith 0) (expiredWith 1), (getD (runs 1 0 polling (expiredWith 0) startedMachine .answers) 66 0, getD (runs 1 0 polling (expiredWith 1) startedMachine .answers) 66 0))
     ((true, false, false, true, true), (0, 1))
 unfolding opened
 watchdog-needed = refl
 
 -- DDC1 asked for by the CPU: the rises of VSYNCI load II DAT, which holds the foreign address
-abbrev pulse : List ℕ
-pulse = event 5 0x03001B00 ∷ event 5 0x03001B01 ∷ []
-
-abbrev pulses : List ℕ
-pulses = pulse ++ (pulse ++ (pulse ++ (pulse ++ (pulse ++ (pulse ++ (pulse ++ (pulse ++ (pulse ++ pulse))))))))
-
-abbrev withVsync : ℕ → List ℕ
-withVsync n = transfer 0 n ++ pulses
-
--- what the shift register holds after six instructions in each run
-abbrev shifted : List ℕ → List ℕ → List ℕ → ℕ × ℕ
-shifted rom es fs = (runs 6 0 rom es startedMachine .machine .chip .core .bus .shifter .register, runs 6 0 rom fs startedMachine .machine .chip .core .bus .shifter .register)
-
 pub ddc1-needed : _≡_ {A = Tested × (ℕ × ℕ)} (tests 6 askingDdc1 startedMachine (since []) (withVsync 0xa2) (withVsync 0x54), shifted askingDdc1 (withVsync 0xa2) (withVsync 0x54))
     ((true, false, true, true, true), (0xa2, 0x54))
 unfolding opened
 ddc1-needed = refl
 
 -- and by the list, the CPU doing nothing (NOP)
-abbrev askedDdc1 : ℕ → List ℕ
-askedDdc1 n = transfer 0 n ++ (event 5 0x02000501 ∷ pulses)
-
 pub listed-ddc1-needed : _≡_ {A = Tested × (ℕ × ℕ)} (tests 6 (times 6 0xEA) startedMachine (since []) (askedDdc1 0xa2) (askedDdc1 0x54), shifted (times 6 0xEA) (askedDdc1 0xa2) (askedDdc1 0x54))
     ((true, false, false, true, true), (0xa2, 0x54))
 unfolding opened
@@ -150,9 +114,6 @@ unfolding opened
 sda-needed = refl
 
 -- SDA falls in both runs while SCL is high, having been 0 before in one of them: a START in the other alone
-abbrev fallAfter : ℕ → List ℕ
-fallAfter level = sdaPut 0 level ++ (event 0 0x03001901 ∷ event 0 0x03001800 ∷ [])
-
 pub sda-before-needed : _≡_ {A = Tested × (Phase × Phase)} (tests 1 polling idleMachine none (fallAfter 0) (fallAfter 1), (runs 1 0 polling (fallAfter 0) idleMachine .machine .chip .core .bus .phase, runs 1 0 polling (fallAfter 1) idleMachine .machine .chip .core .bus .phase))
     ((true, true, true, false, true), (Idle, Address 0 0))
 unfolding opened
@@ -196,9 +157,6 @@ unfolding opened
 refused-needed = refl
 
 -- and not the CPU
-abbrev refusedCpu : ℕ → List ℕ
-refusedCpu n = registersOf (runs 4 0 dataPointingY (transfer 0 n) startedMachine .machine .cpu) ∷ runs 4 0 dataPointingY (transfer 0 n) startedMachine .machine .cpu .pc ∷ runs 4 0 dataPointingY (transfer 0 n) startedMachine .machine .cpu .over ∷ []
-
 pub refused-cpu : _≡_ {A = List ℕ × List ℕ} (refusedCpu 0x42, refusedCpu 0x50) (0xFF06 ∷ 0xA005 ∷ 7 ∷ [], 0xFF06 ∷ 0xA005 ∷ 7 ∷ [])
 unfolding opened
 refused-cpu = refl

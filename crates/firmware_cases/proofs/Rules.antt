@@ -5,19 +5,19 @@ use mathlib.Core.Bool.{Bool, true, false}
 use mathlib.Core.List.{List, [], _∷_}
 use native.Mathlib.Omega.{arith}
 use lib.ListN.{getD, length, drop}
-use Rattle.memory.specs.declared.Loaded.the-variants.{Byte}
-use Rattle.memory.specs.declared.Place.the-variants.{Register, Ram, Rom, Unmapped}
-use Rattle.memory.specs.Memory.{place}
-use Rattle.instruction.specs.Program.{Access, readAt, writeAt}
-use Rattle.machine.specs.Machine.{Machine}
-use Rattle.machine.specs.Run.{runs, firmware}
-use Rattle.firmware_isolation.specs.Trace.{turnAccesses}
-use Rattle.firmware_rules.specs.History.{Given, listed, clocked, history, cyclesCounted}
-use Rattle.firmware_rules.specs.Numbers.{madeBy}
-use Rattle.firmware_rules.specs.Parts.{renumbered}
-use Rattle.firmware_rules.specs.Refusals.{turnNumber, refusedPast}
-use Rattle.firmware_rules.proofs.Refusals.{run-refused-at}
-use Rattle.firmware_cases.specs.Firmware.{cpu, ram, startedChip, startedMachine, requestingMachine, workingMachine, stackMachine, indexMachine, over31Machine, over32Cpu, event, times, polling, pollingRom, restingRom}
+use Rattle.cpu_memory.specs.declared.Loaded.the-variants.{Byte}
+use Rattle.cpu_memory.specs.declared.Place.the-variants.{Register, Ram, Rom, Unmapped}
+use Rattle.cpu_memory.specs.Memory.{place}
+use Rattle.cpu_instruction.specs.Program.{Access, readAt, writeAt}
+use Rattle.firmware_machine.specs.Run.{runs, firmware}
+use Rattle.firmware_isolation_laws.specs.Trace.{turnAccesses}
+use Rattle.firmware_laws.specs.History.{Given, listed, clocked, history, cyclesCounted}
+use Rattle.firmware_laws.specs.Numbers.{madeBy}
+use Rattle.firmware_laws.specs.Parts.{renumbered}
+use Rattle.firmware_laws.specs.Refusals.{turnNumber, refusedPast}
+use Rattle.firmware_laws.proofs.Refusals.{run-refused-at}
+use Rattle.firmware_cases.specs.Firmware.{cpu, ram, startedChip, startedMachine, requestingMachine, workingMachine, stackMachine, indexMachine, over31Machine, over32Cpu, event, polling, pollingRom, restingRom}
+use Rattle.firmware_cases.specs.Rules.{numberOfRun, stopping, threeEvents, interruptedRun, watched, clockedRun, late}
 use Rattle.firmware_cases.proofs.Opened.{opened}
 use Rattle.firmware_cases.proofs.Holds.{rom-length}
 
@@ -26,9 +26,6 @@ pub map-edges : place 0x0000 ∷ place 0x0025 ∷ place 0x0026 ∷ place 0x007F 
     ≡ Register 0 ∷ Register 0x25 ∷ Unmapped ∷ Unmapped ∷ Ram 0 ∷ Ram 255 ∷ Ram 0 ∷ Ram 127 ∷ Unmapped ∷ Unmapped ∷ Rom 0 ∷ Rom 24575 ∷ []
 unfolding place
 map-edges = refl
-
-abbrev numberOfRun : List ℕ → ℕ
-numberOfRun rom = runs 1 0 rom [] startedMachine .number
 
 -- an opcode that is not documented; LDA 02, which is write-only; STA 10, read-only; STA A000, ROM; LDA 0300, not mapped; STA 0300
 pub refusals : numberOfRun (0x02 ∷ []) ∷ numberOfRun (0xA5 ∷ 0x02 ∷ []) ∷ numberOfRun (0x85 ∷ 0x10 ∷ []) ∷ numberOfRun (0x8D ∷ 0x00 ∷ 0xA0 ∷ []) ∷ numberOfRun (0xAD ∷ 0x00 ∷ 0x03 ∷ []) ∷ numberOfRun (0x8D ∷ 0x00 ∷ 0x03 ∷ []) ∷ []
@@ -112,12 +109,6 @@ unfolding opened
 refused-not-counted = refl
 
 -- the same with a listed write before each of three instructions: those before the refused one, number 1, are given, and longer runs stop there
-abbrev stopping : List ℕ
-stopping = 0x85 ∷ 0x80 ∷ 0x85 ∷ 0x0E ∷ []
-
-abbrev threeEvents : List ℕ
-threeEvents = event 0 0x02001200 ∷ event 1 0x02001200 ∷ event 2 0x02001200 ∷ []
-
 pub longer-stops : runs 9 0 stopping threeEvents startedMachine ≡ refusedPast 1 0 stopping threeEvents startedMachine
 unfolding opened turnNumber
 longer-stops = run-refused-at 1 9 0 stopping threeEvents startedMachine (omega arith) refl refl
@@ -129,9 +120,6 @@ stops-there = refl
 
 -- an interrupt with D and C set: PC A000 and P with bit 5 are pushed, I is set and D kept, seven cycles; then the opcode at 0000, FFH by the
 -- vector of this ROM, is refused, and the interrupt stays
-abbrev interruptedRun : Machine
-interruptedRun = runs 1 0 [] [] requestingMachine .machine
-
 pub interrupt-taken : _≡_ {A = List ℕ} (runs 1 0 [] [] requestingMachine .number ∷ getD (interruptedRun .ram) 127 0 ∷ getD (interruptedRun .ram) 126 0 ∷ getD (interruptedRun .ram) 125 0 ∷ interruptedRun .cpu .s ∷ interruptedRun .cpu .pc ∷ interruptedRun .cpu .over ∷ [])
     (20 ∷ 0xA0 ∷ 0x00 ∷ 0x29 ∷ 0xFC ∷ 0 ∷ 7 ∷ [])
 unfolding opened
@@ -154,12 +142,6 @@ reset-low = refl
 
 -- 64 watchdog clocks reset the chip, which takes back its request: I is set, PC comes from FFFC, all else of the CPU is kept, at no cycles; then
 -- the NOP at B234
-abbrev watched : ℕ → List ℕ
-watched n = times n (event 0 0x04000300)
-
-abbrev clockedRun : ℕ → Machine
-clockedRun n = runs 1 0 restingRom (watched n) workingMachine .machine
-
 pub watchdog-restarts : _≡_ {A = List ℕ × (Bool × Bool × Bool × Bool × Bool × Bool)} (
   runs 1 0 restingRom (watched 64) workingMachine .number ∷ clockedRun 64 .cpu .a ∷ clockedRun 64 .cpu .x ∷ clockedRun 64 .cpu .y ∷ clockedRun 64 .cpu .s
       ∷ clockedRun 64 .cpu .pc ∷ clockedRun 64 .cpu .over ∷ drop 62 (runs 1 0 restingRom (watched 64) workingMachine .answers),
@@ -175,9 +157,6 @@ unfolding opened restingRom
 watchdog-waits = refl
 
 -- a late event holds back the one behind it: none of the two is given before instruction 5, both are before it
-abbrev late : List ℕ
-late = event 5 0x01001000 ∷ event 3 0x01000F00 ∷ []
-
 pub late-event : _≡_ {A = ℕ × ℕ} (length (runs 5 0 polling late startedMachine .answers), length (runs 6 0 polling late startedMachine .answers)) (0, 2)
 unfolding opened
 late-event = refl

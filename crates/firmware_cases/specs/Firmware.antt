@@ -6,10 +6,10 @@ use lib.ListN.{replicate}
 use Rattle.events.specs.Word.{decode}
 use Rattle.chip.specs.declared.Chip.{Chip}
 use Rattle.chip.specs.State.{fresh, chipOf, withReset}
-use Rattle.outcome.specs.Outcome.{next}
-use Rattle.operations.specs.declared.Cpu.{Cpu}
-use Rattle.operations.specs.Operations.{flags}
-use Rattle.machine.specs.Machine.{Machine, machine}
+use Rattle.chip_events.specs.Outcome.{next}
+use Rattle.cpu_operations.specs.declared.Cpu.{Cpu}
+use Rattle.cpu_operations.specs.Operations.{flags}
+use Rattle.firmware_machine.specs.Machine.{Machine, machine}
 
 -- the CPU at A000 with I set
 abbrev pub cpu : Cpu

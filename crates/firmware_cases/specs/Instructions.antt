@@ -4,12 +4,12 @@ use mathlib.Core.List.{List, [], _∷_, _++_}
 use lib.Dec.{eqb}
 use lib.ListN.{replicate, getD}
 use Rattle.bits.specs.Byte.{num}
-use Rattle.arithmetic.specs.declared.Flags.{Flags}
-use Rattle.operations.specs.declared.Cpu.{Cpu}
-use Rattle.operations.specs.Operations.{flags}
+use Rattle.cpu_arithmetic.specs.declared.Flags.{Flags}
+use Rattle.cpu_operations.specs.declared.Cpu.{Cpu}
+use Rattle.cpu_operations.specs.Operations.{flags}
 use Rattle.chip.specs.State.{fresh}
-use Rattle.machine.specs.Machine.{Machine, machine}
-use Rattle.machine.specs.Run.{Ended, runs}
+use Rattle.firmware_machine.specs.Machine.{Machine, machine}
+use Rattle.firmware_machine.specs.Run.{Ended, runs}
 
 -- ---- CPU and RAM from few numbers
 

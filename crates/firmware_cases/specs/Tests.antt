@@ -2,10 +2,10 @@
 use Prim.Native.Nat.{ℕ}
 use mathlib.Core.Bool.{Bool}
 use mathlib.Core.List.{List}
-use Rattle.isolation.specs.Foreign.{Trace, Observer, observerOf}
-use Rattle.machine.specs.Machine.{Machine}
-use Rattle.firmware_isolation.specs.Trace.{Entry, trace}
-use Rattle.firmware_isolation.specs.Transfers.{alikeEvents, within, throughout, mayHappen, mayBeListed, equalThroughout, leavesData}
+use Rattle.isolation_laws.specs.Foreign.{Trace, Observer, observerOf}
+use Rattle.firmware_machine.specs.Machine.{Machine}
+use Rattle.firmware_isolation_laws.specs.Trace.{Entry, trace}
+use Rattle.firmware_isolation_laws.specs.Transfers.{alikeEvents, within, throughout, mayHappen, mayBeListed, equalThroughout, leavesData}
 
 abbrev pub Tested : Type 0
 Tested = Bool × Bool × Bool × Bool × Bool

@@ -2,10 +2,10 @@
 // standard error. No contract can say what is read.
 ghost use mathlib.Core.Path.{_≡_};
 ghost use lib.ListN.{length};
-use event_lines::Meaning;
-use event_lines::Reader;
-use event_list::Checked;
-use event_list::Found;
+use firmware_event_lines::Meaning;
+use firmware_event_lines::Reader;
+use firmware_event_list::Checked;
+use firmware_event_list::Found;
 use libc::STDERR_FILENO;
 use vcd_text::Number;
 
@@ -144,7 +144,7 @@ fn check_block(start: Checked, fd: i32) -> Turn {
     let mut block = io::large_buffer();
     let filled = input::fill(fd, &mut block);
     let n = filled.count;
-    let checked = event_list::check(start, &block[..n]);
+    let checked = firmware_event_list::check(start, &block[..n]);
     Turn {
         checked,
         more: (n == 65536) & !checked.malformed,
@@ -155,7 +155,7 @@ fn check_block(start: Checked, fd: i32) -> Turn {
 // Every line; the end of the file ends its last line.
 fn check_lines(fd: i32) -> Turn {
     let mut turn = Turn {
-        checked: event_list::opened(),
+        checked: firmware_event_list::opened(),
         more: true,
         failed: false,
     };
@@ -183,7 +183,7 @@ fn check_list(fd: i32, name: &[u8]) -> bool {
         return false;
     }
     let checked = turn.checked;
-    if !event_list::is_well_formed(checked) {
+    if !firmware_event_list::is_well_formed(checked) {
         tell(name);
         tell(b":");
         io::print_decimal(STDERR_FILENO, checked.line);
@@ -244,9 +244,9 @@ fn refilled(fd: i32, block: &mut [u8; 65536], place: Place) -> Place {
 // The next event among the first n bytes of a block, or in all of it.
 fn next_event(reader: Reader, block: &[u8], n: usize, at: usize) -> Found {
     if n < block.len() {
-        return event_list::next_event(reader, &block[..n], at);
+        return firmware_event_list::next_event(reader, &block[..n], at);
     }
-    event_list::next_event(reader, block, at)
+    firmware_event_list::next_event(reader, block, at)
 }
 
 // Reads on up to the next event or the end of a block. Behind a failed read stands a malformed line; the end of the file ends its last line.
@@ -274,7 +274,7 @@ pub fn find(fd: i32, block: &mut [u8; 65536], start: Place) -> Finding {
             ended: true,
         };
     }
-    let found = event_list::next_event(reader, b"\n", 0);
+    let found = firmware_event_list::next_event(reader, b"\n", 0);
     let meaning = found.meaning;
     Finding {
         meaning,

@@ -3,8 +3,8 @@
 use Prim.Native.Nat.{ℕ, _≤_}
 use mathlib.Core.Bool.{Bool, false}
 use native.Mathlib.Omega.{arith}
-use Rattle.arithmetic.specs.declared.Flags.{Flags}
-use Rattle.operations.specs.Operations.{pushedP}
+use Rattle.cpu_arithmetic.specs.declared.Flags.{Flags}
+use Rattle.cpu_operations.specs.Operations.{pushedP}
 
 pub pushed-32 : (f : Flags) → 32 ≤ pushedP f false
 unfolding pushedP

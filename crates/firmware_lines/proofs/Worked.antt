@@ -1,24 +1,13 @@
 -- Lines of a run, computed. Their text is written by hand from images/README.md.
 -- Assumes nothing.
-use Prim.Native.Nat.{ℕ}
-use Prim.Native.Char.{code}
-use Prim.Native.String.{String, [] as empty, _∷_ as _then_}
-use mathlib.Core.Bool.{true, false}
+use mathlib.Core.Bool.{false}
 use mathlib.Core.Path.{_≡_, refl}
-use mathlib.Core.List.{List, [], _∷_}
 use Rattle.hex.specs.Hex.{hexLine}
-use Rattle.arithmetic.specs.declared.Flags.{Flags}
-use Rattle.operations.specs.declared.Cpu.{Cpu}
-use Rattle.operations.specs.Operations.{pushedP}
+use Rattle.cpu_arithmetic.specs.declared.Flags.{Flags}
+use Rattle.cpu_operations.specs.declared.Cpu.{Cpu}
+use Rattle.cpu_operations.specs.Operations.{pushedP}
 use Rattle.firmware_lines.specs.Lines.{registerLine, instructionText, idleText, eventText}
-
-unfoldable pub codes : String → List ℕ
-codes empty = []
-codes (c then s) = code c ∷ codes s
-
--- all flags, and none
-abbrev pub all : Flags
-all = record { n = true; v = true; d = true; i = true; z = true; c = true }
+use Rattle.firmware_lines.specs.Worked.{codes, all}
 
 abbrev pub none : Flags
 none = record { n = false; v = false; d = false; i = false; z = false; c = false }

@@ -4,9 +4,9 @@ use mathlib.Core.Bool.{false}
 use mathlib.Core.List.{List, [], _∷_, _++_}
 use lib.ListN.{take}
 use Rattle.hex.specs.Hex.{hexDigit, hexLine}
-use Rattle.arithmetic.specs.declared.Flags.{Flags}
-use Rattle.operations.specs.declared.Cpu.{Cpu}
-use Rattle.operations.specs.Operations.{pushedP}
+use Rattle.cpu_arithmetic.specs.declared.Flags.{Flags}
+use Rattle.cpu_operations.specs.declared.Cpu.{Cpu}
+use Rattle.cpu_operations.specs.Operations.{pushedP}
 
 -- P as it would be pushed by an interrupt, without bit 5; bit 4, B, is then 0
 abbrev pub shownP : Flags → ℕ

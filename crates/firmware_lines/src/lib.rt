@@ -3,8 +3,8 @@ ghost use mathlib.Core.Path.{_≡_};
 ghost use Prim.Native.Nat.{_/_, _%_};
 ghost use Rattle.hex.specs.Hex.{hexDigit};
 ghost use Rattle.firmware_lines.specs.Lines.{shownP, registerLine, instructionText, idleText, eventText};
-use arithmetic::Flags;
-use operations::Cpu;
+use cpu_arithmetic::Flags;
+use cpu_operations::Cpu;
 
 fn high_digit(n: u8) -> u8
     ensures { λ r. ⌜ r ≡ hexDigit (n / 16) ⌝ }
@@ -24,11 +24,10 @@ fn low_digit(n: u8) -> u8
 fn shown_p(f: Flags) -> u8
     ensures { λ r. ⌜ r ≡ shownP f ⌝ }
 {
-    operations::pushed_p(f, false) - 32
+    cpu_operations::pushed_p(f, false) - 32
 }
 
 // The registers: `A=.. X=.. Y=.. S=.. P=.. PC=.... over=..` and a newline.
-// Wrong answers: X shown for Y; the cycles over shown for S.
 pub fn register_line(c: Cpu) -> [u8; 41]
     ensures { λ r. ⌜ r ≡ registerLine c ⌝ }
 {
@@ -82,7 +81,6 @@ pub fn register_line(c: Cpu) -> [u8; 41]
 }
 
 // Where an instruction lay, and its opcode: ` PPPP OO `.
-// Wrong answers: the low digit of the opcode twice; its high digit twice.
 pub fn instruction_text(pc: u16, opcode: u8) -> [u8; 9]
     ensures { λ r. ⌜ r ≡ instructionText pc opcode ⌝ }
 {
@@ -102,7 +100,6 @@ pub fn instruction_text(pc: u16, opcode: u8) -> [u8; 9]
 }
 
 // The same while RESET is low, and no opcode is read: ` PPPP -- `.
-// Wrong answers: PC with a digit of its low byte first; with one of its high byte last.
 pub fn idle_text(pc: u16) -> [u8; 9]
     ensures { λ r. ⌜ r ≡ idleText pc ⌝ }
 {
@@ -122,7 +119,6 @@ pub fn idle_text(pc: u16) -> [u8; 9]
 }
 
 // An event and its answer, each in eight digits: ` event WWWWWWWW AAAAAAAA` and a newline.
-// Wrong answers: the answer's first digit for the word's; the word's last digit for the answer's.
 pub fn event_text(word: u32, answer: u32) -> [u8; 25]
     ensures { λ r. ⌜ r ≡ eventText word answer ⌝ }
 {

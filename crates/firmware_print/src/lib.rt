@@ -5,11 +5,11 @@ ghost use mathlib.Core.Bool.{false};
 ghost use Prim.Native.Nat.{_≤_};
 ghost use Rattle.firmware_trace.specs.Trace.{goesOn};
 ghost use Rattle.firmware_print.specs.Marked.{marked};
+use cpu_memory::Loaded;
+use cpu_operations::Cpu;
 use firmware_trace::Fetched;
 use firmware_trace::Run;
 use libc::STDOUT_FILENO;
-use memory::Loaded;
-use operations::Cpu;
 
 // What is asked of a run: how many instructions, and whether a trace.
 pub struct Asked {
@@ -171,7 +171,6 @@ fn finish(run: Run) -> Run
 
 // The instructions before an item of a list; then an event is given where another instruction follows, and at the end the last line is printed.
 // Where no instruction may follow, as behind a refused one, nothing is done, and only whether all is printed can change.
-// Wrong answers: instructions past those asked for; instructions behind a refused one.
 pub fn take(run: Run, ram: &mut [u8; 256], rom: &[u8], asked: Asked, item: Item) -> Run
     ensures { λ r. ⌜ (goesOn (run .number) (run .printed) (run .next) (asked .count) ≡ false → (r ≡ marked run (r .printed)) × (now (ram .exit) ≡ now (ram .entry))) ⌝ }
 {

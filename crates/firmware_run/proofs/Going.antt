@@ -14,21 +14,22 @@ use Rattle.events.specs.Word.{decode}
 use Rattle.chip.specs.declared.Core.{Core}
 use Rattle.chip.specs.declared.Chip.{Chip}
 use Rattle.chip.specs.State.{chipOf}
-use Rattle.outcome.specs.Outcome.{next}
+use Rattle.chip_events.specs.Outcome.{next}
 use Rattle.step.specs.Step.{answered}
-use Rattle.operations.specs.declared.Cpu.{Cpu}
-use Rattle.machine.specs.Machine.{Machine, machine, Turned, turn}
-use Rattle.machine.specs.Seen.{Knows}
-use Rattle.machine.specs.Run.{numberOf, wordOf, occurred, afterEvents, answersBefore, left, Ended, ended, prepended, onTurned, runs, Called, called}
-use Rattle.machine.proofs.Turns.{Later, none, next-at, onEnded, split, runs-next}
-use Rattle.firmware_run.specs.declared.FirmwareResult.{FirmwareResult}
+use Rattle.cpu_operations.specs.declared.Cpu.{Cpu}
+use Rattle.firmware_machine.specs.Machine.{Machine, machine, Turned, turn}
+use Rattle.firmware_machine.specs.Seen.{Knows}
+use Rattle.firmware_machine.specs.Run.{numberOf, wordOf, occurred, afterEvents, answersBefore, left, Ended, ended, prepended, onTurned, runs, Called, called}
+use Rattle.firmware_machine.specs.Turns.{Later, none, next-at, onEnded}
+use Rattle.firmware_machine.proofs.Turns.{split, runs-next}
 use Rattle.firmware_run.specs.declared.Occurred.{Occurred}
-use Rattle.instruction_run.specs.declared.Settled.{Settled}
-use Rattle.instruction_run.specs.Instructions.{settledEnd}
-use Rattle.register_cache.specs.Cache.{seenAfterEvent, noneSeen}
+use Rattle.cpu_run.specs.declared.Settled.{Settled}
+use Rattle.cpu_run.specs.Instructions.{settledEnd}
+use Rattle.cpu_register_cache.specs.Cache.{seenAfterEvent, noneSeen}
 use Rattle.firmware_run.specs.Firmware.{resultOf, occurredWith, until}
-use Rattle.register_cache.proofs.Registers.{knows-none}
-use Rattle.register_cache.proofs.Lines.{knows-event, event-length}
+use Rattle.firmware_run.specs.Outcome.{outcome}
+use Rattle.cpu_register_cache.proofs.Registers.{knows-none}
+use Rattle.cpu_register_cache.proofs.Lines.{knows-event, event-length}
 
 -- ---- the next event
 
@@ -203,9 +204,6 @@ first n rom es places c ram registers core seen e =
       knows = rw e (knows-none (chipOf registers core));
       size = rw e refl;
     }
-
-abbrev pub outcome : ℕ → Cpu → Chip → ℕ → ℕ → FirmwareResult
-outcome x c k i given = record { number = x; cpu = c; chip = k; counted = i; given = given }
 
 module _ (es places : List ℕ) (whole : Ended) (answers : List ℕ) (given : ℕ) (room : length es ≤ length places) (listed : given ≤ length es)
     (same : length answers ≡ length places) (rest : drop given answers ≡ drop given places) where

@@ -9,13 +9,13 @@ use Rattle.events.specs.Word.{decode, noEvent, noPlace, badByte, event}
 use Rattle.events.specs.declared.Decoded.the-variants.{Pin}
 use Rattle.chip.specs.declared.Core.{Core}
 use Rattle.chip.specs.State.{chipOf}
-use Rattle.outcome.specs.Outcome.{next, wasReset}
+use Rattle.chip_events.specs.Outcome.{next, wasReset}
 use Rattle.step.specs.declared.CoreStepped.{CoreStepped}
 use Rattle.step.specs.Step.{advance, coreOf}
-use Rattle.operations.specs.declared.Cpu.{Cpu}
-use Rattle.instruction.specs.Instruction.{resetCpu}
+use Rattle.cpu_operations.specs.declared.Cpu.{Cpu}
+use Rattle.cpu_instruction.specs.Instruction.{resetCpu}
 use Rattle.firmware_run.specs.declared.Occurred.{Occurred}
-use Rattle.register_cache.specs.Cache.{seenAfterEvent}
+use Rattle.cpu_register_cache.specs.Cache.{seenAfterEvent}
 use Rattle.firmware_run.specs.Firmware.{occurredWith}
 
 abbrev pub occurredAs : Cpu → Core → ℕ → Occurred

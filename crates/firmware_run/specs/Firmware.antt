@@ -5,11 +5,11 @@ use lib.Dec.{ltb}
 use Rattle.bits.specs.Byte.{pick}
 use Rattle.events.specs.Word.{decode}
 use Rattle.chip.specs.declared.Chip.{Chip}
-use Rattle.outcome.specs.Outcome.{next, wasReset}
+use Rattle.chip_events.specs.Outcome.{next, wasReset}
 use Rattle.step.specs.Step.{answered}
-use Rattle.operations.specs.declared.Cpu.{Cpu}
-use Rattle.instruction.specs.Instruction.{resetCpu}
-use Rattle.machine.specs.Run.{numberOf, Called}
+use Rattle.cpu_operations.specs.declared.Cpu.{Cpu}
+use Rattle.cpu_instruction.specs.Instruction.{resetCpu}
+use Rattle.firmware_machine.specs.Run.{numberOf, Called}
 use Rattle.firmware_run.specs.declared.FirmwareResult.{FirmwareResult}
 use Rattle.firmware_run.specs.declared.Occurred.{Occurred}
 

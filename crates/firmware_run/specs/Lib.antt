@@ -1,1 +1,2 @@
 pub mod Firmware
+pub mod Outcome

@@ -4,19 +4,19 @@ ghost use Prim.Native.Nat.{_≤_};
 ghost use lib.ListN.{length, drop, getD, set};
 ghost use Rattle.events.specs.Word.{decode};
 ghost use Rattle.chip.specs.State.{chipOf};
-ghost use Rattle.outcome.specs.Outcome.{next as nextOf, wasReset};
-ghost use Rattle.machine.specs.Machine.{machine};
-ghost use Rattle.machine.specs.Run.{wordOf, called, runs, isWellFormed, firmware as firmwareOf};
-ghost use Rattle.register_cache.specs.Cache.{seenAfterEvent};
+ghost use Rattle.chip_events.specs.Outcome.{next as nextOf, wasReset};
+ghost use Rattle.firmware_machine.specs.Machine.{machine};
+ghost use Rattle.firmware_machine.specs.Run.{wordOf, called, runs, isWellFormed, firmware as firmwareOf};
+ghost use Rattle.cpu_register_cache.specs.Cache.{seenAfterEvent};
 ghost use Rattle.firmware_run.specs.Firmware.{resultOf, refusedResult, occurredWith, until as untilOf};
 use chip::Chip;
 use chip::Core;
+use cpu_operations::Cpu;
+use cpu_register_cache::NONE_SEEN;
 use events::Decoded;
 use events::RESET;
 use events::SCL;
 use events::WATCHDOG;
-use operations::Cpu;
-use register_cache::NONE_SEEN;
 
 // What a firmware call gives back: 0 or the number of the refusal, CPU and chip, how many instructions were counted, and how many of the
 // listed events were given.
@@ -53,7 +53,6 @@ fn decoded(word: u32) -> Decoded
 }
 
 // Whether an event resets the chip: RESET that falls, or the watchdog's time that is up. The registers are lent for the contract alone.
-// Wrong answers: RESET that is high and given high; an 8 µs clock with the watchdog's time up.
 pub fn was_reset(registers: &[u8; 38], c: Core, event: Decoded) -> bool
     ensures { λ r. ⌜ r ≡ wasReset (chipOf (now (registers .entry)) c) event ⌝ }
 {
@@ -118,12 +117,12 @@ fn occur(
 {
     let event = decoded(word);
     let reset = was_reset(registers, core, event);
-    register_cache::forget_by(seen, event);
+    cpu_register_cache::forget_by(seen, event);
     let done = step::advance_core(registers, core, event);
     let after = done.core;
     if reset {
         Occurred {
-            cpu: instruction::reset(cpu, rom),
+            cpu: cpu_instruction::reset(cpu, rom),
             core: after,
             answer: done.answer,
         }
@@ -153,7 +152,7 @@ fn run_all(
         × (now (answers .exit) ≡ called (runs instructions 0 (now (rom .entry)) (now (events .entry)) (machine cpu (now (ram .entry)) chip)) (now (answers .entry)) .answers)
         × (now (ram .exit) ≡ called (runs instructions 0 (now (rom .entry)) (now (events .entry)) (machine cpu (now (ram .entry)) chip)) (now (answers .entry)) .ram) ⌝ }
 {
-    let table = opcodes::table();
+    let table = cpu_opcodes::table();
     let mut seen = NONE_SEEN;
     let mut registers = chip.registers;
     let mut core = chip.core;
@@ -176,17 +175,7 @@ fn run_all(
             c = o.cpu;
             given += 1;
         } else {
-            let s = instruction_run::proceed(
-                &table,
-                &mut registers,
-                ram,
-                rom,
-                core,
-                c,
-                i,
-                to,
-                &mut seen,
-            );
+            let s = cpu_run::proceed(&table, &mut registers, ram, rom, core, c, i, to, &mut seen);
             core = s.core;
             c = s.cpu;
             i = s.number;
@@ -232,7 +221,7 @@ fn is_well_formed(cpu: Cpu, chip: Chip) -> bool
     ensures { λ r. ⌜ r ≡ isWellFormed cpu chip ⌝ }
 {
     if cpu.over < 32 {
-        well_formed::well_formed(chip)
+        chip_well_formed::well_formed(chip)
     } else {
         false
     }
@@ -240,7 +229,6 @@ fn is_well_formed(cpu: Cpu, chip: Chip) -> bool
 
 // The firmware call: `instructions` instructions from the CPU, with the events of the list between them. Where it is refused before anything
 // runs, all that is lent is left as it was.
-// Wrong answers: a ROM of 24,575 bytes asked for; every answer put in the first place.
 pub fn run(
     cpu: Cpu,
     ram: &mut [u8; 256],

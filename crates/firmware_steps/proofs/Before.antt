@@ -9,15 +9,15 @@ use lib.ListN.{set}
 use Rattle.bits.specs.Byte.{pick}
 use Rattle.chip.specs.declared.Chip.{Chip}
 use Rattle.chip.specs.State.{requests}
-use Rattle.operations.specs.declared.Cpu.{Cpu}
-use Rattle.operations.specs.Operations.{isClear, pushedP}
-use Rattle.memory.specs.Memory.{stackPlace, below}
-use Rattle.instruction.specs.declared.Effect.{Effect}
-use Rattle.instruction.specs.Instruction.{interrupted}
-use Rattle.execution.specs.Execution.{stored}
-use Rattle.instruction_turn.specs.InstructionTurn.{cyclesWith, counted, isInterrupted}
-use Rattle.machine.specs.Machine.{Machine, machine, clockAfter, isRequesting, interruptTaken, afterInterrupt, turn}
-use Rattle.machine.proofs.Interrupts.{interrupt-is, interrupt-turn}
+use Rattle.cpu_operations.specs.declared.Cpu.{Cpu}
+use Rattle.cpu_operations.specs.Operations.{isClear, pushedP}
+use Rattle.cpu_memory.specs.Memory.{stackPlace, below}
+use Rattle.cpu_instruction.specs.declared.Effect.{Effect}
+use Rattle.cpu_instruction.specs.Instruction.{interrupted}
+use Rattle.cpu_execution.specs.Execution.{stored}
+use Rattle.cpu_step.specs.InstructionTurn.{cyclesWith, counted, isInterrupted}
+use Rattle.firmware_machine.specs.Machine.{Machine, machine, clockAfter, isRequesting, interruptTaken, afterInterrupt, turn}
+use Rattle.firmware_machine.proofs.Interrupts.{interrupt-is, interrupt-turn}
 use Rattle.firmware_steps.specs.Steps.{isDue, beforeInstruction, interruptedWith, interruptedBy}
 
 -- ---- when it is due

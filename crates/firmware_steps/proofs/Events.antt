@@ -8,13 +8,13 @@ use Rattle.bits.specs.Byte.{pick}
 use Rattle.events.specs.declared.Decoded.{Decoded}
 use Rattle.events.specs.Word.{decode}
 use Rattle.chip.specs.declared.Chip.{Chip}
-use Rattle.outcome.specs.Outcome.{wasReset}
+use Rattle.chip_events.specs.Outcome.{wasReset}
 use Rattle.step.specs.declared.Stepped.{Stepped}
 use Rattle.step.specs.Step.{advance, answered}
-use Rattle.operations.specs.declared.Cpu.{Cpu}
-use Rattle.instruction.specs.Instruction.{resetCpu}
-use Rattle.machine.specs.Machine.{Machine, machine}
-use Rattle.machine.specs.Run.{occurred}
+use Rattle.cpu_operations.specs.declared.Cpu.{Cpu}
+use Rattle.cpu_instruction.specs.Instruction.{resetCpu}
+use Rattle.firmware_machine.specs.Machine.{Machine, machine}
+use Rattle.firmware_machine.specs.Run.{occurred}
 use Rattle.firmware_steps.specs.Steps.{givenWith, givenBy}
 
 pub gives : (b : Bool) (rom : List ℕ) (c : Cpu) (k : Chip) (w : ℕ) (e : Decoded) → e ≡ decode w → (t : Bool) → t ≡ wasReset k e → t ≡ b

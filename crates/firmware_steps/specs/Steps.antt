@@ -7,13 +7,13 @@ use Rattle.bits.specs.Byte.{pick}
 use Rattle.events.specs.Word.{decode}
 use Rattle.chip.specs.declared.Chip.{Chip}
 use Rattle.chip.specs.State.{requests}
-use Rattle.outcome.specs.Outcome.{wasReset}
+use Rattle.chip_events.specs.Outcome.{wasReset}
 use Rattle.step.specs.declared.Stepped.{Stepped}
 use Rattle.step.specs.Step.{advance}
-use Rattle.arithmetic.specs.declared.Flags.{Flags}
-use Rattle.operations.specs.declared.Cpu.{Cpu}
-use Rattle.instruction.specs.Instruction.{resetCpu}
-use Rattle.machine.specs.Machine.{Machine, machine, afterInterrupt}
+use Rattle.cpu_arithmetic.specs.declared.Flags.{Flags}
+use Rattle.cpu_operations.specs.declared.Cpu.{Cpu}
+use Rattle.cpu_instruction.specs.Instruction.{resetCpu}
+use Rattle.firmware_machine.specs.Machine.{Machine, machine, afterInterrupt}
 use Rattle.firmware_steps.specs.declared.Given.{Given}
 use Rattle.firmware_steps.specs.declared.Interrupted.{Interrupted}
 

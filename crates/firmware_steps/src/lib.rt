@@ -3,21 +3,21 @@
 ghost use mathlib.Core.Path.{_≡_};
 ghost use mathlib.Core.List.{[]};
 ghost use lib.ListN.{set};
-ghost use Rattle.reads.specs.Reads.{reading};
-ghost use Rattle.memory.specs.Memory.{stackPlace};
-ghost use Rattle.machine.specs.Machine.{machine, registerRead, load as loadOf, clockAfter};
-ghost use Rattle.machine.specs.Run.{firmware as firmwareOf};
+ghost use Rattle.chip_reads.specs.Reads.{reading};
+ghost use Rattle.cpu_memory.specs.Memory.{stackPlace};
+ghost use Rattle.firmware_machine.specs.Machine.{machine, registerRead, load as loadOf, clockAfter};
+ghost use Rattle.firmware_machine.specs.Run.{firmware as firmwareOf};
 ghost use Rattle.firmware_run.specs.Firmware.{resultOf};
 ghost use Rattle.firmware_steps.specs.Steps.{powerUp, givenBy, isDue, interruptedBy, beforeInstruction};
-use arithmetic::Flags;
 use chip::Chip;
+use chip_reads::Reading;
+use cpu_arithmetic::Flags;
+use cpu_memory::Loaded;
+use cpu_memory::Place;
+use cpu_operations::Cpu;
 use events::Decoded;
 use events::PERIOD;
 use firmware_run::FirmwareResult;
-use memory::Loaded;
-use memory::Place;
-use operations::Cpu;
-use reads::Reading;
 
 // CPU and chip after an event, and its answer.
 pub struct Given {
@@ -34,7 +34,6 @@ pub struct Interrupted {
 }
 
 // The CPU after power up: A, X, Y and cycles over 0, S FF, I alone set, PC from FFFC.
-// Wrong answers: S 0; A FF.
 pub fn power_up(rom: &[u8]) -> Cpu
     ensures { λ r. ⌜ r ≡ powerUp (now (rom .entry)) ⌝ }
 {
@@ -55,13 +54,12 @@ pub fn power_up(rom: &[u8]) -> Cpu
         pc: 0,
         over: 0,
     };
-    instruction::reset(cpu, rom)
+    cpu_instruction::reset(cpu, rom)
 }
 
 // ---- events
 
 // A word given to the chip; where it resets the chip, the CPU is reset too.
-// Wrong answers: the CPU reset by all but what resets the chip; an 8 µs clock given for each word.
 pub fn give(cpu: Cpu, chip: Chip, rom: &[u8], word: u32) -> Given
     ensures { λ r. ⌜ r ≡ givenBy (now (rom .entry)) cpu chip word ⌝ }
 {
@@ -72,7 +70,7 @@ pub fn give(cpu: Cpu, chip: Chip, rom: &[u8], word: u32) -> Given
     let after = stepped.chip;
     if firmware_run::was_reset(&registers, core, event) {
         Given {
-            cpu: instruction::reset(cpu, rom),
+            cpu: cpu_instruction::reset(cpu, rom),
             chip: after,
             answer: stepped.answer,
         }
@@ -106,7 +104,7 @@ fn is_due(cpu: Cpu, chip: Chip) -> bool
 fn push(ram: &mut [u8; 256], s: u8, b: u8)
     ensures { λ r. ⌜ now (ram .exit) ≡ set (now (ram .entry)) (stackPlace s) b ⌝ }
 {
-    let i = memory::stack_place(s);
+    let i = cpu_memory::stack_place(s);
     ram[i] = b;
 }
 
@@ -124,24 +122,23 @@ fn clocked_after(n: u16, chip: Chip) -> Chip
 }
 
 // What comes before an instruction: the interrupt, at RESET high, I clear and a request.
-// Wrong answers: an interrupt taken with I set; the low byte of PC pushed first.
 pub fn interrupt(cpu: Cpu, chip: Chip, ram: &mut [u8; 256], rom: &[u8]) -> Interrupted
     ensures { λ r. ⌜ (r ≡ interruptedBy (now (rom .entry)) (now (ram .entry)) cpu chip) × (now (ram .exit) ≡ beforeInstruction (now (rom .entry)) (machine cpu (now (ram .entry)) chip) .ram) ⌝ }
 {
     if is_due(cpu, chip) {
         let flags = cpu.p;
         push(ram, cpu.s, (cpu.pc / 256) as u8);
-        push(ram, memory::below(cpu.s), (cpu.pc % 256) as u8);
+        push(ram, cpu_memory::below(cpu.s), (cpu.pc % 256) as u8);
         push(
             ram,
-            memory::below(memory::below(cpu.s)),
-            operations::pushed_p(flags, false),
+            cpu_memory::below(cpu_memory::below(cpu.s)),
+            cpu_operations::pushed_p(flags, false),
         );
-        let effect = instruction::interrupt(cpu, rom);
+        let effect = cpu_instruction::interrupt(cpu, rom);
         let entered = effect.cpu;
         let n = (entered.over as u16) + (effect.cycles as u16);
         Interrupted {
-            cpu: operations::set_over((n % 32) as u8, entered),
+            cpu: cpu_operations::set_over((n % 32) as u8, entered),
             chip: clocked_after(n, chip),
             taken: true,
         }
@@ -171,26 +168,24 @@ fn register_at(chip: Chip, r: u8) -> Loaded
 {
     let registers = chip.registers;
     let core = chip.core;
-    register_read(reads::read_register(&registers, core, r))
+    register_read(chip_reads::read_register(&registers, core, r))
 }
 
 // A read of the CPU at an address, as that of an opcode.
-// Wrong answers: 20 where nothing is mapped; the byte of a register that refuses the read.
 pub fn load(ram: &[u8; 256], rom: &[u8], chip: Chip, a: u16) -> Loaded
     ensures { λ r. ⌜ r ≡ loadOf (now (ram .entry)) chip (now (rom .entry)) a ⌝ }
 {
-    let p = memory::place_of(a);
+    let p = cpu_memory::place_of(a);
     match p {
         Place::Register(r) => register_at(chip, r as u8),
         Place::Ram(i) => Loaded::Byte(ram[i]),
-        Place::Rom(i) => Loaded::Byte(memory::rom_byte(rom, i)),
+        Place::Rom(i) => Loaded::Byte(cpu_memory::rom_byte(rom, i)),
         Place::Unmapped => Loaded::Refused(21),
     }
 }
 
 // Instructions with no event between: a firmware call with an empty list. RAM is copied in and out: in an array of its own the loop of
 // instructions reaches it without a pointer.
-// Wrong answers: no instruction; one, whatever is asked.
 pub fn run_on(
     cpu: Cpu,
     chip: Chip,

@@ -3,8 +3,8 @@
 use Prim.Native.Nat.{ℕ, _+_, _%_, _^_}
 use mathlib.Core.Path.{_≡_, ap, ap₂, _∙_}
 use mathlib.Core.List.{List}
-use Rattle.memory.specs.declared.Loaded.{Loaded}
-use Rattle.machine.specs.Machine.{machine, load}
+use Rattle.cpu_memory.specs.declared.Loaded.{Loaded}
+use Rattle.firmware_machine.specs.Machine.{machine, load}
 use Rattle.firmware_run.specs.declared.FirmwareResult.{FirmwareResult}
 use Rattle.firmware_steps.specs.declared.Given.{Given}
 use Rattle.firmware_steps.specs.declared.Interrupted.{Interrupted}

@@ -5,9 +5,9 @@ use mathlib.Core.List.{List, []}
 use lib.Dec.{eqb, ltb}
 use Rattle.chip.specs.declared.Chip.{Chip}
 use Rattle.chip.specs.State.{fresh}
-use Rattle.operations.specs.declared.Cpu.{Cpu}
-use Rattle.machine.specs.Machine.{Machine, machine, load}
-use Rattle.machine.specs.Run.{firmware}
+use Rattle.cpu_operations.specs.declared.Cpu.{Cpu}
+use Rattle.firmware_machine.specs.Machine.{Machine, machine, load}
+use Rattle.firmware_machine.specs.Run.{firmware}
 use Rattle.firmware_run.specs.declared.FirmwareResult.{FirmwareResult}
 use Rattle.firmware_run.specs.Firmware.{resultOf}
 use Rattle.firmware_steps.specs.declared.Given.{Given}

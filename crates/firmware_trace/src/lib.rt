@@ -2,11 +2,11 @@
 // (document 02, Wish 5).
 ghost use mathlib.Core.Path.{_≡_};
 ghost use mathlib.Core.List.{[]};
-ghost use Rattle.machine.specs.Run.{firmware as firmwareOf};
+ghost use Rattle.firmware_machine.specs.Run.{firmware as firmwareOf};
 ghost use Rattle.firmware_trace.specs.Trace.{poweredUp, goesOn, ranOn, givenTo, fetched};
 use chip::Chip;
-use memory::Loaded;
-use operations::Cpu;
+use cpu_memory::Loaded;
+use cpu_operations::Cpu;
 
 // CPU and chip, the number of the next instruction, 0 or the number of a refusal, how many events were given, the answer of the last one, and
 // whether all was printed, which is for the caller to say.
@@ -29,7 +29,6 @@ pub struct Fetched {
 }
 
 // A run after power up: nothing is done yet.
-// Wrong answers: a first instruction of number 1; one event given.
 pub fn power_up(rom: &[u8]) -> Run
     ensures { λ r. ⌜ r ≡ poweredUp (now (rom .entry)) ⌝ }
 {
@@ -45,7 +44,6 @@ pub fn power_up(rom: &[u8]) -> Run
 }
 
 // Another instruction may follow: none was refused, all is printed, and fewer than `count` are done.
-// Wrong answers: an instruction behind a refused one; one more than `count`.
 pub fn goes_on(number: u8, printed: bool, next: u32, count: u32) -> bool
     ensures { λ r. ⌜ r ≡ goesOn number printed next count ⌝ }
 {
@@ -53,7 +51,6 @@ pub fn goes_on(number: u8, printed: bool, next: u32, count: u32) -> bool
 }
 
 // Instructions with no event between; those done are counted.
-// Wrong answers: the instructions before not counted; a refusal not told.
 pub fn run_on(run: Run, ram: &mut [u8; 256], rom: &[u8], instructions: u32) -> Run
     ensures { λ r. ⌜ (r ≡ ranOn (now (rom .entry)) (now (ram .entry)) run instructions) × (now (ram .exit) ≡ firmwareOf (run .cpu) (now (ram .entry)) (now (rom .entry)) (run .chip) [] [] instructions .ram) ⌝ }
 {
@@ -74,7 +71,6 @@ pub fn run_on(run: Run, ram: &mut [u8; 256], rom: &[u8], instructions: u32) -> R
 }
 
 // A word given to the chip; it is counted, and its answer kept.
-// Wrong answers: the event not counted; the answer of the event before.
 pub fn give(run: Run, rom: &[u8], word: u32) -> Run
     ensures { λ r. ⌜ r ≡ givenTo (now (rom .entry)) run word ⌝ }
 {
@@ -95,7 +91,6 @@ pub fn give(run: Run, rom: &[u8], word: u32) -> Run
 }
 
 // What a trace shows before the next instruction is done. The interrupt is taken over a copy of RAM.
-// Wrong answers: RESET told low where no interrupt is taken; the opcode at the place that the interrupt leaves.
 pub fn fetch(run: Run, ram: &[u8; 256], rom: &[u8]) -> Fetched
     ensures { λ r. ⌜ r ≡ fetched (now (rom .entry)) (now (ram .entry)) run ⌝ }
 {

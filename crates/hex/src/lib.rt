@@ -12,7 +12,6 @@ fn hex_digit(n: u32) -> u8
 }
 
 // Eight hex digits and a newline.
-// Wrong answers: lower-case letters; no newline.
 pub fn hex_line(a: u32) -> [u8; 9]
     ensures { λ r. ⌜ r ≡ hexLine a ⌝ }
 {

@@ -8,7 +8,6 @@ pub struct Filled {
 }
 
 // Reads until the buffer is full, the input ends or a read fails. A read that a signal interrupts counts as failed.
-// Wrong answers: a byte more than was read; a byte counted that was not read.
 pub fn fill(fd: i32, buf: &mut [u8]) -> Filled
     ensures { λ r. ⌜ Counts (r .count) (now (buf .exit)) ⌝ }
 {

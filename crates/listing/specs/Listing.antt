@@ -9,13 +9,13 @@ use Rattle.events.specs.Word.{decode}
 use Rattle.chip.specs.State.{fresh}
 use Rattle.step.specs.declared.Stepped.{Stepped}
 use Rattle.step.specs.Step.{advance}
-use Rattle.entries.specs.declared.Reader.{Reader}
-use Rattle.entries.specs.declared.Found.{Found}
-use Rattle.entries.specs.declared.Found.the-variants.{Within, Refused, Entry}
+use Rattle.listing_lines.specs.declared.Reader.{Reader}
+use Rattle.listing_lines.specs.declared.Found.{Found}
+use Rattle.listing_lines.specs.declared.Found.the-variants.{Within, Refused, Entry}
 use Rattle.listing.specs.declared.Verdict.{Verdict}
 use Rattle.listing.specs.declared.Verdict.the-variants.{Agrees, Malformed, Differs, Empty}
 use Rattle.listing.specs.declared.Progress.{Progress}
-use Rattle.entries.specs.Line.{lineStart, next}
+use Rattle.listing_lines.specs.Line.{lineStart, next}
 
 -- one more; the largest number of 64 bits stands
 unfoldable pub oneMore : ℕ → ℕ

@@ -2,8 +2,8 @@
 ghost use mathlib.Core.Path.{_≡_};
 ghost use Rattle.listing.specs.Listing.{oneMore, opened as openedOf, stopped as stoppedOf, given as givenOf, givenAt, repeated as repeatedOf, nextLine, lineEnd, within as withinOf, entered as enteredOf, taken as takenOf, byteRead, read as readOf, concluded as concludedOf, closed as closedOf};
 use chip::Chip;
-use entries::Found;
-use entries::Reader;
+use listing_lines::Found;
+use listing_lines::Reader;
 
 // What is known of a listing so far. A difference has the word, the expected answer and the one given; a listing that has ended
 // without a word is empty.
@@ -30,13 +30,12 @@ fn one_more(n: u64) -> u64
 }
 
 // Before the first byte of a listing.
-// Wrong answers: a chip that is not fresh; the first line counted as 0.
 pub fn opened() -> Progress
     ensures { λ p. ⌜ p ≡ openedOf ⌝ }
 {
     Progress {
         chip: chip::fresh(),
-        reader: entries::line_start(),
+        reader: listing_lines::line_start(),
         line: 1,
         words: 0,
         verdict: Verdict::Agrees,
@@ -110,7 +109,7 @@ fn next_line(p: Progress) -> Progress
     let verdict = p.verdict;
     Progress {
         chip: chip,
-        reader: entries::line_start(),
+        reader: listing_lines::line_start(),
         line: one_more(p.line),
         words: p.words,
         verdict: verdict,
@@ -170,7 +169,7 @@ fn next_byte(p: Progress, b: u8) -> Progress
     ensures { λ n. ⌜ n ≡ byteRead Verdict.Agrees p b ⌝ }
 {
     let reader = p.reader;
-    taken(p, b, entries::next(reader, b))
+    taken(p, b, listing_lines::next(reader, b))
 }
 
 fn byte_read(verdict: Verdict, p: Progress, b: u8) -> Progress
@@ -185,7 +184,6 @@ fn byte_read(verdict: Verdict, p: Progress, b: u8) -> Progress
 }
 
 // A part of a listing's text.
-// Wrong answers: a malformed line passed over; words given after a difference.
 pub fn read(start: Progress, text: &[u8]) -> Progress
     ensures { λ r. ⌜ r ≡ readOf start (now (text .entry)) ⌝ }
 {
@@ -218,7 +216,6 @@ fn concluded(verdict: Verdict, p: Progress) -> Progress
 }
 
 // The end of the text, which ends its last line.
-// Wrong answers: a last line without its newline lost; a complete listing called malformed; an empty one that agrees.
 pub fn closed(p: Progress) -> Progress
     ensures { λ r. ⌜ r ≡ closedOf p ⌝ }
 {

@@ -6,7 +6,7 @@ use native.Mathlib.Omega.{arith}
 use Rattle.sync6862.specs.declared.Counters.{Counters}
 use Rattle.sync6862.specs.declared.Call.the-variants.{Clock}
 use Rattle.sync6862.specs.Unit.{answer}
-use Rattle.counting6862.specs.Counting.{run, clocks}
+use Rattle.sync6862_laws.specs.Counting.{run, clocks}
 
 pub one-more : (left : ℕ) (s : Counters) → 0 < left → run (answer s Clock .state) (clocks (left - 1)) ≡ run s (clocks left)
 unfolding run

@@ -13,7 +13,7 @@ use Rattle.sync6862.specs.declared.Call.the-variants.{Hsynci, Vsynci, Enhsel, H
 use Rattle.sync6862.specs.declared.Start.{Start}
 use Rattle.sync6862.specs.declared.Start.the-variants.{Made, NoSuchChip}
 use Rattle.sync6862.specs.Unit.{chipNumber, wellFormed, answer, fresh, freshNumber, numberOf}
-use Rattle.counting6862.specs.Counting.{run, clocks}
+use Rattle.sync6862_laws.specs.Counting.{run, clocks}
 use Rattle.rates.specs.declared.Rate.{Rate}
 use Rattle.rates.specs.declared.Rate.the-variants as rate
 use Rattle.rates6862.specs.Report.{fieldReport}

@@ -1,10 +1,12 @@
 // The counters of either chip as twelve numbers, and calls by number on them.
 ghost use mathlib.Core.Path.{_≡_};
 ghost use Rattle.sync6862.specs.Unit.{chipNumber};
-ghost use Rattle.counting6862.specs.Counting.{run, clocks as clocksOf};
+ghost use Rattle.sync6862_laws.specs.Counting.{run, clocks as clocksOf};
 ghost use Rattle.bits.specs.Byte.{num};
 ghost use Rattle.numbers6862.specs.Numbers.{enhselNumber, numbersOf, bitsFit, partOf, stateOf, offeredAs, read as readOf, withBit, alone as aloneOf, enhselAsked, asked as askedOf, refused as refusedOf, leftAs, madeOf, obeyed as obeyedOf, given as givenOf, givenTo, call as callOf, fieldOffered, field as fieldOf};
 use rates::Rate;
+use sync::LatchedLines;
+use sync::LatchedPeriods;
 use sync::LineCounter;
 use sync::Lines;
 use sync::PeriodCounter;
@@ -65,7 +67,6 @@ fn enhsel_number(part: Part) -> u16
 }
 
 // A state as twelve numbers.
-// Wrong answers: the interval in the place of the H latch; ENHSEL of the NT6861 written as 1.
 pub fn written(s: Counters) -> [u16; 12]
     ensures { λ r. ⌜ r ≡ numbersOf s ⌝ }
 {
@@ -124,12 +125,12 @@ fn state_of(part: Part, n: [u16; 12]) -> Counters
         sync: Sync {
             lines: LineCounter {
                 count: Lines(n[3]),
-                latch: Lines(n[7]),
+                latch: LatchedLines(n[7]),
                 overflow: n[4] == 1,
             },
             periods: PeriodCounter {
                 count: Periods(n[5]),
-                latch: Periods(n[8]),
+                latch: LatchedPeriods(n[8]),
                 overflow: n[6] == 1,
             },
             interval: n[9],
@@ -148,7 +149,6 @@ fn offered_as(s: Counters) -> Offered
 }
 
 // The well formed state that the numbers are, if they are one.
-// Wrong answers: a level of 2 taken; ENHSEL 1 taken on the NT6861.
 pub fn read(n: [u16; 12]) -> Offered
     ensures { λ r. ⌜ r ≡ readOf n ⌝ }
 {
@@ -281,7 +281,6 @@ fn given_to(state: Offered, n: [u16; 12], code: u32, value: u32) -> Called
 
 // Call 0 makes a fresh state for the chip of that number, or answers 23; each other call is given to the state that the numbers are,
 // or answers 8. A refusal moves nothing.
-// Wrong answers: 0 for a fresh state of no chip; none given of the clocks asked for.
 pub fn call(n: [u16; 12], code: u32, value: u32) -> Called
     ensures { λ r. ⌜ r ≡ callOf n code value ⌝ }
 {
@@ -302,7 +301,6 @@ fn field_of(state: Offered) -> Rate
 }
 
 // The report on the field rate of the state that the numbers are.
-// Wrong answers: numbers that are no state told as an overflow; those of the NT6861 with ENHSEL 1 reported on.
 pub fn field(n: [u16; 12]) -> Rate
     ensures { λ r. ⌜ r ≡ fieldOf n ⌝ }
 {

@@ -13,7 +13,7 @@ use borrow.Author.Tests.{ltb-true, ltb-false, lt-ltb, le-ltb, ne-eqb}
 use Rattle.bits.specs.Byte.{pick, num}
 use Rattle.bits.proofs.Mask.{num-lt}
 use Rattle.bus.specs.Bus.{isOwn}
-use Rattle.ddc2b.specs.Ddc2b.{compared}
+use Rattle.bus_ddc2b.specs.Ddc2b.{compared}
 use Rattle.plain_bus.specs.Plain.{sdaBefore, startAt, risesSince, levelsAt, byteOf, Found, found, addressAt, endsAt, addressesFrom, addresses}
 use Rattle.plain_bus.specs.Reading.{transferOf, transferAt, hasAddress, endsBy, wordOf}
 use Rattle.plain_bus.specs.declared.Transfer.{Transfer}

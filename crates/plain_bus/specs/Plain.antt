@@ -9,7 +9,7 @@ use Rattle.bits.specs.Byte.{pick, num}
 use Rattle.events.specs.Pins.{SDA, SCL}
 use Rattle.bus.specs.declared.Comparison.{Comparison}
 use Rattle.bus.specs.Bus.{isOwn}
-use Rattle.ddc2b.specs.Ddc2b.{compared}
+use Rattle.bus_ddc2b.specs.Ddc2b.{compared}
 
 -- ---- a change
 

@@ -1,5 +1,6 @@
 -- The call: what it gives back, and what it leaves in the places lent to it (document 02, Wish 11).
 use Prim.Native.Nat.{ℕ, _+_, _*_, _%_}
+use mathlib.Core.Path.{_≡_}
 use mathlib.Core.Bool.{Bool, _&&_, _||_}
 use mathlib.Core.List.{List, [], _∷_, _++_, map}
 use lib.Dec.{eqb, ltb}
@@ -11,7 +12,7 @@ use Rattle.bus.specs.declared.OwnAddress.the-variants.{A0, IiAdr, Both}
 use Rattle.bus.specs.declared.Comparison.{Comparison}
 use Rattle.bus.specs.declared.Comparison.the-variants.{None, Own}
 use Rattle.bus.specs.Bus.{isOwn}
-use Rattle.ddc2b.specs.Ddc2b.{compared}
+use Rattle.bus_ddc2b.specs.Ddc2b.{compared}
 use Rattle.plain_bus.specs.Plain.{lineOf, levelOf, risesSince, levelsAt, byteOf, sdaBefore, riseAt, startAt, Found, addresses}
 use Rattle.plain_bus.specs.declared.Fault.{Fault}
 use Rattle.plain_bus.specs.declared.Fault.the-variants.{NoFault, OtherLine, OtherLevel}
@@ -55,6 +56,17 @@ readingBy OtherLevel room count = BadLevel
 
 unfoldable pub reading : ℕ → List ℕ → List ℕ → Reading
 reading own cs places = readingBy (firstFault cs) (length places) (length (addresses own cs))
+
+-- the number of a list of changes: that of its first bad change, next 7 where there are fewer places than addresses
+abbrev pub numberBy : Fault → Bool → ℕ
+numberBy NoFault short = pick short 7 0
+numberBy OtherLine short = 2
+numberBy OtherLevel short = 3
+
+-- the number and the values of an answer
+pub record ReadingCase (own : ℕ) (cs places : List ℕ) (r : Reading) : Type 0 where
+  pub number : numberOf r ≡ numberBy (firstFault cs) (ltb (length places) (length (addresses own cs)))
+  pub values : numberOf r ≡ 0 → r ≡ Listed (length (addresses own cs))
 
 -- the number of each outcome
 abbrev pub ownNumber : OwnAddress → ℕ

@@ -6,7 +6,7 @@ ghost use mathlib.Core.List.{map, _++_};
 ghost use lib.ListN.{length, drop, set};
 ghost use Rattle.bits.specs.Byte.{pick, num};
 ghost use Rattle.plain_bus.specs.Plain.{levelBefore, riseAt, startAt, stopAt, risesSince, levelsAt, found, addresses};
-ghost use Rattle.plain_bus.specs.Reading.{levelFault, faultOf, firstFault, numberOf, readingBy, reading, ownNumber, outcomeNumber, wordOf, written, placesLeft, transferOf, transferAt, risenOf, takenAt, hasAddress, endsBy};
+ghost use Rattle.plain_bus.specs.Reading.{levelFault, faultOf, firstFault, numberOf, readingBy, reading, ownNumber, outcomeNumber, wordOf, written, placesLeft, transferOf, transferAt, risenOf, takenAt, hasAddress, endsBy, ReadingCase};
 ghost use Rattle.bus.specs.Bus.{isOwn};
 ghost use Rattle.plain_bus.specs.declared.Fault.{Fault};
 use bus::Comparison;
@@ -202,7 +202,7 @@ fn ends(own: u8, t: Transfer) -> bool
 {
     if t.rises == 9 {
         let byte = t.byte;
-        return is_own(ddc2b::compared(own, byte));
+        return is_own(bus_ddc2b::compared(own, byte));
     }
     false
 }
@@ -235,7 +235,7 @@ fn count(own: u8, changes: &[u16]) -> usize
 fn word(own: u8, byte: u8) -> u16
     ensures { λ r. ⌜ r ≡ wordOf (found own byte) ⌝ }
 {
-    byte as u16 * 256 + outcome_number(ddc2b::compared(own, byte)) as u16
+    byte as u16 * 256 + outcome_number(bus_ddc2b::compared(own, byte)) as u16
 }
 
 // The address of a transfer that has eight rises, to this place.
@@ -313,7 +313,6 @@ fn first_fault(changes: &[u16]) -> Fault
 }
 
 // The number of an answer: 0, 2, 3 or 7.
-// Wrong answers: 3 for another line; 0 where the places are too few.
 pub fn number(r: Reading) -> u8
     ensures { λ n. ⌜ n ≡ numberOf r ⌝ }
 {
@@ -337,9 +336,8 @@ fn listed(own: u8, changes: &[u16], places: &mut [u16]) -> Reading
 }
 
 // The reading: each address with its outcome to the start of the places, up to the stop; or a refusal, and nothing written.
-// Wrong answers: the eighth rise of a matched address taken for the stop; a list refused only up to its stop.
 pub fn read(own: u8, changes: &[u16], places: &mut [u16]) -> Reading
-    ensures { λ r. ⌜ (r ≡ reading own (now (changes .entry)) (now (places .entry))) × (now (places .exit) ≡ placesLeft own (now (changes .entry)) (now (places .entry))) ⌝ }
+    ensures { λ r. ⌜ (r ≡ reading own (now (changes .entry)) (now (places .entry))) × (now (places .exit) ≡ placesLeft own (now (changes .entry)) (now (places .entry))) × ReadingCase own (now (changes .entry)) (now (places .entry)) r ⌝ }
 {
     match first_fault(changes) {
         Fault::NoFault => listed(own, changes, places),

@@ -10,7 +10,7 @@ use Rattle.bits.proofs.Finite.{neither}
 use Rattle.sync.specs.Sync.{wellSync}
 use Rattle.sync.specs.declared.Sync.{Sync}
 use Rattle.sync.proofs.WellFormed.{fits}
-use Rattle.rates.specs.Report.{told, byPeriods, byInterval, byField, fieldReport, lineReport, FieldCase, LineCase}
+use Rattle.rates.specs.Report.{told, byPeriods, byInterval, byField, rateNumber, fieldReport, lineReport, FieldValues, FieldCase, LineValues, LineCase}
 use Rattle.rates.specs.declared.Rate.{Rate}
 use Rattle.rates.specs.declared.Rate.the-variants.{IllFormed, NothingLatched, Overflow}
 use Rattle.rates.proofs.Hertz.{field-between, interval-exact}
@@ -36,52 +36,53 @@ told-case Says false false rate over none good = good refl refl
 
 -- ---- the field report
 
-field-told : (s : Sync) → wellSync s ≡ true → FieldCase s (byPeriods (s .periods))
-unfolding FieldCase byPeriods
+field-told : (s : Sync) → wellSync s ≡ true → FieldValues s (byPeriods (s .periods))
+unfolding FieldValues byPeriods
 field-told s w =
-    told-case (FieldCase s) _ _ _ (λ e. (w, e)) (λ o k. (w, o, k))
+    told-case (FieldValues s) _ _ _ (λ e. (w, e)) (λ o k. (w, o, k))
     (λ o k.
     let least = positive _ k in
     let most = fits s w .periods .latch in
     ((w, o, k), refl, field-between _ (s .periods .latch) least (omega arith)))
 
-field-by : (s : Sync) (formed : Bool) → wellSync s ≡ formed → FieldCase s (pick formed (byPeriods (s .periods)) IllFormed)
-unfolding FieldCase
+field-by : (s : Sync) (formed : Bool) → wellSync s ≡ formed → FieldValues s (pick formed (byPeriods (s .periods)) IllFormed)
+unfolding FieldValues
 field-by s true e = field-told s e
 field-by s false e = e
 
-pub field-case : (s : Sync) → FieldCase s (fieldReport s)
+pub field-case : (s : Sync) → FieldValues s (fieldReport s)
 unfolding fieldReport
 field-case s = field-by s (wellSync s) refl
 
 -- ---- the line report
 
-interval-told : (s : Sync) → wellSync s ≡ true → LineCase s false (byInterval (s .lines))
-unfolding LineCase byInterval
+interval-told : (s : Sync) → wellSync s ≡ true → LineValues s false (byInterval (s .lines))
+unfolding LineValues byInterval
 interval-told s w =
     let overflow = or-false (s .lines .overflow) in
     let unlatched = or-false (eqb (s .lines .latch .0) 0) in
-    told-case (LineCase s false) (s .lines .overflow) (eqb (s .lines .latch .0) 0) _ (λ e. (w, overflow ∙ e)) (λ o k. (w, overflow ∙ o, unlatched ∙ k))
+    told-case (LineValues s false) (s .lines .overflow) (eqb (s .lines .latch .0) 0) _ (λ e. (w, overflow ∙ e)) (λ o k. (w, overflow ∙ o, unlatched ∙ k))
     (λ o k. ((w, overflow ∙ o, unlatched ∙ k), interval-exact (s .lines .latch) (fits s w .lines .latch)))
 
-line-told : (s : Sync) → wellSync s ≡ true → LineCase s true (byField (s .lines) (s .periods))
-unfolding LineCase byField
-line-told s w = told-case (LineCase s true) _ _ _ (λ e. (w, e)) (λ o k. (w, o, k)) (λ o k. ((w, o, k), refl))
+line-told : (s : Sync) → wellSync s ≡ true → LineValues s true (byField (s .lines) (s .periods))
+unfolding LineValues byField
+line-told s w = told-case (LineValues s true) _ _ _ (λ e. (w, e)) (λ o k. (w, o, k)) (λ o k. ((w, o, k), refl))
 
-line-by : (s : Sync) (hsel formed : Bool) → wellSync s ≡ formed → LineCase s hsel (pick formed (pick hsel (byField (s .lines) (s .periods)) (byInterval (s .lines))) IllFormed)
-unfolding LineCase
+line-by : (s : Sync) (hsel formed : Bool) → wellSync s ≡ formed → LineValues s hsel (pick formed (pick hsel (byField (s .lines) (s .periods)) (byInterval (s .lines))) IllFormed)
+unfolding LineValues
 line-by s true true e = line-told s e
 line-by s false true e = interval-told s e
 line-by s hsel false e = e
 
-pub line-case : (s : Sync) (hsel : Bool) → LineCase s hsel (lineReport s hsel)
+pub line-case : (s : Sync) (hsel : Bool) → LineValues s hsel (lineReport s hsel)
 unfolding lineReport
 line-case s hsel = line-by s hsel (wellSync s) refl
 
--- ---- a rate that is the report, with what its case says
+-- ---- a rate that is the report, with its number and what its case says
 
-pub field-says : (s : Sync) (r : Rate) → r ≡ fieldReport s → (r ≡ fieldReport s) × FieldCase s r
-field-says s r e = (e, rw e (field-case s))
+pub field-says : (s : Sync) (r : Rate) → r ≡ fieldReport s → rateNumber r ≡ pick (wellSync s) 0 8 → (r ≡ fieldReport s) × FieldCase s r
+field-says s r e n = (e, record { number = n; values = rw e (field-case s) })
 
-pub line-says : (s : Sync) (hsel : Bool) (r : Rate) → r ≡ lineReport s hsel → (r ≡ lineReport s hsel) × LineCase s hsel r
-line-says s hsel r e = (e, rw e (line-case s hsel))
+pub line-says : (s : Sync) (hsel : Bool) (r : Rate) → r ≡ lineReport s hsel → rateNumber r ≡ pick (wellSync s) 0 8
+    → (r ≡ lineReport s hsel) × LineCase s hsel r
+line-says s hsel r e n = (e, record { number = n; values = rw e (line-case s hsel) })

@@ -5,13 +5,13 @@ use native.Mathlib.Omega.{arith}
 use lib.Dec.{lit<}
 use lib.Ieee.{binary64, round, ofInt}
 use lib.Ieee.Order.{round-mono}
-use Rattle.sync.specs.declared.Lines.{Lines}
-use Rattle.sync.specs.declared.Periods.{Periods}
+use Rattle.sync.specs.declared.LatchedLines.{LatchedLines}
+use Rattle.sync.specs.declared.LatchedPeriods.{LatchedPeriods}
 use Rattle.rates.specs.Hertz.{Exactly, Between, fieldHz, intervalHz}
 use Rattle.rates.proofs.Quotient.{dyadic-exact}
 
 -- rounding keeps the order: the field rate is at least any whole number that 125,000 by the latch reaches, and at most 125,000
-pub field-between : (low : ℕ) (v : Periods) → 1 ≤ v .0 → low * v .0 ≤ 125000 → Between low 125000 (fieldHz v)
+pub field-between : (low : ℕ) (v : LatchedPeriods) → 1 ≤ v .0 → low * v .0 ≤ 125000 → Between low 125000 (fieldHz v)
 unfolding ofInt
 field-between low v least most = (
   round-mono binary64 low 1 125000 (v .0) (lit< tt) least (omega arith),
@@ -19,7 +19,7 @@ field-between low v least most = (
 )
 
 -- the line rate at HSEL 0 loses nothing
-pub interval-exact : (h : Lines) → h .0 < 4096 → Exactly (intervalHz h) (h .0 * 15625) 128
+pub interval-exact : (h : LatchedLines) → h .0 < 4096 → Exactly (intervalHz h) (h .0 * 15625) 128
 interval-exact h most = dyadic-exact (h .0 * 15625) 7 1067 refl (omega arith)
 
 -- a VCNT latch of 2000 is 62.5 Hz

@@ -5,8 +5,8 @@ use lib.Dec.{T}
 use lib.IntN.{pos}
 use lib.Ieee.{Float, binary64, round, ofInt, le}
 use lib.Ieee.Exact.{HasValue}
-use Rattle.sync.specs.declared.Lines.{Lines}
-use Rattle.sync.specs.declared.Periods.{Periods}
+use Rattle.sync.specs.declared.LatchedLines.{LatchedLines}
+use Rattle.sync.specs.declared.LatchedPeriods.{LatchedPeriods}
 
 -- the double nearest to a / b, ties to even: one rounding
 abbrev pub quotient : ℕ → ℕ → Float
@@ -21,13 +21,13 @@ abbrev pub Between : ℕ → ℕ → Float → Type 0
 Between low high x = T (le (ofInt binary64 (pos low)) x) × T (le x (ofInt binary64 (pos high)))
 
 -- the field rate: periods in a second by periods in a field
-abbrev pub fieldHz : Periods → Float
+abbrev pub fieldHz : LatchedPeriods → Float
 fieldHz v = quotient 125000 (v .0)
 
 -- the line rate at HSEL 0: lines in 8.192 ms, by that time
-abbrev pub intervalHz : Lines → Float
+abbrev pub intervalHz : LatchedLines → Float
 intervalHz h = quotient (h .0 * 15625) 128
 
 -- the line rate at HSEL 1: lines in a field times 125,000, by periods in that field
-abbrev pub lineHz : Lines → Periods → Float
+abbrev pub lineHz : LatchedLines → LatchedPeriods → Float
 lineHz h v = quotient (h .0 * 125000) (v .0)

@@ -43,8 +43,21 @@ rateNumber Overflow = 0
 rateNumber (FieldRate x) = 0
 rateNumber (LineRate x) = 0
 
--- ---- what the cases say: each what it is told for, and that nothing told before it holds
+-- ---- what the cases say: each what it is told for, and that nothing told before it holds; and the number that it is told with
 
+-- of the field rate from VCNT, which is told of every counter
+unfoldable pub PeriodsValues : PeriodCounter → Rate → Type 0
+PeriodsValues v IllFormed = ⊥
+PeriodsValues v Overflow = v .overflow ≡ true
+PeriodsValues v NothingLatched = (v .overflow ≡ false) × (eqb (v .latch .0) 0 ≡ true)
+PeriodsValues v (FieldRate x) = (v .overflow ≡ false) × (eqb (v .latch .0) 0 ≡ false) × (x ≡ fieldHz (v .latch))
+PeriodsValues v (LineRate x) = ⊥
+
+pub record PeriodsCase (v : PeriodCounter) (r : Rate) : Type 0 where
+  pub number : rateNumber r ≡ 0
+  pub values : PeriodsValues v r
+
+-- of a report on a state of the counters
 abbrev pub SaysOverflow : Sync → Bool → Type 0
 SaysOverflow s overflow = (wellSync s ≡ true) × (overflow ≡ true)
 
@@ -55,12 +68,16 @@ abbrev pub SaysRate : Sync → Bool → Bool → Type 0
 SaysRate s overflow unlatched = (wellSync s ≡ true) × (overflow ≡ false) × (unlatched ≡ false)
 
 -- of a field report
-unfoldable pub FieldCase : Sync → Rate → Type 0
-FieldCase s IllFormed = wellSync s ≡ false
-FieldCase s Overflow = SaysOverflow s (s .periods .overflow)
-FieldCase s NothingLatched = SaysNothingLatched s (s .periods .overflow) (eqb (s .periods .latch .0) 0)
-FieldCase s (FieldRate x) = SaysRate s (s .periods .overflow) (eqb (s .periods .latch .0) 0) × (x ≡ fieldHz (s .periods .latch)) × Between 30 125000 x
-FieldCase s (LineRate x) = ⊥
+unfoldable pub FieldValues : Sync → Rate → Type 0
+FieldValues s IllFormed = wellSync s ≡ false
+FieldValues s Overflow = SaysOverflow s (s .periods .overflow)
+FieldValues s NothingLatched = SaysNothingLatched s (s .periods .overflow) (eqb (s .periods .latch .0) 0)
+FieldValues s (FieldRate x) = SaysRate s (s .periods .overflow) (eqb (s .periods .latch .0) 0) × (x ≡ fieldHz (s .periods .latch)) × Between 30 125000 x
+FieldValues s (LineRate x) = ⊥
+
+pub record FieldCase (s : Sync) (r : Rate) : Type 0 where
+  pub number : rateNumber r ≡ pick (wellSync s) 0 8
+  pub values : FieldValues s r
 
 -- the overflow bits and the latches that a line report needs: those of VCNT at HSEL 1 only
 abbrev pub lineOverflow : Sync → Bool → Bool
@@ -70,10 +87,14 @@ abbrev pub lineUnlatched : Sync → Bool → Bool
 lineUnlatched s hsel = eqb (s .lines .latch .0) 0 || pick hsel (eqb (s .periods .latch .0) 0) false
 
 -- of a line report
-unfoldable pub LineCase : Sync → Bool → Rate → Type 0
-LineCase s hsel IllFormed = wellSync s ≡ false
-LineCase s hsel Overflow = SaysOverflow s (lineOverflow s hsel)
-LineCase s hsel NothingLatched = SaysNothingLatched s (lineOverflow s hsel) (lineUnlatched s hsel)
-LineCase s true (LineRate x) = SaysRate s (lineOverflow s true) (lineUnlatched s true) × (x ≡ lineHz (s .lines .latch) (s .periods .latch))
-LineCase s false (LineRate x) = SaysRate s (lineOverflow s false) (lineUnlatched s false) × Exactly x (s .lines .latch .0 * 15625) 128
-LineCase s hsel (FieldRate x) = ⊥
+unfoldable pub LineValues : Sync → Bool → Rate → Type 0
+LineValues s hsel IllFormed = wellSync s ≡ false
+LineValues s hsel Overflow = SaysOverflow s (lineOverflow s hsel)
+LineValues s hsel NothingLatched = SaysNothingLatched s (lineOverflow s hsel) (lineUnlatched s hsel)
+LineValues s true (LineRate x) = SaysRate s (lineOverflow s true) (lineUnlatched s true) × (x ≡ lineHz (s .lines .latch) (s .periods .latch))
+LineValues s false (LineRate x) = SaysRate s (lineOverflow s false) (lineUnlatched s false) × Exactly x (s .lines .latch .0 * 15625) 128
+LineValues s hsel (FieldRate x) = ⊥
+
+pub record LineCase (s : Sync) (hsel : Bool) (r : Rate) : Type 0 where
+  pub number : rateNumber r ≡ pick (wellSync s) 0 8
+  pub values : LineValues s hsel r

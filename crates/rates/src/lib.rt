@@ -2,11 +2,11 @@
 ghost use mathlib.Core.Path.{_≡_};
 ghost use Prim.Native.Nat.{_≤_, _<_, _*_};
 ghost use Rattle.rates.specs.Hertz.{Exactly, fieldHz, intervalHz, lineHz};
-ghost use Rattle.rates.specs.Report.{byPeriods, byInterval, byField, fieldReport, lineReport, FieldCase, LineCase};
+ghost use Rattle.rates.specs.Report.{rateNumber, byPeriods, byInterval, byField, fieldReport, lineReport, PeriodsCase, FieldCase, LineCase};
+use sync::LatchedLines;
+use sync::LatchedPeriods;
 use sync::LineCounter;
-use sync::Lines;
 use sync::PeriodCounter;
-use sync::Periods;
 use sync::Sync;
 
 pub enum Rate {
@@ -18,7 +18,7 @@ pub enum Rate {
 }
 
 // The field rate of a VCNT latch: one division, so one rounding.
-fn field_hz(v: Periods) -> f64
+fn field_hz(v: LatchedPeriods) -> f64
     requires { ⌜ 1 ≤ v .0 ⌝ }
     ensures { λ r. ⌜ r ≡ fieldHz v ⌝ }
 {
@@ -26,7 +26,7 @@ fn field_hz(v: Periods) -> f64
 }
 
 // The HCNT latch times 15625/128, exactly.
-fn interval_hz(h: Lines) -> f64
+fn interval_hz(h: LatchedLines) -> f64
     requires { ⌜ (1 ≤ h .0) × (h .0 < 4096) ⌝ }
     ensures { λ r. ⌜ r ≡ intervalHz h ⌝ }
 {
@@ -34,7 +34,7 @@ fn interval_hz(h: Lines) -> f64
 }
 
 // The HCNT latch times 125,000, exactly.
-fn lines_product(h: Lines) -> f64
+fn lines_product(h: LatchedLines) -> f64
     requires { ⌜ (1 ≤ h .0) × (h .0 < 4096) ⌝ }
     ensures { λ r. ⌜ Exactly r (h .0 * 125000) 1 ⌝ }
 {
@@ -42,7 +42,7 @@ fn lines_product(h: Lines) -> f64
 }
 
 // That product divided once by the VCNT latch.
-fn line_hz(h: Lines, v: Periods) -> f64
+fn line_hz(h: LatchedLines, v: LatchedPeriods) -> f64
     requires { ⌜ (1 ≤ h .0) × (h .0 < 4096) × (1 ≤ v .0) × (v .0 < 4096) ⌝ }
     ensures { λ r. ⌜ r ≡ lineHz h v ⌝ }
 {
@@ -50,9 +50,8 @@ fn line_hz(h: Lines, v: Periods) -> f64
 }
 
 // The field rate from VCNT of any width, or why there is none.
-// Wrong answers: 125,001 divided by the latch; a latch of 0 told before an overflow.
 pub fn by_periods(v: PeriodCounter) -> Rate
-    ensures { λ r. ⌜ r ≡ byPeriods v ⌝ }
+    ensures { λ r. ⌜ (r ≡ byPeriods v) × PeriodsCase v r ⌝ }
 {
     if v.overflow {
         return Rate::Overflow;
@@ -67,7 +66,7 @@ pub fn by_periods(v: PeriodCounter) -> Rate
 // The line rate from HCNT over the interval, or why there is none.
 fn by_interval(h: LineCounter) -> Rate
     requires { ⌜ h .latch .0 < 4096 ⌝ }
-    ensures { λ r. ⌜ r ≡ byInterval h ⌝ }
+    ensures { λ r. ⌜ (r ≡ byInterval h) × (rateNumber r ≡ 0) ⌝ }
 {
     if h.overflow {
         return Rate::Overflow;
@@ -82,7 +81,7 @@ fn by_interval(h: LineCounter) -> Rate
 // The line rate from both counters over a field, or why there is none.
 fn by_field(h: LineCounter, v: PeriodCounter) -> Rate
     requires { ⌜ (h .latch .0 < 4096) × (v .latch .0 < 4096) ⌝ }
-    ensures { λ r. ⌜ r ≡ byField h v ⌝ }
+    ensures { λ r. ⌜ (r ≡ byField h v) × (rateNumber r ≡ 0) ⌝ }
 {
     if h.overflow | v.overflow {
         return Rate::Overflow;
@@ -96,7 +95,6 @@ fn by_field(h: LineCounter, v: PeriodCounter) -> Rate
 }
 
 // The report on the field rate.
-// Wrong answers: 125,001 divided by the latch; a latch of 0 told before an overflow.
 pub fn field_rate(s: Sync) -> Rate
     ensures { λ r. ⌜ (r ≡ fieldReport s) × FieldCase s r ⌝ }
 {
@@ -109,7 +107,6 @@ pub fn field_rate(s: Sync) -> Rate
 }
 
 // The report on the line rate, HSEL being this.
-// Wrong answers: HSEL taken inverted; 122.07 for 15625/128.
 pub fn line_rate(s: Sync, hsel: bool) -> Rate
     ensures { λ r. ⌜ (r ≡ lineReport s hsel) × LineCase s hsel r ⌝ }
 {

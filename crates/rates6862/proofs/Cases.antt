@@ -12,12 +12,12 @@ use Rattle.sync6862.specs.Unit.{periodsLast, wellFormed}
 use Rattle.sync6862.proofs.WellFormed.{within}
 use lib.Ieee.{Float}
 use Rattle.rates.specs.Hertz.{Between, fieldHz}
-use Rattle.rates.specs.Report.{byPeriods}
+use Rattle.rates.specs.Report.{byPeriods, rateNumber}
 use Rattle.rates.specs.declared.Rate.{Rate}
 use Rattle.rates.specs.declared.Rate.the-variants.{IllFormed, FieldRate}
 use Rattle.rates.proofs.Hertz.{field-between}
 use Rattle.rates.proofs.Cases.{positive, told-case}
-use Rattle.rates6862.specs.Report.{fieldReport, lowest, FieldCase}
+use Rattle.rates6862.specs.Report.{fieldReport, lowest, FieldValues, numberAt, FieldCase}
 
 -- the lowest rate times the largest latch is no more than 125,000
 lowest-reached : (part : Part) (latch : ℕ) → latch ≤ periodsLast part → lowest part * latch ≤ 125000
@@ -29,27 +29,27 @@ latch-within : (s : Counters) → wellFormed s ≡ true → s .sync .periods .la
 unfolding wellFormed
 latch-within s w = within _ _ (s .sync) w .periods .latch
 
-field-told : (s : Counters) → wellFormed s ≡ true → FieldCase s (byPeriods (s .sync .periods))
-unfolding FieldCase byPeriods
+field-told : (s : Counters) → wellFormed s ≡ true → FieldValues s (byPeriods (s .sync .periods))
+unfolding FieldValues byPeriods
 field-told s w =
-    told-case (FieldCase s) _ _ _ (λ e. (w, e)) (λ o k. (w, o, k))
+    told-case (FieldValues s) _ _ _ (λ e. (w, e)) (λ o k. (w, o, k))
     (λ o k.
     ((w, o, k), refl, field-between (lowest (s .part)) (s .sync .periods .latch) (positive _ k) (lowest-reached (s .part) _ (latch-within s w))))
 
-field-by : (s : Counters) (formed : Bool) → wellFormed s ≡ formed → FieldCase s (pick formed (byPeriods (s .sync .periods)) IllFormed)
-unfolding FieldCase
+field-by : (s : Counters) (formed : Bool) → wellFormed s ≡ formed → FieldValues s (pick formed (byPeriods (s .sync .periods)) IllFormed)
+unfolding FieldValues
 field-by s true e = field-told s e
 field-by s false e = e
 
-pub field-case : (s : Counters) → FieldCase s (fieldReport s)
+pub field-case : (s : Counters) → FieldValues s (fieldReport s)
 unfolding fieldReport
 field-case s = field-by s (wellFormed s) refl
 
--- a rate that is the report, with what its case says
-pub field-says : (s : Counters) (r : Rate) → r ≡ fieldReport s → (r ≡ fieldReport s) × FieldCase s r
-field-says s r e = (e, rw e (field-case s))
+-- a rate that is the report, with its number and what its case says
+pub field-says : (s : Counters) (r : Rate) → r ≡ fieldReport s → rateNumber r ≡ numberAt s → (r ≡ fieldReport s) × FieldCase s r
+field-says s r e n = (e, record { number = n; values = rw e (field-case s) })
 
 -- a rate that is reported is 125,000 divided by the latch, rounded once, and lies between the chip's lowest and 125,000
 pub rate-between : (s : Counters) (x : Float) → fieldReport s ≡ FieldRate x → (x ≡ fieldHz (s .sync .periods .latch)) × Between (lowest (s .part)) 125000 x
-unfolding FieldCase
-rate-between s x e = let c : FieldCase s (FieldRate x) = rw e at (field-case s) in (c .1, c .2)
+unfolding FieldValues
+rate-between s x e = let c : FieldValues s (FieldRate x) = rw e at (field-case s) in (c .1, c .2)

@@ -5,7 +5,6 @@ use rates::Rate;
 use sync6862::Counters;
 
 // The report on the field rate. An ill formed state is told before all else.
-// Wrong answers: an ill formed state told as nothing latched, or as an overflow.
 pub fn field_rate(s: Counters) -> Rate
     ensures { λ r. ⌜ (r ≡ fieldReport s) × FieldCase s r ⌝ }
 {

@@ -4,6 +4,8 @@ ghost use mathlib.Core.Bool.{true, false};
 ghost use Rattle.rates.specs.Report.{fieldReport, lineReport};
 ghost use Rattle.rates_capi.specs.Latches.{latches as latchesOf, hertz as hertzOf};
 use rates::Rate;
+use sync::LatchedLines;
+use sync::LatchedPeriods;
 use sync::LineCounter;
 use sync::Lines;
 use sync::PeriodCounter;
@@ -17,12 +19,12 @@ fn latches(h: u16, v: u16) -> Sync
     Sync {
         lines: LineCounter {
             count: Lines(0),
-            latch: Lines(h),
+            latch: LatchedLines(h),
             overflow: false,
         },
         periods: PeriodCounter {
             count: Periods(0),
-            latch: Periods(v),
+            latch: LatchedPeriods(v),
             overflow: false,
         },
         interval: 0,
@@ -43,7 +45,6 @@ fn hertz(rate: Rate) -> f64
 }
 
 // The field rate, v being the VCNT latch; 0 where there is none.
-// Wrong answers: infinity where v is 0; a rate for a latch of 4096.
 #[no_mangle]
 pub extern "C" fn nt6861_field_rate(v: u16) -> f64
     ensures { λ r. ⌜ r ≡ hertzOf (fieldReport (latchesOf 0 v)) ⌝ }
@@ -54,7 +55,6 @@ pub extern "C" fn nt6861_field_rate(v: u16) -> f64
 }
 
 // The line rate at HSEL 0, h being the HCNT latch; 0 where there is none.
-// Wrong answers: the rate over a field; a rate for a latch of 4096.
 #[no_mangle]
 pub extern "C" fn nt6861_interval_rate(h: u16) -> f64
     ensures { λ r. ⌜ r ≡ hertzOf (lineReport (latchesOf h 0) false) ⌝ }
@@ -65,7 +65,6 @@ pub extern "C" fn nt6861_interval_rate(h: u16) -> f64
 }
 
 // The line rate at HSEL 1, h and v being the latches of HCNT and VCNT; 0 where there is none.
-// Wrong answers: the rate at HSEL 0; the latches exchanged.
 #[no_mangle]
 pub extern "C" fn nt6861_line_rate(h: u16, v: u16) -> f64
     ensures { λ r. ⌜ r ≡ hertzOf (lineReport (latchesOf h v) true) ⌝ }

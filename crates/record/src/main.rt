@@ -54,9 +54,9 @@ fn record_some(next: u32) -> Recorded {
     let filled = input::fill(STDIN_FILENO, &mut bytes);
     let n = filled.count;
     let mut words = places();
-    let count = recorder::words_of(&bytes[..n], &mut words);
+    let count = recording_writer::words_of(&bytes[..n], &mut words);
     let mut out = io::large_buffer();
-    let done = recorder::write_blocks(next, &words[..count], &mut out);
+    let done = recording_writer::write_blocks(next, &words[..count], &mut out);
     let size = done.count;
     let is_written = io::write_all(STDOUT_FILENO, &out[..size]);
     let is_bad = tell_input(n, filled.failed, done.number);

@@ -56,7 +56,7 @@ fn replay_some(c: Chip, due: u32) -> Turn {
     let filled = input::fill(STDIN_FILENO, &mut input);
     let n = replayed_bytes(filled.count, filled.failed);
     let mut out = text_buffer();
-    let done = block_replay::replay_blocks(c, due, &input[..n], &mut out);
+    let done = recording_replay::replay_blocks(c, due, &input[..n], &mut out);
     let count = done.count;
     let is_written = io::write_all(STDOUT_FILENO, &out[..count]);
     let is_bad = tell(filled.failed, done.number);

@@ -2,18 +2,18 @@
 -- Assumes nothing.
 use mathlib.Core.Path.{_≡_, refl, ap, sym, _∙_}
 use mathlib.Core.Bool.{Bool, true, false, _&&_, _||_, Bool·beq, true≢false}
-use mathlib.Core.List.{List, [], _∷_}
+use mathlib.Core.List.{List, [], _∷_, map}
 use mathlib.Core.Logic.{⊎-elim}
-use Prim.Native.Nat.{ℕ, _<_, _≤_}
+use Prim.Native.Nat.{ℕ, _+_, _*_, _<_, _≤_}
 use native.Mathlib.Omega.{arith}
 use borrow.Author.Tests.{le-ltb, ne-eqb}
 use lib.Dec.{T, eqb, ltb, eqb→eq, ltb→lt}
 use lib.ListN.{length, getD, List·getD-map, List·getD-eq-default}
-use Rattle.bits.specs.Byte.{pick}
+use Rattle.bits.specs.Byte.{pick, num}
 use Rattle.bits.specs.Finite.{allBelow}
 use Rattle.bits.proofs.Finite.{and-left, and-right, or-right, at-each, lt-or-le, beq-eq}
 use Rattle.registers.specs.declared.Row.{Row}
-use Rattle.registers.specs.Table.{table, none, rowOf, resetValue, writeMask, readMask, isWritable, isReadable, isRegister, resets, chosen, writeMasks, readMasks, readOnly, writeOnly, maskChoice, readChoice, writableChoice, readableChoice}
+use Rattle.registers.specs.Table.{table, none, rowOf, resetValue, writeMask, readMask, isWritable, isReadable, isRegister, resets, chosen, writeMasks, maskChoice, unpacked}
 
 -- the table has 38 rows
 pub table-length : length table ≡ 38
@@ -24,6 +24,28 @@ table-length = refl
 pub row-past : (a : ℕ) → 38 ≤ a → rowOf a ≡ none
 unfolding rowOf
 row-past a h = List·getD-eq-default table none h
+
+-- a row as a number; the table of the code is that of each row
+abbrev pub packed : Row → ℕ
+packed r = r .reset * 16777216 + r .write * 65536 + r .read * 256 + num (r .writable) * 2 + num (r .readable)
+
+pub row-unpacked : (a : ℕ) → unpacked (getD (map packed table) a 0) ≡ rowOf a
+unfolding rowOf table
+row-unpacked a = sym (List·getD-map unpacked (map packed table) a 0)
+
+-- the columns of a row that was looked up
+module _ {r : Row} (a : ℕ) (e : r ≡ rowOf a) where
+  pub row-readable : r .readable ≡ isReadable a
+  unfolding isReadable
+  row-readable = ap (λ r. r .readable) e
+
+  pub row-read : r .read ≡ readMask a
+  unfolding readMask
+  row-read = ap (λ r. r .read) e
+
+  pub row-writable : r .writable ≡ isWritable a
+  unfolding isWritable
+  row-writable = ap (λ r. r .writable) e
 
 -- a test that the 38 rows and the row of no register pass, at every address
 pub at-row : (f : Row → Bool) → T (allBelow (λ a. f (rowOf a)) 38) → T (f none) → (a : ℕ) → T (f (rowOf a))
@@ -39,7 +61,7 @@ pub readMask-lt : (a : ℕ) → readMask a < 256
 unfolding readMask rowOf
 readMask-lt a = ltb→lt (readMask a) 256 (at-row (λ r. ltb (r .read) 256) tt tt a)
 
--- ---- columns as choices
+-- ---- a column as a choice
 
 -- a choice that is the table's column over the 38 rows, and past them what the row of no register has
 as-column : {A : Type 0} (column : Row → A) (choice : ℕ → A) (same : A → A → Bool) → ((x y : A) → T (same x y) → x ≡ y)
@@ -68,34 +90,10 @@ module _ (a : ℕ) (h : 38 ≤ a) where
   unfolding maskChoice
   mask-past = chosen-past writeMasks _ a h tt ∙ none-past
 
-  read-past : readChoice a ≡ 0
-  unfolding readChoice
-  read-past = chosen-past readMasks _ a h tt ∙ none-past
-
-  writable-past : writableChoice a ≡ false
-  unfolding writableChoice isRegister
-  writable-past = chosen-past readOnly _ a h tt ∙ le-ltb a 38 h
-
-  readable-past : readableChoice a ≡ false
-  unfolding readableChoice isRegister
-  readable-past = chosen-past writeOnly _ a h tt ∙ le-ltb a 38 h
-
--- each choice is the table's column at each address
+-- the choice is the table's column at each address
 pub mask-choice : (a : ℕ) → writeMask a ≡ maskChoice a
 unfolding writeMask maskChoice rowOf table
 mask-choice = as-column (λ r. r .write) maskChoice eqb eqb→eq tt mask-past
-
-pub read-choice : (a : ℕ) → readMask a ≡ readChoice a
-unfolding readMask readChoice rowOf table
-read-choice = as-column (λ r. r .read) readChoice eqb eqb→eq tt read-past
-
-pub writable-choice : (a : ℕ) → isWritable a ≡ writableChoice a
-unfolding isWritable writableChoice isRegister rowOf table
-writable-choice = as-column (λ r. r .writable) writableChoice Bool·beq beq-eq tt writable-past
-
-pub readable-choice : (a : ℕ) → isReadable a ≡ readableChoice a
-unfolding isReadable readableChoice isRegister rowOf table
-readable-choice = as-column (λ r. r .readable) readableChoice Bool·beq beq-eq tt readable-past
 
 -- ---- what is refused has no bit
 

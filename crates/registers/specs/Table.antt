@@ -1,5 +1,5 @@
 -- The register table (document 01, "Registers"): one row for each register, from address 00H, in the order of the data sheet.
-use Prim.Native.Nat.{ℕ}
+use Prim.Native.Nat.{ℕ, _/_, _%_}
 use mathlib.Core.List.{List, [], _∷_, map}
 use mathlib.Core.Bool.{Bool, true, false}
 use lib.Dec.{eqb, ltb}
@@ -15,6 +15,10 @@ row value write read writable readable = record { reset = value; write = write; 
 -- the row of an address that no register has
 abbrev pub none : Row
 none = row 0 0 0 false false
+
+-- the row that a number is: two hex digits each of reset value, write mask and read mask, then 2 for writable and 1 for readable
+abbrev pub unpacked : ℕ → Row
+unpacked n = row (n / 16777216) (n / 65536 % 256) (n / 256 % 256) (ltb 1 (n % 256)) (eqb (n % 2) 1)
 
 -- the 38 rows, from address 00H
 unfoldable pub table : List Row
@@ -109,34 +113,6 @@ isWritable a = rowOf a .writable
 -- a read is not refused
 unfoldable pub isReadable : ℕ → Bool
 isReadable a = rowOf a .readable
-
--- these three columns as choices too, equal to the table's at every address by `Rules.read-choice`, `writable-choice` and
--- `readable-choice`
-abbrev pub readMasks : List (ℕ × ℕ)
-readMasks =
-    (PT0, 0xff) ∷ (PT1, 0x7f) ∷ (PT2DIR, 0x00) ∷ (PT2, 0xff) ∷ (PT3, 0x03) ∷ (MDCON, 0x03)
-    ∷ (HVCON, 0xfc) ∷ (HCNTL, 0xff) ∷ (HCNTH, 0x0f) ∷ (VCNTL, 0xff) ∷ (VCNTH, 0x0f) ∷ (SYNCON, 0x00)
-    ∷ (ENDAC, 0x00) ∷ (AD0, 0xc0) ∷ (AD1, 0x00) ∷ (IEX, 0x00) ∷ (IRQX, 0x3f) ∷ (CLRFLG, 0x00)
-    ∷ (CLRWDT, 0x00) ∷ (IIADR, 0x00) ∷ (IIDAT, 0xff) ∷ (IISTS, 0x3e) ∷ (BT, 0x00) ∷ (BTCON, 0x00) ∷ []
-
-unfoldable pub readChoice : ℕ → ℕ
-readChoice a = chosen readMasks (pick (ltb a 0x26) 0xff 0x00) a
-
--- every register but these takes writes
-abbrev pub readOnly : List (ℕ × Bool)
-readOnly =
-    (HCNTL, false) ∷ (HCNTH, false) ∷ (VCNTL, false) ∷ (VCNTH, false) ∷ (AD1, false) ∷ (IRQX, false) ∷ []
-
-unfoldable pub writableChoice : ℕ → Bool
-writableChoice a = chosen readOnly (isRegister a) a
-
--- every register but these takes reads
-abbrev pub writeOnly : List (ℕ × Bool)
-writeOnly =
-    (PT2DIR, false) ∷ (SYNCON, false) ∷ (ENDAC, false) ∷ (IEX, false) ∷ (CLRFLG, false) ∷ (CLRWDT, false) ∷ (IIADR, false) ∷ (BT, false) ∷ (BTCON, false) ∷ []
-
-unfoldable pub readableChoice : ℕ → Bool
-readableChoice a = chosen writeOnly (isRegister a) a
 
 -- the reset values of all registers, in order
 unfoldable pub resets : List ℕ

@@ -1,6 +1,6 @@
 // The registers: names of addresses and bits, and the table.
 ghost use mathlib.Core.Path.{_≡_};
-ghost use Rattle.registers.specs.Table.{updated as updatedOf, rowOf, resetValue, writeMask, readMask, isWritable, isReadable, isRegister, resets as resetsOf};
+ghost use Rattle.registers.specs.Table.{updated as updatedOf, unpacked as unpackedOf, rowOf, resetValue, writeMask, isRegister, resets as resetsOf};
 
 // Addresses, after the data sheet's names, without blanks and slashes. DACH1 to DACH12 stand between DACH0 and DACH13.
 pub const PT0: u8 = 0x00;
@@ -119,342 +119,82 @@ pub struct Row {
     pub readable: bool,
 }
 
-const TABLE: [Row; 38] = [
-    // PT0
-    Row {
-        reset: 0xff,
-        write: 0xff,
-        read: 0xff,
-        writable: true,
-        readable: true,
-    },
-    // PT1
-    Row {
-        reset: 0x7f,
-        write: 0x3f,
-        read: 0x7f,
-        writable: true,
-        readable: true,
-    },
-    // PT2DIR
-    Row {
-        reset: 0xff,
-        write: 0xff,
-        read: 0x00,
-        writable: true,
-        readable: false,
-    },
-    // PT2
-    Row {
-        reset: 0xff,
-        write: 0xff,
-        read: 0xff,
-        writable: true,
-        readable: true,
-    },
-    // PT3
-    Row {
-        reset: 0x03,
-        write: 0x03,
-        read: 0x03,
-        writable: true,
-        readable: true,
-    },
-    // MDCON
-    Row {
-        reset: 0x07,
-        write: 0x0f,
-        read: 0x03,
-        writable: true,
-        readable: true,
-    },
-    // HVCON
-    Row {
-        reset: 0x2f,
-        write: 0x03,
-        read: 0xfc,
-        writable: true,
-        readable: true,
-    },
-    // HCNTL
-    Row {
-        reset: 0x00,
-        write: 0x00,
-        read: 0xff,
-        writable: false,
-        readable: true,
-    },
-    // HCNTH
-    Row {
-        reset: 0x00,
-        write: 0x00,
-        read: 0x0f,
-        writable: false,
-        readable: true,
-    },
-    // VCNTL
-    Row {
-        reset: 0x00,
-        write: 0x00,
-        read: 0xff,
-        writable: false,
-        readable: true,
-    },
-    // VCNTH
-    Row {
-        reset: 0x00,
-        write: 0x00,
-        read: 0x0f,
-        writable: false,
-        readable: true,
-    },
-    // SYNCON
-    Row {
-        reset: 0xff,
-        write: 0xdf,
-        read: 0x00,
-        writable: true,
-        readable: false,
-    },
-    // ENDAC
-    Row {
-        reset: 0xff,
-        write: 0xff,
-        read: 0x00,
-        writable: true,
-        readable: false,
-    },
-    // AD0
-    Row {
-        reset: 0xc0,
-        write: 0x00,
-        read: 0xc0,
-        writable: true,
-        readable: true,
-    },
-    // AD1
-    Row {
-        reset: 0x00,
-        write: 0x00,
-        read: 0x00,
-        writable: false,
-        readable: true,
-    },
-    // IEX
-    Row {
-        reset: 0x00,
-        write: 0x3f,
-        read: 0x00,
-        writable: true,
-        readable: false,
-    },
-    // IRQX
-    Row {
-        reset: 0x00,
-        write: 0x00,
-        read: 0x3f,
-        writable: false,
-        readable: true,
-    },
-    // CLRFLG
-    Row {
-        reset: 0x00,
-        write: 0x00,
-        read: 0x00,
-        writable: true,
-        readable: false,
-    },
-    // CLRWDT
-    Row {
-        reset: 0x00,
-        write: 0x00,
-        read: 0x00,
-        writable: true,
-        readable: false,
-    },
-    // IIADR
-    Row {
-        reset: 0xff,
-        write: 0xfe,
-        read: 0x00,
-        writable: true,
-        readable: false,
-    },
-    // IIDAT
-    Row {
-        reset: 0x00,
-        write: 0xff,
-        read: 0xff,
-        writable: true,
-        readable: true,
-    },
-    // IISTS
-    Row {
-        reset: 0x08,
-        write: 0x0d,
-        read: 0x3e,
-        writable: true,
-        readable: true,
-    },
-    // BT
-    Row {
-        reset: 0x00,
-        write: 0xff,
-        read: 0x00,
-        writable: true,
-        readable: false,
-    },
-    // BTCON
-    Row {
-        reset: 0x03,
-        write: 0x03,
-        read: 0x00,
-        writable: true,
-        readable: false,
-    },
-    // DACH0
-    Row {
-        reset: 0x80,
-        write: 0xff,
-        read: 0xff,
-        writable: true,
-        readable: true,
-    },
-    // DACH1
-    Row {
-        reset: 0x80,
-        write: 0xff,
-        read: 0xff,
-        writable: true,
-        readable: true,
-    },
-    // DACH2
-    Row {
-        reset: 0x80,
-        write: 0xff,
-        read: 0xff,
-        writable: true,
-        readable: true,
-    },
-    // DACH3
-    Row {
-        reset: 0x80,
-        write: 0xff,
-        read: 0xff,
-        writable: true,
-        readable: true,
-    },
-    // DACH4
-    Row {
-        reset: 0x80,
-        write: 0xff,
-        read: 0xff,
-        writable: true,
-        readable: true,
-    },
-    // DACH5
-    Row {
-        reset: 0x80,
-        write: 0xff,
-        read: 0xff,
-        writable: true,
-        readable: true,
-    },
-    // DACH6
-    Row {
-        reset: 0x80,
-        write: 0xff,
-        read: 0xff,
-        writable: true,
-        readable: true,
-    },
-    // DACH7
-    Row {
-        reset: 0x80,
-        write: 0xff,
-        read: 0xff,
-        writable: true,
-        readable: true,
-    },
-    // DACH8
-    Row {
-        reset: 0x80,
-        write: 0xff,
-        read: 0xff,
-        writable: true,
-        readable: true,
-    },
-    // DACH9
-    Row {
-        reset: 0x80,
-        write: 0xff,
-        read: 0xff,
-        writable: true,
-        readable: true,
-    },
-    // DACH10
-    Row {
-        reset: 0x80,
-        write: 0xff,
-        read: 0xff,
-        writable: true,
-        readable: true,
-    },
-    // DACH11
-    Row {
-        reset: 0x80,
-        write: 0xff,
-        read: 0xff,
-        writable: true,
-        readable: true,
-    },
-    // DACH12
-    Row {
-        reset: 0x80,
-        write: 0xff,
-        read: 0xff,
-        writable: true,
-        readable: true,
-    },
-    // DACH13
-    Row {
-        reset: 0x80,
-        write: 0xff,
-        read: 0xff,
-        writable: true,
-        readable: true,
-    },
+// A row a register, as one number: two hex digits each of reset value, write mask and read mask, then 02 where writes are taken and 01
+// where reads are, together 03. A number, since a constant array is built at each use: rows of numbers cost a third of rows of structs.
+const TABLE: [u32; 38] = [
+    0xff_ff_ff_03, // 00 PT0
+    0x7f_3f_7f_03, // 01 PT1
+    0xff_ff_00_02, // 02 PT2DIR
+    0xff_ff_ff_03, // 03 PT2
+    0x03_03_03_03, // 04 PT3
+    0x07_0f_03_03, // 05 MDCON
+    0x2f_03_fc_03, // 06 HVCON
+    0x00_00_ff_01, // 07 HCNTL
+    0x00_00_0f_01, // 08 HCNTH
+    0x00_00_ff_01, // 09 VCNTL
+    0x00_00_0f_01, // 0A VCNTH
+    0xff_df_00_02, // 0B SYNCON
+    0xff_ff_00_02, // 0C ENDAC
+    0xc0_00_c0_03, // 0D AD0
+    0x00_00_00_01, // 0E AD1
+    0x00_3f_00_02, // 0F IEX
+    0x00_00_3f_01, // 10 IRQX
+    0x00_00_00_02, // 11 CLRFLG
+    0x00_00_00_02, // 12 CLRWDT
+    0xff_fe_00_02, // 13 IIADR
+    0x00_ff_ff_03, // 14 IIDAT
+    0x08_0d_3e_03, // 15 IISTS
+    0x00_ff_00_02, // 16 BT
+    0x03_03_00_02, // 17 BTCON
+    0x80_ff_ff_03, // 18 DACH0
+    0x80_ff_ff_03, // 19 DACH1
+    0x80_ff_ff_03, // 1A DACH2
+    0x80_ff_ff_03, // 1B DACH3
+    0x80_ff_ff_03, // 1C DACH4
+    0x80_ff_ff_03, // 1D DACH5
+    0x80_ff_ff_03, // 1E DACH6
+    0x80_ff_ff_03, // 1F DACH7
+    0x80_ff_ff_03, // 20 DACH8
+    0x80_ff_ff_03, // 21 DACH9
+    0x80_ff_ff_03, // 22 DACH10
+    0x80_ff_ff_03, // 23 DACH11
+    0x80_ff_ff_03, // 24 DACH12
+    0x80_ff_ff_03, // 25 DACH13
 ];
 
 // The address is that of a register.
-// Wrong answers: false at 25H; true at 26H.
 pub fn is_register(address: u8) -> bool
     ensures { λ r. ⌜ r ≡ isRegister address ⌝ }
 {
     address < 38
 }
 
-// The row of an address; one past the table takes neither write nor read.
-// Wrong answers: AD0, of write mask 00, taken for refused; past the table the last row.
+// The row that a number of the table is.
+fn unpacked(n: u32) -> Row
+    ensures { λ r. ⌜ r ≡ unpackedOf n ⌝ }
+{
+    Row {
+        reset: (n / 16777216) as u8,
+        write: (n / 65536 % 256) as u8,
+        read: (n / 256 % 256) as u8,
+        writable: 1 < n % 256,
+        readable: n % 2 == 1,
+    }
+}
+
+// The row of an address, for a read, a write or a reset of its register; one past the table takes neither write nor read.
 pub fn row_of(address: u8) -> Row
     ensures { λ r. ⌜ r ≡ rowOf address ⌝ }
 {
     let i = address as usize;
     if i < 38 {
-        TABLE[i]
+        unpacked(TABLE[i])
     } else {
-        Row {
-            reset: 0,
-            write: 0,
-            read: 0,
-            writable: false,
-            readable: false,
-        }
+        unpacked(0)
     }
 }
 
 // The value that a reset gives.
-// Wrong answers: 0FH at MDCON, INSEN as the sheet's text has it; 3FH at IRQX, the bits that a read shows.
 pub fn reset_value(address: u8) -> u8
     ensures { λ r. ⌜ r ≡ resetValue address ⌝ }
 {
@@ -463,7 +203,6 @@ pub fn reset_value(address: u8) -> u8
 }
 
 // The bits that a write changes, register by register in the order of the sheet.
-// Wrong answers: 7FH at PT1, its input P16 with it; FFH at SYNCON, its reserved bit 5 with it.
 pub fn write_mask(address: u8) -> u8
     ensures { λ r. ⌜ r ≡ writeMask address ⌝ }
 {
@@ -498,86 +237,13 @@ pub fn write_mask(address: u8) -> u8
 }
 
 // The byte that a write leaves.
-// Wrong answers: the byte written, reserved bits with it; the bits that a read shows taken for those that a write changes.
 pub fn updated(address: u8, old: u8, byte: u8) -> u8
     ensures { λ r. ⌜ r ≡ updatedOf address old byte ⌝ }
 {
     bits::merge(write_mask(address), old, byte)
 }
 
-// The bits that a read shows, in the same order. This column and the next two are choices, proved equal to the table's, so that
-// neither a read nor a write builds the table.
-// Wrong answers: 03H at HVCON, the output polarities; FFH at SYNCON, which is not read.
-pub fn read_mask(address: u8) -> u8
-    ensures { λ r. ⌜ r ≡ readMask address ⌝ }
-{
-    match address {
-        PT0 => 0xff,
-        PT1 => 0x7f, // P16 too
-        PT2DIR => 0x00, // refused
-        PT2 => 0xff,
-        PT3 => 0x03,
-        MDCON => 0x03,
-        HVCON => 0xfc, // all but HPOLO and VPOLO
-        HCNTL => 0xff,
-        HCNTH => 0x0f,
-        VCNTL => 0xff,
-        VCNTH => 0x0f,
-        SYNCON => 0x00, // refused
-        ENDAC => 0x00, // refused
-        AD0 => 0xc0,
-        AD1 => 0x00, // taken, and shows nothing
-        IEX => 0x00, // refused
-        IRQX => 0x3f,
-        CLRFLG => 0x00, // refused
-        CLRWDT => 0x00, // refused
-        IIADR => 0x00, // refused
-        IIDAT => 0xff,
-        IISTS => 0x3e, // all but TXAK
-        BT => 0x00, // refused
-        BTCON => 0x00, // refused
-        DACH0..=DACH13 => 0xff,
-        _ => 0x00, // above 25H: no register
-    }
-}
-
-// A write is taken: the address is that of a register, and not of one that is only read.
-// Wrong answers: false at AD0, since its write mask is 00; true at AD1.
-pub fn writable(address: u8) -> bool
-    ensures { λ r. ⌜ r ≡ isWritable address ⌝ }
-{
-    match address {
-        HCNTL => false,
-        HCNTH => false,
-        VCNTL => false,
-        VCNTH => false,
-        AD1 => false,
-        IRQX => false,
-        _ => is_register(address),
-    }
-}
-
-// A read is taken: the address is that of a register, and not of one that is only written.
-// Wrong answers: false at AD1, since its read mask is 00; true at CLRFLG.
-pub fn readable(address: u8) -> bool
-    ensures { λ r. ⌜ r ≡ isReadable address ⌝ }
-{
-    match address {
-        PT2DIR => false,
-        SYNCON => false,
-        ENDAC => false,
-        IEX => false,
-        CLRFLG => false,
-        CLRWDT => false,
-        IIADR => false,
-        BT => false,
-        BTCON => false,
-        _ => is_register(address),
-    }
-}
-
 // All registers at reset.
-// Wrong answers: 0 in the last place; the value of PT0 in each place.
 pub fn resets() -> [u8; 38]
     ensures { λ r. ⌜ r ≡ resetsOf ⌝ }
 {

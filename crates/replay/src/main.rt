@@ -37,7 +37,7 @@ fn written(text: &[u8]) -> bool {
 
 // The end of the input: bytes left over are answered.
 fn finish(c: Chip, left: &[u8], out: &mut [u8]) {
-    let answered = text::answer_block(c, left, out);
+    let answered = replay_text::answer_block(c, left, out);
     let count = answered.count;
     written(&out[..count]);
 }
@@ -46,7 +46,7 @@ fn finish(c: Chip, left: &[u8], out: &mut [u8]) {
 fn answer(c: Chip, come: &mut [u8], out: &mut [u8]) -> Turn
     ensures { λ r. ⌜ r .carried ≤ length (now (come .entry)) ⌝ }
 {
-    let part = text::answer_part(c, come, out);
+    let part = replay_text::answer_part(c, come, out);
     let count = part.count;
     let next = part.chip;
     Turn {

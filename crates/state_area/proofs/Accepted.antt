@@ -13,7 +13,7 @@ use borrow.Author.Tests.{eq-eqb, eqb-true}
 use Rattle.bits.specs.Byte.{pick}
 use Rattle.bits.proofs.Finite.{both}
 use Rattle.chip.specs.declared.Chip.{Chip}
-use Rattle.well_formed.specs.WellFormed.{wellFormed}
+use Rattle.chip_well_formed.specs.WellFormed.{wellFormed}
 use Rattle.state_bytes.specs.Layout.{bytesOf, stateOf}
 use Rattle.state_bytes.proofs.Round.{read-written, bytes-length, registers-length}
 use Rattle.state_area.specs.declared.Loaded.{Loaded}

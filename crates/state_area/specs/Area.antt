@@ -8,7 +8,7 @@ use lib.ListN.{length}
 use Rattle.bits.specs.Byte.{pick}
 use Rattle.chip.specs.declared.Chip.{Chip}
 use Rattle.chip.specs.State.{fresh}
-use Rattle.well_formed.specs.WellFormed.{wellFormed}
+use Rattle.chip_well_formed.specs.WellFormed.{wellFormed}
 use Rattle.state_bytes.specs.Layout.{bytesOf, stateOf}
 use Rattle.state_area.specs.declared.Loaded.{Loaded}
 

@@ -49,7 +49,7 @@ fn read_as(bytes: &[u8; 128]) -> Loaded
 {
     let c = state_bytes::state_of(bytes);
     if is_written(c, bytes) {
-        if well_formed::well_formed(c) {
+        if chip_well_formed::well_formed(c) {
             Loaded {
                 number: 0,
                 state: c,
@@ -73,7 +73,6 @@ fn taken(area: &[u8]) -> [u8; 128]
 }
 
 // Reads an area: 15 where it has not 128 bytes, then 8 where no well formed state is written as its bytes.
-// Wrong answers: a longer area read by its first 128 bytes; every area read as an empty one.
 pub fn load(area: &[u8]) -> Loaded
     ensures { λ r. ⌜ r ≡ loaded (now (area .entry)) ⌝ }
 {
@@ -94,7 +93,6 @@ fn cover(area: &mut [u8], bytes: &[u8])
 }
 
 // The bytes of a state into an area of 128, which is not tested: for a caller who has a well formed one. Another area stays as it is.
-// Wrong answers: an area of another length written; the area as it was.
 pub fn put(c: Chip, area: &mut [u8])
     ensures { λ _. ⌜ now (area .exit) ≡ putIn c (now (area .entry)) ⌝ }
 {
@@ -105,12 +103,11 @@ pub fn put(c: Chip, area: &mut [u8])
 }
 
 // Writes a state out: 15 where the area has not 128 bytes, then 8 where the state is ill formed, and the area keeps its bytes; else 0.
-// Wrong answers: 0, whatever is refused; an ill formed state written.
 pub fn store(c: Chip, area: &mut [u8]) -> u8
     ensures { λ r. ⌜ (r ≡ storeNumber c (now (area .entry))) × (now (area .exit) ≡ storeLeft c (now (area .entry))) ⌝ }
 {
     if area.len() == 128 {
-        if well_formed::well_formed(c) {
+        if chip_well_formed::well_formed(c) {
             put(c, area);
             0
         } else {

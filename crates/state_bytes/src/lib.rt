@@ -11,6 +11,8 @@ use chip::Bus;
 use chip::Chip;
 use chip::Core;
 use chip::Pins;
+use sync::LatchedLines;
+use sync::LatchedPeriods;
 use sync::LineCounter;
 use sync::Lines;
 use sync::PeriodCounter;
@@ -226,7 +228,6 @@ fn put_at(area: &mut [u8], at: usize, part: &[u8])
 }
 
 // The bytes of a state: its core, zeros, and its 38 stored registers at the end.
-// Wrong answers: the registers in front; the bytes of the core alone.
 pub fn bytes_of(c: Chip) -> [u8; 128]
     ensures { λ r. ⌜ r ≡ bytesOf c ⌝ }
 {
@@ -245,12 +246,12 @@ fn sync_of(bytes: &[u8; 128]) -> Sync
     Sync {
         lines: LineCounter {
             count: Lines(word(bytes[5], bytes[6])),
-            latch: Lines(word(bytes[7], bytes[8])),
+            latch: LatchedLines(word(bytes[7], bytes[8])),
             overflow: bytes[9] == 1,
         },
         periods: PeriodCounter {
             count: Periods(word(bytes[10], bytes[11])),
-            latch: Periods(word(bytes[12], bytes[13])),
+            latch: LatchedPeriods(word(bytes[12], bytes[13])),
             overflow: bytes[14] == 1,
         },
         interval: word(bytes[15], bytes[16]),
@@ -312,7 +313,6 @@ fn registers_of(area: &[u8]) -> [u8; 38]
 }
 
 // The state that 128 bytes are read as, whatever they are.
-// Wrong answers: the bytes read one place late; the registers not read.
 pub fn state_of(bytes: &[u8; 128]) -> Chip
     ensures { λ r. ⌜ r ≡ stateOf (now (bytes .entry)) ⌝ }
 {

@@ -8,9 +8,9 @@ use lib.ListN.{getD}
 use borrow.Author.Tests.{eq-eqb, ne-eqb}
 use Rattle.bits.specs.Byte.{pick}
 use Rattle.chip.specs.declared.Chip.{Chip}
-use Rattle.well_formed.specs.WellFormed.{wellFormed}
+use Rattle.chip_well_formed.specs.WellFormed.{wellFormed}
 use Rattle.step.specs.Step.{step}
-use Rattle.run.specs.Run.{run, runAnswers, advanceAll, advanceAllAnswers}
+use Rattle.list_call.specs.Run.{run, runAnswers, advanceAll, advanceAllAnswers}
 use Rattle.state_bytes.specs.Layout.{bytesOf}
 use Rattle.state_area.specs.declared.Loaded.{Loaded}
 use Rattle.state_area.specs.Area.{loaded, putIn}

@@ -10,11 +10,11 @@ use lib.ListN.{length}
 use borrow.Author.Tests.{eq-eqb, ne-eqb, eqb-true}
 use Rattle.bits.specs.Byte.{pick}
 use Rattle.chip.specs.declared.Chip.{Chip}
-use Rattle.well_formed.specs.WellFormed.{wellFormed}
+use Rattle.chip_well_formed.specs.WellFormed.{wellFormed}
 use Rattle.step.specs.Step.{step}
-use Rattle.run.specs.Run.{run, runAnswers}
-use Rattle.hold.specs.Hold.{holdReport, holdWord}
-use Rattle.address_outcome.specs.AddressOutcome.{outcomeReport, outcomeWord}
+use Rattle.list_call.specs.Run.{run, runAnswers}
+use Rattle.chip_hold.specs.Hold.{holdReport, holdWord}
+use Rattle.chip_address_match.specs.AddressOutcome.{outcomeReport, outcomeWord}
 use Rattle.state_bytes.specs.Layout.{bytesOf}
 use Rattle.state_area.specs.Area.{holds, loaded}
 use Rattle.state_area.proofs.Accepted.{load-written, loaded-well, loaded-written}

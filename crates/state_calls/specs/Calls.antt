@@ -6,9 +6,9 @@ use mathlib.Core.List.{List}
 use lib.Dec.{eqb}
 use Rattle.bits.specs.Byte.{pick}
 use Rattle.step.specs.Step.{step}
-use Rattle.run.specs.Run.{run, runAnswers}
-use Rattle.hold.specs.Hold.{holdReport, holdWord}
-use Rattle.address_outcome.specs.AddressOutcome.{outcomeReport, outcomeWord}
+use Rattle.list_call.specs.Run.{run, runAnswers}
+use Rattle.chip_hold.specs.Hold.{holdReport, holdWord}
+use Rattle.chip_address_match.specs.AddressOutcome.{outcomeReport, outcomeWord}
 use Rattle.state_bytes.specs.Layout.{bytesOf}
 use Rattle.state_area.specs.Area.{loaded}
 

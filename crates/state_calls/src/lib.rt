@@ -3,7 +3,7 @@ ghost use mathlib.Core.Path.{_≡_};
 ghost use mathlib.Core.Bool.{true};
 ghost use Prim.Native.Nat.{_*_};
 ghost use Rattle.chip.specs.State.{fresh as freshOf};
-ghost use Rattle.well_formed.specs.WellFormed.{wellFormed};
+ghost use Rattle.chip_well_formed.specs.WellFormed.{wellFormed};
 ghost use Rattle.step.specs.Step.{step as stepOf};
 ghost use Rattle.state_area.specs.Area.{storeNumber, storeLeft};
 ghost use Rattle.state_calls.specs.Calls.{stepArea, stepAnswer, runNumber, runArea, runPlaces, holdIn, outcomeIn};
@@ -18,7 +18,6 @@ fn in_top_byte(number: u8) -> u32
 }
 
 // A fresh state into the area.
-// Wrong answers: 0 for every length; the area as it was.
 pub fn fresh(area: &mut [u8]) -> u8
     ensures { λ r. ⌜ (r ≡ storeNumber freshOf (now (area .entry))) × (now (area .exit) ≡ storeLeft freshOf (now (area .entry))) ⌝ }
 {
@@ -33,7 +32,7 @@ fn stepped(c: Chip, word: u32) -> Stepped
 {
     let words = [word];
     let mut places = [0];
-    let done = run::advance_all(c, &words, &mut places);
+    let done = list_call::advance_all(c, &words, &mut places);
     let after = done.chip;
     Stepped {
         chip: after,
@@ -42,7 +41,6 @@ fn stepped(c: Chip, word: u32) -> Stepped
 }
 
 // Steps the state in the area by a word, and answers.
-// Wrong answers: the answer to a word of zeros; the state not written back.
 pub fn step(area: &mut [u8], word: u32) -> u32
     ensures { λ r. ⌜ (r ≡ stepAnswer (now (area .entry)) word) × (now (area .exit) ≡ stepArea (now (area .entry)) word) ⌝ }
 {
@@ -60,7 +58,6 @@ pub fn step(area: &mut [u8], word: u32) -> u32
 }
 
 // The list call on the state in the area.
-// Wrong answers: the state not written back; 0 whatever the number of answer places.
 pub fn run(area: &mut [u8], words: &[u32], answers: &mut [u32]) -> u8
     ensures { λ r. ⌜ (r ≡ runNumber (now (area .entry)) (now (words .entry)) (now (answers .entry))) × (now (area .exit) ≡ runArea (now (area .entry)) (now (words .entry)) (now (answers .entry))) × (now (answers .exit) ≡ runPlaces (now (area .entry)) (now (words .entry)) (now (answers .entry))) ⌝ }
 {
@@ -68,7 +65,7 @@ pub fn run(area: &mut [u8], words: &[u32], answers: &mut [u32]) -> u8
     let number = read.number;
     if number == 0 {
         let c = read.state;
-        let done = run::advance_all(c, words, answers);
+        let done = list_call::advance_all(c, words, answers);
         let after = done.chip;
         state_area::put(after, area);
         done.number
@@ -78,7 +75,6 @@ pub fn run(area: &mut [u8], words: &[u32], answers: &mut [u32]) -> u8
 }
 
 // For how many clocks of 8 µs SCL has been held, in bits 15 to 0; 15 or 8 in bits 31 to 24.
-// Wrong answers: the address outcome; one clock more.
 pub fn hold(area: &[u8]) -> u32
     ensures { λ r. ⌜ r ≡ holdIn (now (area .entry)) ⌝ }
 {
@@ -86,14 +82,13 @@ pub fn hold(area: &[u8]) -> u32
     let number = read.number;
     if number == 0 {
         let c = read.state;
-        hold::hold_word(hold::held_for(c))
+        chip_hold::hold_word(chip_hold::held_for(c))
     } else {
         in_top_byte(number)
     }
 }
 
 // By which address the current transfer was called: 0 none, 1 A0H, 2 II ADR, 3 both; 15 or 8 in bits 31 to 24.
-// Wrong answers: none, always; the hold.
 pub fn called_by(area: &[u8]) -> u32
     ensures { λ r. ⌜ r ≡ outcomeIn (now (area .entry)) ⌝ }
 {
@@ -101,7 +96,7 @@ pub fn called_by(area: &[u8]) -> u32
     let number = read.number;
     if number == 0 {
         let c = read.state;
-        address_outcome::outcome_word(address_outcome::called_by(c))
+        chip_address_match::outcome_word(chip_address_match::called_by(c))
     } else {
         in_top_byte(number)
     }

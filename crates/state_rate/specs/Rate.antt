@@ -8,8 +8,8 @@ use Rattle.bits.specs.Byte.{pick}
 use Rattle.chip.specs.declared.Chip.{Chip}
 use Rattle.rates.specs.declared.Rate.{Rate}
 use Rattle.rates.specs.declared.Rate.the-variants.{IllFormed, NothingLatched, Overflow, FieldRate, LineRate}
-use Rattle.report.specs.declared.Scan.the-variants.{Field, Line}
-use Rattle.report.specs.Report.{rateReport}
+use Rattle.chip_rate_report.specs.declared.Scan.the-variants.{Field, Line}
+use Rattle.chip_rate_report.specs.Report.{rateReport}
 use Rattle.state_area.specs.Area.{loaded}
 use Rattle.state_calls.specs.Calls.{holdsState, refusalWord}
 

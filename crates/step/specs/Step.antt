@@ -4,16 +4,21 @@ use mathlib.Core.List.{List}
 use mathlib.Core.Bool.{false}
 use Rattle.bits.specs.Byte.{pick}
 use Rattle.events.specs.declared.Decoded.{Decoded}
+use Rattle.events.specs.declared.Decoded.the-variants.{Pin, Clock}
+use Rattle.events.specs.Pins.{HSYNCI}
+use Rattle.events.specs.Clocks.{period}
 use Rattle.events.specs.Word.{decode}
 use Rattle.answers.specs.Answer.{answerWord}
 use Rattle.registers.specs.Names.{IEX}
 use Rattle.chip.specs.declared.Core.{Core}
 use Rattle.chip.specs.declared.Chip.{Chip}
 use Rattle.chip.specs.State.{registerAt, requested, requests}
-use Rattle.well_formed.specs.WellFormed.{wellFormed}
-use Rattle.outcome.specs.Outcome.{next, numberGiven, byteGiven, watchdogReset}
+use Rattle.chip_well_formed.specs.WellFormed.{wellFormed}
+use Rattle.chip_events.specs.Outcome.{next, numberGiven, byteGiven, watchdogReset}
 use Rattle.step.specs.declared.Stepped.{Stepped}
 use Rattle.step.specs.declared.CoreStepped.{CoreStepped}
+use Rattle.step.specs.declared.Common.{Common}
+use Rattle.step.specs.declared.Common.the-variants.{Hsynci, Period, Other}
 
 -- the answer word of an event: requests are those after it
 unfoldable pub answered : Chip → Decoded → ℕ
@@ -30,6 +35,12 @@ coreOf s = record { core = s .chip .core; answer = s .answer }
 -- what a word leaves that moves the core alone, and is answered with the request lines
 abbrev pub coreMoved : List ℕ → Core → CoreStepped
 coreMoved registers c = record { core = c; answer = answerWord 0 false (requested (c .irqx) (registerAt registers IEX)) 0 }
+
+-- the event that a common one is; any other is itself
+abbrev pub commonEvent : Common → Decoded → Decoded
+commonEvent (Hsynci level) e = Pin HSYNCI level
+commonEvent Period e = Clock period
+commonEvent Other e = e
 
 -- the step, for every state and word: an ill formed state is told before anything else about the word
 unfoldable pub step : Chip → ℕ → Stepped

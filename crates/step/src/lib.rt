@@ -3,7 +3,7 @@ ghost use mathlib.Core.Path.{_≡_};
 ghost use Rattle.registers.specs.Names.{IEX};
 ghost use Rattle.events.specs.Word.{decode as decodeOf};
 ghost use Rattle.chip.specs.State.{chipOf, registerAt};
-ghost use Rattle.step.specs.Step.{advance as advanceOf, coreOf, coreMoved, step as stepOf};
+ghost use Rattle.step.specs.Step.{advance as advanceOf, coreOf, coreMoved, commonEvent, step as stepOf};
 use chip::Chip;
 use chip::Core;
 use events::Decoded;
@@ -11,13 +11,6 @@ use events::HSYNCI;
 use events::PERIOD;
 use registers::BTCON;
 use registers::IEX;
-
-// The words of the commonest events: the levels of HSYNCI, and the clock of 8 µs.
-const HSYNCI_LOW: u32 = 0x0300_1a00;
-
-const HSYNCI_HIGH: u32 = 0x0300_1a01;
-
-const PERIOD_CLOCK: u32 = 0x0400_0000;
 
 // The chip after a word, and the answer word.
 pub struct Stepped {
@@ -40,11 +33,10 @@ fn enables(registers: &[u8; 38]) -> u8
 
 // The step over a decoded event, without the test of the state: the list call makes that once. The array of stored registers is
 // lent and changed in place, so that it is never copied.
-// Wrong answers: the requests of the state before; the same answer to every event.
 pub fn advance_core(registers: &mut [u8; 38], c: Core, event: Decoded) -> CoreStepped
     ensures { λ r. ⌜ (r ≡ coreOf (advanceOf (chipOf (now (registers .entry)) c) event)) × (now (registers .exit) ≡ advanceOf (chipOf (now (registers .entry)) c) event .chip .registers) ⌝ }
 {
-    let done = outcome::carry_out(registers, c, event);
+    let done = chip_events::carry_out(registers, c, event);
     let after = done.core;
     let kept = done.kept;
     chip::keep(registers, kept);
@@ -59,6 +51,38 @@ pub fn advance_core(registers: &mut [u8; 38], c: Core, event: Decoded) -> CoreSt
     }
 }
 
+// The commonest events, which move the core alone: the levels of HSYNCI, and the clock of 8 µs.
+enum Common {
+    Hsynci(bool),
+    Period,
+    Other,
+}
+
+fn common_of(event: Decoded) -> Common
+    ensures { λ r. ⌜ commonEvent r event ≡ event ⌝ }
+{
+    match event {
+        Decoded::Read(_) => Common::Other,
+        Decoded::Write(_, _) => Common::Other,
+        Decoded::Pin(p, level) => {
+            if p == HSYNCI {
+                Common::Hsynci(level)
+            } else {
+                Common::Other
+            }
+        }
+        Decoded::Clock(k) => {
+            if k == PERIOD {
+                Common::Period
+            } else {
+                Common::Other
+            }
+        }
+        Decoded::Polarity(_, _) => Common::Other,
+        Decoded::Refused(_) => Common::Other,
+    }
+}
+
 // What a word leaves that moves the core alone.
 fn core_moved(registers: &[u8; 38], c: Core) -> CoreStepped
     ensures { λ r. ⌜ r ≡ coreMoved (now (registers .entry)) c ⌝ }
@@ -69,25 +93,23 @@ fn core_moved(registers: &[u8; 38], c: Core) -> CoreStepped
     }
 }
 
-// The step over an event word, without the test of the state. The commonest events go straight to what they move; for every word the
-// step over what it decodes to gives the same.
-// Wrong answers: a rise of HSYNCI taken for a fall; the watchdog's clock for that of 8 µs.
+// The step over an event word, without the test of the state. Of what the word decodes to, the commonest events go straight to what
+// they move; the step over a decoded event gives the same.
 pub fn advance_word(registers: &mut [u8; 38], c: Core, word: u32) -> CoreStepped
     ensures { λ r. ⌜ (r ≡ coreOf (advanceOf (chipOf (now (registers .entry)) c) (decodeOf word))) × (now (registers .exit) ≡ advanceOf (chipOf (now (registers .entry)) c) (decodeOf word) .chip .registers) ⌝ }
 {
-    match word {
-        HSYNCI_LOW => core_moved(registers, pins::pin_moved(c, HSYNCI, false)),
-        HSYNCI_HIGH => core_moved(registers, pins::pin_moved(c, HSYNCI, true)),
-        PERIOD_CLOCK => {
+    let event = events::decode(word);
+    match common_of(event) {
+        Common::Hsynci(level) => core_moved(registers, chip_pins::pin_moved(c, HSYNCI, level)),
+        Common::Period => {
             let btcon = chip::register_at(registers, BTCON);
-            core_moved(registers, clocks::clocked(btcon, c, PERIOD))
+            core_moved(registers, chip_clocks::clocked(btcon, c, PERIOD))
         }
-        _ => advance_core(registers, c, events::decode(word)),
+        Common::Other => advance_core(registers, c, event),
     }
 }
 
 // The step over a decoded event, over a chip by value.
-// Wrong answers: the core as it was; the state kept unmoved.
 pub fn advance(c: Chip, event: Decoded) -> Stepped
     ensures { λ r. ⌜ r ≡ advanceOf c event ⌝ }
 {
@@ -105,11 +127,10 @@ pub fn advance(c: Chip, event: Decoded) -> Stepped
 }
 
 // The step: the next chip and the answer word, for every state and word.
-// Wrong answers: an ill formed state answered 7; every event refused with 1, the state kept.
 pub fn step(c: Chip, word: u32) -> Stepped
     ensures { λ r. ⌜ r ≡ stepOf c word ⌝ }
 {
-    if well_formed::well_formed(c) {
+    if chip_well_formed::well_formed(c) {
         advance(c, events::decode(word))
     } else {
         Stepped {

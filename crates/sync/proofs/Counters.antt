@@ -7,14 +7,8 @@ use Rattle.counters.specs.Count.{atLast, steps, cycles}
 use Rattle.sync.specs.Sync.{stepLines, stepsLines, stepPeriods, stepsPeriods}
 use Rattle.sync.specs.declared.LineCounter.{LineCounter}
 use Rattle.sync.specs.declared.PeriodCounter.{PeriodCounter}
+use Rattle.sync.specs.Counters.{linesAt, periodsAt}
 use Rattle.counters.proofs.Counting.{cycle-due}
-
--- the counter of this count and overflow bit, its latch being as it was
-abbrev pub linesAt : LineCounter → ℕ × Bool → LineCounter
-linesAt c p = record { count = record { 0 = p .0 }; latch = c .latch; overflow = p .1 }
-
-abbrev pub periodsAt : PeriodCounter → ℕ × Bool → PeriodCounter
-periodsAt c p = record { count = record { 0 = p .0 }; latch = c .latch; overflow = p .1 }
 
 start : (count : ℕ) (overflow : Bool) → count ≡ 0 → overflow ≡ false → _≡_ {A = ℕ × Bool} (count, overflow) (0, false)
 start count overflow h k = cc

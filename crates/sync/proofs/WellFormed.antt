@@ -12,22 +12,10 @@ use Rattle.sync.specs.Sync.{stepLines, latchLines, clearLines, zeroLines
 use Rattle.sync.specs.declared.LineCounter.{LineCounter}
 use Rattle.sync.specs.declared.PeriodCounter.{PeriodCounter}
 use Rattle.sync.specs.declared.Sync.{Sync}
+use Rattle.sync.specs.Fits.{LinesFit, PeriodsFit, SyncFits}
 use Rattle.counters.proofs.Counting.{counted-within, latched-below, zeroed-below, cycle-within}
 
 -- ---- the ranges as facts on the numbers
-
-pub record LinesFit (c : LineCounter) : Type 0 where
-  pub count : c .count .0 < 4096
-  pub latch : c .latch .0 < 4096
-
-pub record PeriodsFit (c : PeriodCounter) : Type 0 where
-  pub count : c .count .0 < 4096
-  pub latch : c .latch .0 < 4096
-
-pub record SyncFits (s : Sync) : Type 0 where
-  pub lines : LinesFit (s .lines)
-  pub periods : PeriodsFit (s .periods)
-  pub interval : s .interval < 1024
 
 pub fits : (s : Sync) → wellSync s ≡ true → SyncFits s
 unfolding wellSync

@@ -1,1 +1,3 @@
 pub mod Sync
+pub mod Counters
+pub mod Fits

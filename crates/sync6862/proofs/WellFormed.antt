@@ -14,7 +14,8 @@ use Rattle.sync.specs.declared.LineCounter.{LineCounter}
 use Rattle.sync.specs.declared.PeriodCounter.{PeriodCounter}
 use Rattle.sync.specs.declared.Sync.{Sync}
 use Rattle.sync.specs.Sync.{latchPeriods, clearPeriods, clearLines, zeroLines, onHsync, onVsync, hselCleared, clearOverflow, zeroSync}
-use Rattle.sync.proofs.WellFormed.{LinesFit, step-lines-fits, clear-lines-fits, lines-on-vsync-fits, interval-end-fits}
+use Rattle.sync.specs.Fits.{LinesFit}
+use Rattle.sync.proofs.WellFormed.{step-lines-fits, clear-lines-fits, lines-on-vsync-fits, interval-end-fits}
 use Rattle.sync6862.specs.declared.Part.{Part}
 use Rattle.sync6862.specs.declared.Part.the-variants.{Nt6861, Nt6862}
 use Rattle.sync6862.specs.declared.Counters.{Counters}

@@ -1,8 +1,9 @@
 // The sync counters of the NT6861 and of the NT6862 as a unit: state, calls, numbers.
 ghost use mathlib.Core.Path.{_≡_};
 ghost use Rattle.sync6862.specs.Unit.{periodsLast, intervalLast, perField, differs as differsOf, restarts as restartsOf, stepPeriodsTo, intervalNextTo, linesOnPeriodTo, onPeriodTo, wellTo, wellFormed, releaseLines, clearLinesOf, restartedIf, onHsyncIf, onVsyncIf, withSync, hsyncMoved, vsyncMoved, clocked as clockedOf, hselSet, enhselSet, clearedH, clearedV, doneWith, onEnhsel, answered as answeredOf, answer as answerOf, freshAs, fresh as freshOf, latches as latchesOf};
+use sync::LatchedLines;
+use sync::LatchedPeriods;
 use sync::LineCounter;
-use sync::Lines;
 use sync::PeriodCounter;
 use sync::Periods;
 use sync::Sync;
@@ -49,9 +50,9 @@ pub enum Start {
 pub enum LatchReport {
     IllFormed,
     Shown {
-        lines: Lines,
+        lines: LatchedLines,
         lines_overflow: bool,
-        periods: Periods,
+        periods: LatchedPeriods,
         periods_overflow: bool,
     },
 }
@@ -160,7 +161,6 @@ fn well(periods: u16, interval: u16, s: Sync) -> bool
 }
 
 // The state's numbers are in their chip's ranges.
-// Wrong answers: a VCNT of 16384 taken; the interval of the NT6862 held to 4,096 whatever HSEL.
 pub fn well_formed(s: Counters) -> bool
     ensures { λ r. ⌜ r ≡ wellFormed s ⌝ }
 {
@@ -352,7 +352,6 @@ fn answered(s: Counters, call: Call) -> Outcome
 }
 
 // A call: number 8 for an ill formed state, then 2 for ENHSEL on the NT6861; a refusal moves nothing.
-// Wrong answers: 2 for an ill formed state; HCNT zeroed by clear H on the NT6862 too.
 pub fn answer(s: Counters, call: Call) -> Outcome
     ensures { λ r. ⌜ r ≡ answerOf s call ⌝ }
 {
@@ -379,7 +378,6 @@ fn fresh_as(part: Part) -> Counters
 }
 
 // A fresh state for the chip of this number.
-// Wrong answers: ENHSEL 0 when fresh; a state for chip 6863.
 pub fn fresh(number: u32) -> Start
     ensures { λ r. ⌜ r ≡ freshOf number ⌝ }
 {
@@ -391,7 +389,6 @@ pub fn fresh(number: u32) -> Start
 }
 
 // The latches with the overflow bits.
-// Wrong answers: HCNT shown for its latch; the overflow bits exchanged.
 pub fn latches(s: Counters) -> LatchReport
     ensures { λ r. ⌜ r ≡ latchesOf s ⌝ }
 {

@@ -38,7 +38,6 @@ fn put(state: &mut [u16], n: [u16; 12])
 }
 
 // A call on twelve numbers, and what it leaves. Another length than twelve answers 15.
-// Wrong answers: the value taken for the call; 8 for another length.
 #[no_mangle]
 pub extern "C" fn nt6862_counters(state: &mut [u16], call: u32, value: u32) -> u8
     ensures { λ r. ⌜ (r ≡ lent (now (state .entry)) call value .number) × (now (state .exit) ≡ lent (now (state .entry)) call value .numbers) ⌝ }
@@ -67,7 +66,6 @@ fn hertz(rate: Rate) -> f64
 }
 
 // The report on the field rate of twelve numbers, as `hertz` has it. Another length than twelve answers -15.
-// Wrong answers: -8 for another length; a rate of 1 Hz in overflow.
 #[no_mangle]
 pub extern "C" fn nt6862_field_rate(state: &[u16]) -> f64
     ensures { λ r. ⌜ r ≡ fieldLent (now (state .entry)) ⌝ }

@@ -184,7 +184,6 @@ fn body_from(from: Cursor, place: usize) -> Cursor
 
 // The words of a file from a cursor on, as far as there are places for them. A call that is told 43 tells the cursor of the
 // next one too.
-// Wrong answers: 40 for the 33rd variable; the words from the body's begin whatever the cursor.
 pub fn read_more(text: &[u8], out: &mut [u32], from: Cursor) -> Piece
     ensures { λ r. ⌜ answer (now (out .exit)) r ≡ callOf (now (text .entry)) from (now (out .entry)) ⌝ }
 {
@@ -208,7 +207,6 @@ pub fn read_more(text: &[u8], out: &mut [u32], from: Cursor) -> Piece
 }
 
 // The words of a file, as far as there are places for them.
-// Wrong answers: the second variable of a name counted too; 31 variables at most.
 pub fn read(text: &[u8], out: &mut [u32]) -> Piece
     ensures { λ r. ⌜ answer (now (out .exit)) r ≡ callOf (now (text .entry)) startOf (now (out .entry)) ⌝ }
 {

@@ -9,8 +9,8 @@ use lib.ListN.{length, drop, replicate}
 use lib.Dec.{eqb}
 use lib.Seq.{drop-nil}
 use Rattle.bits.specs.Byte.{pick}
-use Rattle.vcd_room.specs.declared.Put.{Put}
-use Rattle.vcd_room.specs.Room.{put, wrote, clockWord, pinWord, unpacked, pinWords}
+use Rattle.vcd_output.specs.declared.Put.{Put}
+use Rattle.vcd_output.specs.Room.{put, wrote, clockWord, pinWord, unpacked, pinWords}
 use Rattle.vcd_steps.specs.declared.State.{State}
 use Rattle.vcd_steps.specs.Events.{Event, clockEvents, pinEvents, words}
 use Rattle.vcd_body.specs.declared.Turn.{Turn}

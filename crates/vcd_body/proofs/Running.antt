@@ -15,8 +15,8 @@ use Rattle.vcd_text.specs.declared.Number.{Number}
 use Rattle.vcd_text.specs.declared.Number.the-variants.{Of}
 use Rattle.vcd_text.specs.Token.{white, whiteLength, wordLength, numberOf, grownBy, longerBy, digitsFrom, decimalOf}
 use Rattle.vcd_text.proofs.Laws.{word-some, word-more, word-stops, some-byte, decimal-some}
-use Rattle.vcd_room.specs.declared.Put.{Put}
-use Rattle.vcd_room.specs.Room.{Written, put, wrote, clockWord, pinWord, unpacked, pinWords}
+use Rattle.vcd_output.specs.declared.Put.{Put}
+use Rattle.vcd_output.specs.Room.{Written, put, wrote, clockWord, pinWord, unpacked, pinWords}
 use Rattle.vcd_codes.specs.Codes.{Found, meant}
 use Rattle.vcd_items.specs.declared.Item.the-variants.{Scalar, Time}
 use Rattle.vcd_items.specs.Items.{kindOf, itemAs, itemOf}

@@ -5,8 +5,8 @@ use mathlib.Core.List.{List, [], _∷_}
 use lib.ListN.{drop}
 use Rattle.bits.specs.Byte.{pick}
 use Rattle.vcd_text.specs.Token.{Token}
-use Rattle.vcd_room.specs.declared.Put.{Put}
-use Rattle.vcd_room.specs.Room.{Written, put}
+use Rattle.vcd_output.specs.declared.Put.{Put}
+use Rattle.vcd_output.specs.Room.{Written, put}
 use Rattle.vcd_codes.specs.Codes.{Found}
 use Rattle.vcd_steps.specs.declared.Mode.the-variants.{Plain}
 use Rattle.vcd_steps.specs.declared.State.{State}

@@ -14,7 +14,7 @@ ghost use Rattle.vcd_body.specs.Pieces.{start as startOf, answer, closed
 ghost use Rattle.vcd_body.specs.Tables.{Singles, Lists, Tables};
 ghost use Rattle.vcd_body.specs.Runs.{NextToken, Advances, Leads};
 use vcd_items::Item;
-use vcd_room::Put;
+use vcd_output::Put;
 use vcd_steps::Mode;
 use vcd_steps::State;
 use vcd_steps::Step;
@@ -45,7 +45,6 @@ pub enum Turn {
 }
 
 // The cursor that begins.
-// Wrong answers: one word done; a time of 1.
 pub fn start() -> Cursor
     ensures { λ r. ⌜ r ≡ startOf ⌝ }
 {
@@ -92,9 +91,9 @@ fn perform(step: Step, scale: u64, p: usize, done: u64, out: &mut [u32], count: 
         Step::Silent(s) => Turn::On(s, count),
         Step::Timed(s, from) => written(
             s,
-            vcd_room::clocks(out, count, later(s.clocks, from), done),
+            vcd_output::clocks(out, count, later(s.clocks, from), done),
         ),
-        Step::Changed(s, list, high) => written(s, vcd_room::pins(out, count, list, high, done)),
+        Step::Changed(s, list, high) => written(s, vcd_output::pins(out, count, list, high, done)),
     }
 }
 
@@ -404,7 +403,7 @@ fn give_clocks(out: &mut [u32], run: Run, d: Digits, due: u64) -> Run
 {
     let n = later(due, run.clocks);
     if has_room(out.len(), run.count, n) {
-        let put = vcd_room::clocks(out, run.count, n, 0);
+        let put = vcd_output::clocks(out, run.count, n, 0);
         return Run {
             at: d.end,
             count: put.count,
@@ -793,7 +792,6 @@ fn read_tokens(
 }
 
 // The body of a file, from a cursor on, into lent places.
-// Wrong answers: all clocks up to a time at each time; 42 for no room.
 pub fn read(
     text: &[u8],
     places: &[usize],

@@ -12,7 +12,6 @@ use vcd_steps::State;
 // Writes the event words of a dump as far as there are places, and gives 0 or the number of the first refusal. told[0] is how many
 // words were written, told[1] the place of the refusal (0 where there is none). 15 where told has not two places; then nothing
 // is touched.
-// Wrong answers: the place told before the count; what is told left as it was.
 #[no_mangle]
 pub extern "C" fn nt6861_vcd(file: &[u8], words: &mut [u32], told: &mut [u64]) -> u8
     ensures { λ r. ⌜ exported r (now (words .exit)) (now (told .exit)) ≡ vcdOf (now (file .entry)) (now (words .entry)) (now (told .entry)) ⌝ }
@@ -118,7 +117,6 @@ fn tell_more(cursor: &mut [u64], told: &mut [u64], piece: Piece) -> u8
 
 // The same from a cursor on, which is eight numbers and begins as eight zeros. After 43 it is where the next call goes on; else it
 // is as at the beginning. 15 where the cursor has not eight places or told not two; then nothing is touched.
-// Wrong answers: the words done not kept; a cursor in a comment taken for one in a value.
 #[no_mangle]
 pub extern "C" fn nt6861_vcd_more(
     file: &[u8],

@@ -11,7 +11,7 @@ use lib.Dec.{eqb, ltb}
 use borrow.Author.Tests.{eqb-true, eqb-false, ltb-true, ltb-false, lt-ltb, le-ltb, eq-eqb, ne-eqb}
 use Rattle.bits.specs.Byte.{pick}
 use Rattle.vcd_text.specs.Token.{sameBytes}
-use Rattle.vcd_room.specs.Room.{unpacked}
+use Rattle.vcd_output.specs.Room.{unpacked}
 use Rattle.vcd_codes.specs.Codes.{Variable, Found, undeclared, declared, joins, find, codeAt, variables, meant, joinedTo, foundAfter}
 
 -- an entry that the table has no place for

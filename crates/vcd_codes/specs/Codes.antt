@@ -6,7 +6,7 @@ use lib.ListN.{length, take, drop, getD}
 use lib.Dec.{eqb, ltb}
 use Rattle.bits.specs.Byte.{pick}
 use Rattle.vcd_text.specs.Token.{sameBytes}
-use Rattle.vcd_room.specs.Room.{unpacked}
+use Rattle.vcd_output.specs.Room.{unpacked}
 
 -- a declared variable: its code, and the pin that it drives; 0 where it is passed over
 pub record Variable : Type 0 where

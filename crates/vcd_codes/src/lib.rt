@@ -45,7 +45,6 @@ fn least(a: usize, b: usize) -> usize
 }
 
 // A code is that of an entry.
-// Wrong answers: the code of the entry before compared; that of the next entry.
 pub fn is_code(text: &[u8], places: &[usize], k: usize, code: &[u8]) -> bool
     ensures { λ r. ⌜ r ≡ sameBytes (codeAt (now (text .entry)) (now (places .entry)) k) (now (code .entry)) ⌝ }
 {
@@ -86,7 +85,6 @@ fn with_entry(text: &[u8], places: &[usize], pins: &[u8], k: usize, code: &[u8],
 }
 
 // What a code stands for, from the last entry to the first.
-// Wrong answers: the pins in the other order; the last entry left out.
 pub fn list_of(text: &[u8], places: &[usize], pins: &[u8], entries: usize, code: &[u8]) -> u64
     ensures { λ r. ⌜ meant r ≡ find (variables (now (text .entry)) (now (places .entry)) (now (pins .entry)) 0 entries) (now (code .entry)) ⌝ }
 {
@@ -100,7 +98,6 @@ pub fn list_of(text: &[u8], places: &[usize], pins: &[u8], entries: usize, code:
 }
 
 // What the code of an entry stands for.
-// Wrong answers: what the code of the next entry stands for; one entry fewer looked at.
 pub fn list_at(text: &[u8], places: &[usize], pins: &[u8], entries: usize, k: usize) -> u64
     ensures { λ r. ⌜ meant r ≡ find (variables (now (text .entry)) (now (places .entry)) (now (pins .entry)) 0 entries) (codeAt (now (text .entry)) (now (places .entry)) k) ⌝ }
 {
@@ -110,7 +107,6 @@ pub fn list_at(text: &[u8], places: &[usize], pins: &[u8], entries: usize, k: us
 }
 
 // The hash of a code, by which its entry is looked up. Few of the declared codes share one.
-// Wrong answers: another factor for the first byte; 256 among the hashes.
 pub fn hash_of(code: &[u8]) -> usize
     ensures { λ r. ⌜ (r ≡ hashOf (now (code .entry))) × (r < 256) ⌝ }
 {
@@ -123,7 +119,6 @@ pub fn hash_of(code: &[u8]) -> usize
 }
 
 // The hash of the code of an entry.
-// Wrong answers: the hash of the next entry's code; only hashes below 255 given.
 pub fn hash_at(text: &[u8], places: &[usize], k: usize) -> usize
     ensures { λ r. ⌜ (r ≡ hashOf (codeAt (now (text .entry)) (now (places .entry)) k)) × (r < 256) ⌝ }
 {

@@ -8,17 +8,17 @@ use Rattle.bits.specs.Byte.{pick}
 use Rattle.vcd_text.specs.declared.Number.{Number}
 use Rattle.vcd_text.specs.declared.Number.the-variants.{Bad, Big, Of}
 use Rattle.vcd_text.specs.Token.{sameBytes, allGraphic, endWord, decimalOf}
-use Rattle.vcd_words.specs.declared.Keyword.{Keyword}
-use Rattle.vcd_words.specs.declared.Keyword.the-variants as keyword
-use Rattle.vcd_words.specs.declared.Sort.{Sort}
-use Rattle.vcd_words.specs.declared.Sort.the-variants.{Digital, Real, Neither}
+use Rattle.vcd_keywords.specs.declared.Keyword.{Keyword}
+use Rattle.vcd_keywords.specs.declared.Keyword.the-variants as keyword
+use Rattle.vcd_keywords.specs.declared.Sort.{Sort}
+use Rattle.vcd_keywords.specs.declared.Sort.the-variants.{Digital, Real, Neither}
 use Rattle.vcd_header.specs.declared.Section.{Section}
 use Rattle.vcd_header.specs.declared.Section.the-variants.{Outside, Text, Count, Letters, UnitEnd, ScopeType, ScopeName, VarType, VarSize, VarCode, VarName, VarIndex, Closing, Ending}
 use Rattle.vcd_header.specs.declared.Unit.{Unit}
 use Rattle.vcd_header.specs.declared.Pending.{Pending}
 use Rattle.vcd_header.specs.declared.Close.{Close}
 use Rattle.vcd_header.specs.declared.Head.{Head}
-use Rattle.vcd_words.specs.Words.{keywordOf, countOf, lettersOf, timesUnit, joinedOf, isScope, sortOf, pinOf, indexState}
+use Rattle.vcd_keywords.specs.Words.{keywordOf, countOf, lettersOf, timesUnit, joinedOf, isScope, sortOf, pinOf, indexState}
 
 -- ---- the head with some parts changed
 

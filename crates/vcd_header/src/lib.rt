@@ -4,21 +4,21 @@ ghost use Prim.Native.Nat.{_<_, _≤_};
 ghost use lib.Dec.{eqb};
 ghost use mathlib.Core.Bool.{false};
 ghost use Rattle.bits.specs.Byte.{pick};
-ghost use Rattle.vcd_words.specs.Words.{pinOf};
+ghost use Rattle.vcd_keywords.specs.Words.{pinOf};
 ghost use Rattle.vcd_header.specs.Header.{inSection, withUnit, withVariable, stopsAt, faulty as faultyOf, closedBy, keywordStep, textStep, countStep, lettersStep, unitStep, scopeStep, isName, scopeNameStep, pending as pendingOf, typeAs, sizeAs, codeStep, nameStep, wholeStep, indexStep, endingStep, stepAs, endAs, freshHead};
+use vcd_keywords::Keyword;
+use vcd_keywords::Sort;
+use vcd_keywords::count_of;
+use vcd_keywords::index_state;
+use vcd_keywords::is_scope;
+use vcd_keywords::joined_of;
+use vcd_keywords::keyword_of;
+use vcd_keywords::letters_of;
+use vcd_keywords::pin_of;
+use vcd_keywords::scaled;
+use vcd_keywords::sort_of;
 use vcd_text::Number;
 use vcd_text::is_end;
-use vcd_words::Keyword;
-use vcd_words::Sort;
-use vcd_words::count_of;
-use vcd_words::index_state;
-use vcd_words::is_scope;
-use vcd_words::joined_of;
-use vcd_words::keyword_of;
-use vcd_words::letters_of;
-use vcd_words::pin_of;
-use vcd_words::scaled;
-use vcd_words::sort_of;
 
 // What the reader of the header waits for.
 pub enum Section {
@@ -397,7 +397,6 @@ fn ending_step(t: &[u8], h: Head, e: usize) -> Head
 }
 
 // A token from place p to place e, by section.
-// Wrong answers: a size of 2 taken for a scalar's; a variable with an index taken for the scalar.
 pub fn step(section: Section, t: &[u8], h: Head, p: usize, e: usize) -> Head
     ensures { λ r. ⌜ r ≡ stepAs section (now (t .entry)) h p e ⌝ }
 {
@@ -420,7 +419,6 @@ pub fn step(section: Section, t: &[u8], h: Head, p: usize, e: usize) -> Head
 }
 
 // The end of a file of a size.
-// Wrong answers: a unit without letters told as a time that goes back; a file that ends between sections refused.
 pub fn end(h: Head, size: usize) -> Head
     ensures { λ r. ⌜ r ≡ endAs (h .section) h size ⌝ }
 {
@@ -445,7 +443,6 @@ pub fn end(h: Head, size: usize) -> Head
 }
 
 // Before the first token.
-// Wrong answers: a unit of 1 ps; one variable declared.
 pub fn fresh() -> Head
     ensures { λ r. ⌜ r ≡ freshHead ⌝ }
 {

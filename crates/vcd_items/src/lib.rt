@@ -261,7 +261,6 @@ fn item_as(kind: Kind, t: &[u8]) -> Item
 }
 
 // What a token is.
-// Wrong answers: x taken for a change to 0; $dumpflush taken for a dump.
 pub fn item_of(t: &[u8]) -> Item
     ensures { λ r. ⌜ r ≡ itemOf (now (t .entry)) ⌝ }
 {

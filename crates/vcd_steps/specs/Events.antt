@@ -2,7 +2,7 @@
 use Prim.Native.Nat.{ℕ, zero, suc, _+_, _*_, _/_}
 use mathlib.Core.Bool.{Bool, true, false}
 use mathlib.Core.List.{List, [], _∷_}
-use Rattle.vcd_room.specs.Room.{clockWord, pinWord}
+use Rattle.vcd_output.specs.Room.{clockWord, pinWord}
 
 -- time is in ps, place is that of the token's first byte; tick: the event is a clock
 pub record Event : Type 0 where

@@ -6,7 +6,7 @@ use lib.Dec.{eqb, ltb}
 use Rattle.bits.specs.Byte.{pick}
 use Rattle.vcd_text.specs.declared.Number.{Number}
 use Rattle.vcd_text.specs.declared.Number.the-variants.{Bad, Big, Of}
-use Rattle.vcd_room.specs.Room.{unpacked}
+use Rattle.vcd_output.specs.Room.{unpacked}
 use Rattle.vcd_codes.specs.Codes.{Found, undeclared, declared}
 use Rattle.vcd_items.specs.declared.Item.{Item}
 use Rattle.vcd_items.specs.declared.Item.the-variants as item

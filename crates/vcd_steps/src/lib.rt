@@ -129,7 +129,6 @@ fn change(found: u64, high: bool, scale: u64, s: State, p: usize) -> Step
 }
 
 // The code of a b or r change.
-// Wrong answers: an undeclared code refused where the last dump was opened, and not at the value; what another number stands for.
 pub fn step_code(found: u64, scale: u64, s: State, p: usize) -> Step
     ensures { λ r. ⌜ meaning scale p r ≡ codeOf (meant found) s ⌝ }
 {
@@ -169,7 +168,6 @@ fn comment(scale: u64, s: State, p: usize) -> Step
 }
 
 // A token of a comment, and whether it is `$end`.
-// Wrong answers: a comment that its first token ends; a token of a comment that moves the reader.
 pub fn step_comment(end: bool, scale: u64, s: State, p: usize) -> Step
     ensures { λ r. ⌜ meaning scale p r ≡ commented end s ⌝ }
 {
@@ -182,7 +180,6 @@ pub fn step_comment(end: bool, scale: u64, s: State, p: usize) -> Step
 // ---- a token
 
 // A token that stands by itself; what its code stands for, where it is a scalar change.
-// Wrong answers: an equal time taken for one that goes back; each change taken for one to 0.
 pub fn step_item(item: Item, found: u64, scale: u64, s: State, p: usize) -> Step
     ensures { λ r. ⌜ meaning scale p r ≡ itemStep item (meant found) scale s p ⌝ }
 {
@@ -215,7 +212,6 @@ fn plain_end(s: State) -> Ending
 }
 
 // What the end of the file cuts off.
-// Wrong answers: a dump that is cut off told at place 0; a comment that is cut off accepted.
 pub fn ended(s: State) -> Ending
     ensures { λ r. ⌜ r ≡ endsAs (s .mode) s ⌝ }
 {

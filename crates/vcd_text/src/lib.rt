@@ -5,7 +5,6 @@ ghost use lib.ListN.{drop};
 ghost use Rattle.vcd_text.specs.Token.{white as whiteOf, whiteLength, wordLength, sameBytes, graphic as graphicOf, allGraphic, endWord, numberOf, grownBy, longerBy, decimalOf};
 
 // The byte is white space. Most bytes are above 32: that is tested first.
-// Wrong answers: a tab taken for a byte of a word; a blank taken for one.
 pub fn white(b: u8) -> bool
     ensures { λ r. ⌜ r ≡ whiteOf b ⌝ }
 {
@@ -22,7 +21,6 @@ pub fn white(b: u8) -> bool
 }
 
 // The first place, from a place on, that is not white, or the end of the text.
-// Wrong answers: the place after it; a carriage return taken for a byte of a word.
 pub fn skip_white(text: &[u8], from: usize) -> usize
     ensures { λ r. ⌜ r ≡ from + whiteLength (drop from (now (text .entry))) ⌝ }
 {
@@ -38,7 +36,6 @@ pub fn skip_white(text: &[u8], from: usize) -> usize
 }
 
 // The first white place from a place on, or the end of the text.
-// Wrong answers: the place after it; counted from the word's begin.
 pub fn word_end(text: &[u8], from: usize) -> usize
     ensures { λ r. ⌜ r ≡ from + wordLength (drop from (now (text .entry))) ⌝ }
 {
@@ -53,7 +50,6 @@ pub fn word_end(text: &[u8], from: usize) -> usize
 }
 
 // Two texts are equal, byte for byte.
-// Wrong answers: true for a text that only begins the other; true for bytes that differ.
 pub fn same(a: &[u8], b: &[u8]) -> bool
     ensures { λ r. ⌜ r ≡ sameBytes (now (a .entry)) (now (b .entry)) ⌝ }
 {
@@ -73,7 +69,6 @@ pub fn same(a: &[u8], b: &[u8]) -> bool
 }
 
 // The token is `$end`.
-// Wrong answers: true for `$enc`; true for `end` without its `$`.
 pub fn is_end(t: &[u8]) -> bool
     ensures { λ r. ⌜ r ≡ sameBytes (now (t .entry)) endWord ⌝ }
 {
@@ -90,7 +85,6 @@ fn graphic(b: u8) -> bool
 }
 
 // Every byte is one that codes and names are made of.
-// Wrong answers: 7FH taken for a byte of names; a blank taken for one.
 pub fn all_graphic(t: &[u8]) -> bool
     ensures { λ r. ⌜ r ≡ allGraphic (now (t .entry)) ⌝ }
 {
@@ -160,7 +154,6 @@ fn appended(v: u64, d: u64) -> Number
 }
 
 // The number that a text is.
-// Wrong answers: 2^64 taken for a number that fits; a colon taken for a digit.
 pub fn decimal(t: &[u8]) -> Number
     ensures { λ r. ⌜ r ≡ decimalOf (now (t .entry)) ⌝ }
 {

@@ -3,12 +3,12 @@
 ghost use mathlib.Core.Path.{_≡_};
 ghost use lib.ListN.{length};
 use bus::OwnAddress;
-use explain::Followed;
-use explain::Reason;
-use explain::Reasons;
-use last_set::Sort;
 use libc::STDIN_FILENO;
 use libc::STDOUT_FILENO;
+use why_last_set::Sort;
+use why_reasons::Followed;
+use why_reasons::Reason;
+use why_reasons::Reasons;
 
 // What a block leaves, whether another may follow, and whether a read failed.
 struct Turn {
@@ -30,8 +30,8 @@ fn take_block(f: Followed) -> Turn {
     let filled = input::fill(STDIN_FILENO, &mut bytes);
     let n = filled.count;
     let mut words = places();
-    let count = recorder::words_of(&bytes[..n], &mut words);
-    let next = explain::follow(f, &words[..count]);
+    let count = recording_writer::words_of(&bytes[..n], &mut words);
+    let next = why_reasons::follow(f, &words[..count]);
     Turn {
         followed: next,
         more: (n == 65536) & !filled.failed,
@@ -104,7 +104,7 @@ fn finish(f: Followed, failed: bool) {
         os::fail(b"why: standard input");
         return;
     }
-    let is_written = print_all(explain::reasons_after(f));
+    let is_written = print_all(why_reasons::reasons_after(f));
     if is_written {
         return;
     }
@@ -113,7 +113,7 @@ fn finish(f: Followed, failed: bool) {
 
 // A proved loop has to end, and nothing says that the input does, so the loop counts blocks down, from a number that no run uses up.
 fn main() {
-    let mut f = explain::start(chip::fresh());
+    let mut f = why_reasons::start(chip::fresh());
     let mut blocks = u64::MAX;
     while blocks > 0 {
         let turn = take_block(f);

@@ -5,10 +5,10 @@ use mathlib.Core.Path.{_≡_, refl, sym, _∙_}
 use mathlib.Core.List.{List}
 use borrow.Author.Tests.{eq-eqb, ne-eqb}
 use Rattle.bits.specs.Byte.{pick}
-use Rattle.explain.specs.declared.Reasons.{Reasons}
-use Rattle.explain.specs.declared.Explanation.{Explanation}
-use Rattle.explain.specs.declared.Explanation.the-variants.{IllFormed, Told}
-use Rattle.explain.specs.Explain.{why}
+use Rattle.why_reasons.specs.declared.Reasons.{Reasons}
+use Rattle.why_reasons.specs.declared.Explanation.{Explanation}
+use Rattle.why_reasons.specs.declared.Explanation.the-variants.{IllFormed, Told}
+use Rattle.why_reasons.specs.Explain.{why}
 use Rattle.state_area.specs.declared.Loaded.{Loaded}
 use Rattle.state_area.specs.Area.{loaded}
 use Rattle.why_capi.specs.Told.{numbersOf, whyNumberIn, toldIn}

@@ -5,14 +5,14 @@ use lib.Dec.{eqb}
 use Rattle.bits.specs.Byte.{pick}
 use Rattle.bus.specs.declared.OwnAddress.{OwnAddress}
 use Rattle.bus.specs.declared.OwnAddress.the-variants.{A0, IiAdr, Both}
-use Rattle.last_set.specs.declared.Sort.{Sort}
-use Rattle.last_set.specs.declared.Sort.the-variants.{VsyncRise, P16Rise, Timer, MatchedAddress, NinthClock, Ddc1Load, SclFall}
-use Rattle.explain.specs.declared.Reason.{Reason}
-use Rattle.explain.specs.declared.Reason.the-variants.{NotRequested, AlreadySet, Event}
-use Rattle.explain.specs.declared.Reasons.{Reasons}
-use Rattle.explain.specs.declared.Explanation.{Explanation}
-use Rattle.explain.specs.declared.Explanation.the-variants.{IllFormed, Told}
-use Rattle.explain.specs.Explain.{why, whyNumber}
+use Rattle.why_last_set.specs.declared.Sort.{Sort}
+use Rattle.why_last_set.specs.declared.Sort.the-variants.{VsyncRise, P16Rise, Timer, MatchedAddress, NinthClock, Ddc1Load, SclFall}
+use Rattle.why_reasons.specs.declared.Reason.{Reason}
+use Rattle.why_reasons.specs.declared.Reason.the-variants.{NotRequested, AlreadySet, Event}
+use Rattle.why_reasons.specs.declared.Reasons.{Reasons}
+use Rattle.why_reasons.specs.declared.Explanation.{Explanation}
+use Rattle.why_reasons.specs.declared.Explanation.the-variants.{IllFormed, Told}
+use Rattle.why_reasons.specs.Explain.{why, whyNumber}
 use Rattle.state_area.specs.Area.{loaded}
 
 -- the code of an answer: 0 not requested, 1 set at the start and never cleared, and the sorts from 2 on, a matched address by its outcome

@@ -2,10 +2,10 @@
 ghost use mathlib.Core.Path.{_≡_};
 ghost use Rattle.why_capi.specs.Told.{ownCode, sortCode, reasonCode, reasonPlace, numbersOf, whyNumberIn, toldIn};
 use bus::OwnAddress;
-use explain::Explanation;
-use explain::Reason;
-use explain::Reasons;
-use last_set::Sort;
+use why_last_set::Sort;
+use why_reasons::Explanation;
+use why_reasons::Reason;
+use why_reasons::Reasons;
 
 fn own_code(own: OwnAddress) -> u64
     ensures { λ r. ⌜ r ≡ ownCode own ⌝ }
@@ -79,7 +79,6 @@ fn numbers_of(reasons: Reasons) -> [u64; 12]
 
 // Tells why the lines are as they are after the words, from the state in the area, which stays as it is. Or gives 15 or 8 for the area, and
 // tells nothing.
-// Wrong answers: the code of a load for the ninth clock; an area refused with 8 read, and a good one not.
 #[no_mangle]
 pub extern "C" fn nt6861_why(area: &[u8], words: &[u32], told: &mut [u64; 12]) -> u8
     ensures { λ r. ⌜ (r ≡ whyNumberIn (now (area .entry)) (now (words .entry))) × (now (told .exit) ≡ toldIn (now (area .entry)) (now (words .entry)) (now (told .entry))) ⌝ }
@@ -88,7 +87,7 @@ pub extern "C" fn nt6861_why(area: &[u8], words: &[u32], told: &mut [u64; 12]) -
     let number = read.number;
     if number == 0 {
         let c = read.state;
-        match explain::why(c, words) {
+        match why_reasons::why(c, words) {
             Explanation::IllFormed => 8,
             Explanation::Told(reasons) => {
                 *told = numbers_of(reasons);

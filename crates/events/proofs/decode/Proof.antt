@@ -1,20 +1,23 @@
--- `events::decode` meets its contract.
-use Rattle.events.specs.Word.{decode}
+-- `events::decode` meets its contract: the event of each word that is met first is what its fields say.
+use Rattle.events.specs.Word.{decode, noEvent, noPlace, badByte, event}
 use borrow.Author.Needs.{needs}
 use Rattle.events.proofs.EventWord.{decode-case}
 use Rattle.events.proofs.decode.Statement.{statement}
 use Rattle.events.proofs.decode.Tie as tie
 
 pub decode-spec : {M : Type 1} → statement M
-unfolding decode
+unfolding decode noEvent noPlace badByte event
 decode-spec =
     tie.close
     (tie.spec
     (λ c κs. search needs)
-    (λ c. decode-case _ _ (simp (← (c .before .no-event .ensures), c .if1 .taken)))
-    (λ c κs. search needs)
-    (λ c. decode-case _ _ (simp (← (c .before .no-place .ensures), c .if2 .taken, ← (c .before .before .before .no-event .ensures), c .before .before .if1 .left)))
-    (λ c κs. search needs)
-    (λ c. decode-case _ _ (simp (← (c .before .bad-byte .ensures), c .if3 .taken, ← (c .before .before .before .no-place .ensures), c .before .before .if2 .left, ← (c .before .before .before .before .before .no-event .ensures), c .before .before .before .before .if1 .left)))
-    (λ c κs. search needs)
-    (λ c. decode-case _ _ (simp (c .event .ensures, ← (c .before .before .bad-byte .ensures), c .before .if3 .left, ← (c .before .before .before .before .no-place .ensures), c .before .before .before .if2 .left, ← (c .before .before .before .before .before .before .no-event .ensures), c .before .before .before .before .before .if1 .left))))
+    (λ c. decode-case _ _ (simp (c .match .keys1)))
+    (λ c. decode-case _ _ (simp (c .match .keys2)))
+    (λ c. decode-case _ _ (simp (c .match .keys3)))
+    (λ c. decode-case _ _ (simp (c .match .keys4)))
+    (λ c. decode-case _ _ (simp (c .match .keys5)))
+    (λ c. decode-case _ _ (simp (c .match .keys6)))
+    (λ c. decode-case _ _ (simp (c .match .keys7)))
+    (λ c. decode-case _ _ (simp (c .match .keys8)))
+    (λ c. decode-case _ _ (simp (c .match .keys9)))
+    (λ c. decode-case _ _ (c .by-fields .ensures)))

@@ -3,7 +3,7 @@
 use mathlib.Core.Path.{sym}
 use lib.Seq.{length-take-le}
 use borrow.Author.Needs.{needs}
-use Rattle.feed_words.proofs.Filled.{placed-within}
+use Rattle.edid_feed.proofs.Filled.{placed-within}
 use Rattle.feed.proofs.send.Statement.{statement}
 use Rattle.feed.proofs.send.Tie as tie
 

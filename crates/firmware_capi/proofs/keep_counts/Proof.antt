@@ -1,6 +1,6 @@
 -- `firmware_capi::keep_counts` meets its contract.
 -- Assumes nothing.
-use Rattle.places.proofs.Areas.{two-places}
+use Rattle.list_laws.proofs.Areas.{two-places}
 use borrow.Author.Needs.{needs}
 use Rattle.firmware_capi.proofs.keep_counts.Statement.{statement}
 use Rattle.firmware_capi.proofs.keep_counts.Tie as tie

@@ -2,7 +2,7 @@
 -- Assumes nothing.
 use lib.ListN.{length-set}
 use Rattle.firmware_capi.specs.Call.{cpuBytes}
-use Rattle.places.proofs.Areas.{eight-places}
+use Rattle.list_laws.proofs.Areas.{eight-places}
 use native.Mathlib.Omega.{arith}
 use borrow.Author.Needs.{needs}
 use Rattle.firmware_capi.proofs.keep_cpu.Statement.{statement}

@@ -1,6 +1,6 @@
 use borrow.Author.Tests.{lt-ltb, le-ltb, eq-eqb, ne-eqb}
 use mathlib.Core.Path.{refl}
-use Rattle.machine.specs.Run.{firmware}
+use Rattle.firmware_machine.specs.Run.{firmware}
 use borrow.Author.Needs.{needs}
 use Rattle.firmware_run.proofs.run.Statement.{statement}
 use Rattle.firmware_run.proofs.run.Tie as tie

@@ -3,8 +3,8 @@ use native.Mathlib.Omega.{arith}
 use borrow.Author.Needs.{needs}
 use borrow.Author.Tests.{eq-eqb, ne-eqb}
 use Rattle.chip.specs.State.{chipOf}
-use Rattle.machine.specs.Machine.{machine}
-use Rattle.machine.specs.Run.{runs}
+use Rattle.firmware_machine.specs.Machine.{machine}
+use Rattle.firmware_machine.specs.Run.{runs}
 use Rattle.firmware_run.proofs.Going.{Going, measure, some, afterEvents-less, afterEvents-goes, on-less, on-goes, on-ends, first, finish, stop}
 use Rattle.firmware_run.proofs.run_all.Statement.{statement}
 use Rattle.firmware_run.proofs.run_all.Tie as tie

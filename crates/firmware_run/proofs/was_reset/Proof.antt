@@ -1,4 +1,4 @@
-use Rattle.outcome.specs.Outcome.{wasReset}
+use Rattle.chip_events.specs.Outcome.{wasReset}
 use borrow.Author.Needs.{needs}
 use Rattle.firmware_run.proofs.was_reset.Statement.{statement}
 use Rattle.firmware_run.proofs.was_reset.Tie as tie

@@ -1,7 +1,7 @@
 -- `firmware_steps::load` meets its contract.
 -- Assumes nothing.
 use native.Mathlib.Omega.{arith}
-use Rattle.machine.specs.Machine.{load}
+use Rattle.firmware_machine.specs.Machine.{load}
 use borrow.Author.Needs.{needs}
 use Rattle.firmware_steps.proofs.load.Statement.{statement}
 use Rattle.firmware_steps.proofs.load.Tie as tie

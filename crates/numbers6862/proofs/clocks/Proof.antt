@@ -4,7 +4,7 @@ use mathlib.Core.Path.{_≡_, refl, ap, _∙_}
 use Prim.Native.Nat.{_-_}
 use borrow.Author.Needs.{needs}
 use Rattle.sync6862.specs.declared.Outcome.{Outcome}
-use Rattle.counting6862.specs.Counting.{run, clocks}
+use Rattle.sync6862_laws.specs.Counting.{run, clocks}
 use Rattle.numbers6862.proofs.Times.{one-more, none-left}
 use Rattle.numbers6862.proofs.clocks.Statement.{statement}
 use Rattle.numbers6862.proofs.clocks.Tie as tie

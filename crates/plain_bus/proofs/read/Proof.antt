@@ -3,6 +3,7 @@
 use mathlib.Core.Path.{refl, sym, _∙_}
 use borrow.Author.Needs.{needs}
 use Rattle.plain_bus.specs.Reading.{reading, placesLeft}
+use Rattle.plain_bus.proofs.Numbers.{read-case, good-case}
 use Rattle.plain_bus.proofs.read.Statement.{statement}
 use Rattle.plain_bus.proofs.read.Tie as tie
 
@@ -17,6 +18,8 @@ read-spec =
     (λ c. search needs)
     (λ c. search needs)
     (λ c. search needs)
-    (λ c. rw (sym (c .before .before .before .before .before .before .first-fault .ensures) ∙ c .before .before .before .before .enum-told .given .1) (c .before .before .listed .ensures .0, c .before .before .listed .ensures .1))
-    (λ c. rw (sym (c .before .before .first-fault .ensures) ∙ c .enum-told2 .given .1) (refl, refl))
-    (λ c. rw (sym (c .before .before .first-fault .ensures) ∙ c .enum-told3 .given .1) (refl, refl)))
+    (λ c.
+    let fault = sym (c .before .before .before .before .before .before .first-fault .ensures) ∙ c .before .before .before .before .enum-told .given .1 in
+    good-case _ _ _ _ _ fault (c .before .before .listed .ensures))
+    (λ c. let fault = sym (c .before .before .first-fault .ensures) ∙ c .enum-told2 .given .1 in read-case _ _ _ _ _ (rw fault (refl, refl)) (rw fault))
+    (λ c. let fault = sym (c .before .before .first-fault .ensures) ∙ c .enum-told3 .given .1 in read-case _ _ _ _ _ (rw fault (refl, refl)) (rw fault)))

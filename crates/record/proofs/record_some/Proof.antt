@@ -5,7 +5,7 @@ use Prim.Native.Nat.{_≤_}
 use lib.ListN.{length}
 use lib.Seq.{length-take-le}
 use borrow.Author.Needs.{needs}
-use Rattle.recorder.proofs.Chunks.{words-within, bytes-within}
+use Rattle.recording_writer.proofs.Chunks.{words-within, bytes-within}
 use Rattle.record.proofs.record_some.Statement.{statement}
 use Rattle.record.proofs.record_some.Tie as tie
 

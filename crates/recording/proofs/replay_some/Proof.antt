@@ -6,7 +6,7 @@ use native.Mathlib.Omega.{arith}
 use lib.ListN.{length}
 use lib.Seq.{length-take-le}
 use borrow.Author.Needs.{needs}
-use Rattle.block_replay.proofs.Recordings.{count-within}
+use Rattle.recording_replay.proofs.Recordings.{count-within}
 use Rattle.recording.proofs.replay_some.Statement.{statement}
 use Rattle.recording.proofs.replay_some.Tie as tie
 

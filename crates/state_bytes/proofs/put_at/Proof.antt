@@ -5,7 +5,7 @@ use Prim.Native.Nat.{_-_}
 use lib.ListN.{length}
 use borrow.Rule.Slice.PartMut.{putMid}
 use borrow.Author.Needs.{needs}
-use Rattle.places.proofs.Place.{placed}
+use Rattle.list_laws.proofs.Place.{placed}
 use Rattle.state_bytes.proofs.put_at.Statement.{statement}
 use Rattle.state_bytes.proofs.put_at.Tie as tie
 

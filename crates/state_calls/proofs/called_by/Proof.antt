@@ -2,7 +2,7 @@
 -- Assumes nothing.
 use Prim.Native.Nat.{ℕ, _*_}
 use Rattle.chip.specs.declared.Chip.{Chip}
-use Rattle.address_outcome.specs.AddressOutcome.{outcomeReport, outcomeWord}
+use Rattle.chip_address_match.specs.AddressOutcome.{outcomeReport, outcomeWord}
 use Rattle.state_calls.specs.Calls.{refusalWord, outcomeIn}
 use Rattle.state_calls.proofs.Opened.{done, refused}
 use borrow.Author.Needs.{needs}

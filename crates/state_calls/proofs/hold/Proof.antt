@@ -2,7 +2,7 @@
 -- Assumes nothing.
 use Prim.Native.Nat.{ℕ, _*_}
 use Rattle.chip.specs.declared.Chip.{Chip}
-use Rattle.hold.specs.Hold.{holdReport, holdWord}
+use Rattle.chip_hold.specs.Hold.{holdReport, holdWord}
 use Rattle.state_calls.specs.Calls.{refusalWord, holdIn}
 use Rattle.state_calls.proofs.Opened.{done, refused}
 use borrow.Author.Needs.{needs}

@@ -3,7 +3,7 @@
 use mathlib.Core.Path.{sym, _∙_}
 use Prim.Native.Nat.{ℕ}
 use Rattle.chip.specs.declared.Chip.{Chip}
-use Rattle.run.specs.Run.{run, runAnswers}
+use Rattle.list_call.specs.Run.{run, runAnswers}
 use Rattle.state_area.specs.Area.{loaded}
 use Rattle.state_calls.specs.Calls.{runNumber, runArea, runPlaces}
 use Rattle.state_calls.proofs.Opened.{done, put-done, well, untested, refused}

@@ -1,7 +1,7 @@
 -- `step::advance_core` meets its contract.
 -- Assumes nothing.
 use Rattle.step.specs.Step.{advance, answered}
-use Rattle.outcome.specs.Outcome.{outcome, next}
+use Rattle.chip_events.specs.Outcome.{outcome, next}
 use borrow.Author.Needs.{needs}
 use Rattle.step.proofs.advance_core.Statement.{statement}
 use Rattle.step.proofs.advance_core.Tie as tie

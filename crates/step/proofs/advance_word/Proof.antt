@@ -1,7 +1,6 @@
--- `step::advance_word` meets its contract.
+-- `step::advance_word` meets its contract: the event of a common word is what the word decodes to, and moves the core alone.
 -- Assumes nothing.
-use mathlib.Core.Bool.{true, false}
-use Rattle.step.proofs.Words.{hsynci, period, hsynci-low, hsynci-high, period-clock}
+use Rattle.step.proofs.Words.{hsynci, period}
 use borrow.Author.Needs.{needs}
 use Rattle.step.proofs.advance_word.Statement.{statement}
 use Rattle.step.proofs.advance_word.Tie as tie
@@ -12,20 +11,21 @@ advance-word-spec =
     (tie.spec
     (λ c κs. search needs)
     (λ c κs. search needs)
+    (λ c. search needs)
+    (λ c κs. search needs)
+    (λ c κs. search needs)
+    (λ c. search needs)
     (λ c κs. search needs)
     (λ c κs. search needs)
     (λ c κs. search needs)
+    (λ c. search needs)
     (λ c κs. search needs)
-    (λ c κs. search needs)
-    (λ c κs. search needs)
-    (λ c κs. search needs)
-    (λ c. simp (c .core-moved .ensures, c .before .pin-moved .ensures, c .before .before .before .match .keys1, hsynci-low) (hsynci _ _ false))
-    (λ c. simp (c .core-moved2 .ensures, c .before .pin-moved2 .ensures, c .before .before .before .match .keys2, hsynci-high) (hsynci _ _ true))
-    (λ c. simp (
-      c .core-moved3 .ensures,
-      c .before .clocked .ensures,
-      c .before .before .before .register-at .ensures,
-      c .before .before .before .before .before .before .match .keys3,
-      period-clock,
-    ) (period _ _))
-    (λ c. rw (c .before .decode .ensures .0) at (c .advance-core .ensures)))
+    (λ c.
+    let told = c .before .before .before .before in
+    let is = told .before .before in
+    simp (c .core-moved .ensures, c .before .pin-moved .ensures, ← (is .before .decode .ensures .0), ← (rw (told .level .given .1) at (is .common-of .ensures))) (hsynci _ _ _))
+    (λ c.
+    let told = c .before .before .before .before .before .before in
+    let is = told .before .before in
+    simp (c .core-moved2 .ensures, c .before .clocked .ensures, c .before .before .before .register-at .ensures, ← (is .before .decode .ensures .0), ← (rw (told .enum-told .given .1) at (is .common-of .ensures))) (period _ _))
+    (λ c. rw (c .before .before .before .before .before .decode .ensures .0) at (c .advance-core .ensures)))

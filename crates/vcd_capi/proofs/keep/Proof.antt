@@ -2,7 +2,7 @@
 -- Assumes nothing.
 use lib.ListN.{length-set}
 use Rattle.vcd_capi.specs.Export.{cursorNumbers}
-use Rattle.places.proofs.Areas.{eight-places}
+use Rattle.list_laws.proofs.Areas.{eight-places}
 use native.Mathlib.Omega.{arith}
 use borrow.Author.Needs.{needs}
 use Rattle.vcd_capi.proofs.keep.Statement.{statement}

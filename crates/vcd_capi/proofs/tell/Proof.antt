@@ -1,6 +1,6 @@
 -- `vcd_capi::tell` meets its contract.
 -- Assumes nothing.
-use Rattle.places.proofs.Areas.{two-places}
+use Rattle.list_laws.proofs.Areas.{two-places}
 use borrow.Author.Needs.{needs}
 use Rattle.vcd_capi.proofs.tell.Statement.{statement}
 use Rattle.vcd_capi.proofs.tell.Tie as tie

@@ -5,7 +5,7 @@ use Prim.Native.Nat.{_≤_}
 use lib.ListN.{length}
 use lib.Seq.{length-take-le}
 use borrow.Author.Needs.{needs}
-use Rattle.recorder.proofs.Chunks.{words-within}
+use Rattle.recording_writer.proofs.Chunks.{words-within}
 use Rattle.why.proofs.take_block.Statement.{statement}
 use Rattle.why.proofs.take_block.Tie as tie
 

@@ -1,7 +1,0 @@
-use mathlib.Core.Path.{refl}
-use borrow.Author.Needs.{needs}
-use Rattle.addressing.proofs.ahead.Statement.{statement}
-use Rattle.addressing.proofs.ahead.Tie as tie
-
-pub ahead-spec : {M : Type 1} → statement M
-ahead-spec = tie.close (tie.spec (λ c. search needs) (λ c. search needs) (λ c. refl))

@@ -1,7 +1,0 @@
-use mathlib.Core.Path.{refl}
-use borrow.Author.Needs.{needs}
-use Rattle.addressing.proofs.joined.Statement.{statement}
-use Rattle.addressing.proofs.joined.Tie as tie
-
-pub joined-spec : {M : Type 1} → statement M
-joined-spec = tie.close (tie.spec (λ c. search needs) (λ c. search needs) (λ c. refl))

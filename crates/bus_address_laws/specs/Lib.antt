@@ -1,0 +1,3 @@
+pub mod Addressed
+pub mod Worked
+pub mod Gathered

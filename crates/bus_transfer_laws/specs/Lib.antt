@@ -1,0 +1,4 @@
+pub mod Transfers
+pub mod Ports
+pub mod Altered
+pub mod Worked

@@ -1,0 +1,4 @@
+pub mod Levels
+pub mod Interval
+pub mod Ddc1
+pub mod Worked

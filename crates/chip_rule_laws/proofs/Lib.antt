@@ -1,0 +1,10 @@
+pub mod Levels
+pub mod Steady
+pub mod Acknowledge
+pub mod Resets
+pub mod Clearing
+pub mod Shown
+pub mod Ddc1
+pub mod Timer
+pub mod Counters
+pub mod Status

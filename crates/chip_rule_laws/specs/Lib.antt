@@ -1,0 +1,10 @@
+pub mod Levels
+pub mod Acknowledge
+pub mod Resets
+pub mod Clearing
+pub mod Timer
+pub mod Counters
+pub mod Status
+pub mod Ddc1
+pub mod Steady
+pub mod Shown

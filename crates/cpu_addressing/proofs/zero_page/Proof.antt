@@ -1,0 +1,15 @@
+use Rattle.cpu_memory.proofs.Runs.{run-then, run-read, run-done, run-undocumented}
+use borrow.Author.Needs.{needs}
+use Rattle.cpu_addressing.proofs.zero_page.Statement.{statement}
+use Rattle.cpu_addressing.proofs.zero_page.Tie as tie
+
+pub zero-page-spec : {M : Type 1} → statement M
+zero-page-spec =
+    tie.close
+    (tie.spec
+    (λ c κs. search needs)
+    (λ c. search needs)
+    (λ c κs. search needs)
+    (λ c. search needs)
+    (λ c. simp (run-then, run-read, run-done, run-undocumented, c .sum-in-page .ensures, c .before .before .p .given .1, ← (c .before .before .before .before .load .ensures)))
+    (λ c. simp (run-then, run-read, run-done, run-undocumented, c .before .p2 .given .1, ← (c .before .before .before .load .ensures))))

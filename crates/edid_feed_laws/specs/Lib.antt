@@ -1,0 +1,3 @@
+pub mod Observer
+pub mod Levels
+pub mod Words

@@ -1,0 +1,4 @@
+pub mod Tokens
+pub mod Meaning
+pub mod Round
+pub mod Converse

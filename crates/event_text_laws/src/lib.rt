@@ -1,0 +1,1 @@
+// Events as text, both ways: laws alone.

@@ -1,2 +1,0 @@
-pub mod Observer
-pub mod Levels

@@ -1,0 +1,10 @@
+pub mod Observers
+pub mod Turns
+pub mod Lists
+pub mod Listed
+pub mod Runs
+pub mod Parts
+pub mod Along
+pub mod Cleared
+pub mod Words
+pub mod Opened

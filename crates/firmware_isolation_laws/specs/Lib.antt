@@ -1,0 +1,4 @@
+pub mod Trace
+pub mod Transfers
+pub mod Words
+pub mod Related

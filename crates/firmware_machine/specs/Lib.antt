@@ -1,0 +1,5 @@
+pub mod Machine
+pub mod Run
+pub mod Seen
+pub mod Shows
+pub mod Turns

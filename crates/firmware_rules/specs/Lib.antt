@@ -1,6 +1,0 @@
-pub mod Numbers
-pub mod History
-pub mod Parts
-pub mod Interrupts
-pub mod Writes
-pub mod Refusals

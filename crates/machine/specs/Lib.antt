@@ -1,3 +1,0 @@
-pub mod Machine
-pub mod Run
-pub mod Seen

@@ -1,3 +1,0 @@
-pub mod Levels
-pub mod Interval
-pub mod Ddc1

@@ -1,9 +1,0 @@
-use mathlib.Core.Path.{refl}
-use borrow.Author.Needs.{needs}
-use Rattle.opcodes.specs.Opcodes.{lengthOf}
-use Rattle.opcodes.proofs.length_of.Statement.{statement}
-use Rattle.opcodes.proofs.length_of.Tie as tie
-
-pub length-of-spec : {M : Type 1} → statement M
-unfolding lengthOf
-length-of-spec = tie.close (tie.spec (λ c. search needs) (λ c. refl))

@@ -1,8 +1,0 @@
-use mathlib.Core.Path.{refl}
-use Rattle.opcodes.specs.Table.{opcodes}
-use Rattle.opcodes.proofs.table.Statement.{statement}
-use Rattle.opcodes.proofs.table.Tie as tie
-
-pub table-spec : {M : Type 1} → statement M
-unfolding opcodes
-table-spec = tie.close (tie.spec (λ c. refl))

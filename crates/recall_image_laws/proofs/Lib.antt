@@ -1,0 +1,5 @@
+pub mod Opened
+pub mod Stored
+pub mod Wait
+pub mod Recall
+pub mod Files

@@ -1,3 +1,0 @@
-pub mod Transfers
-pub mod Ports
-pub mod Altered

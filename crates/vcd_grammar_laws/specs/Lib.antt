@@ -1,0 +1,4 @@
+pub mod Words
+pub mod Body
+pub mod Header
+pub mod Refusals

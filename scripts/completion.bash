@@ -1,0 +1,26 @@
+# Completion for bash: source scripts/completion.bash. Made by scripts/manual.py from scripts/commands.txt.
+_nt6861() {
+    local words='' word=${COMP_WORDS[COMP_CWORD]}
+    if [ "$COMP_CWORD" = 1 ]; then
+        words='replay words why firmware vcd addresses edid feed record recording counters6862 -h'
+    elif [[ $word == -* ]]; then
+        case ${COMP_WORDS[1]} in
+        replay) words='-h' ;;
+        words) words='-h' ;;
+        why) words='-h' ;;
+        firmware) words='-t -h' ;;
+        vcd) words='-h' ;;
+        addresses) words='-h' ;;
+        edid) words='-h' ;;
+        feed) words='-h' ;;
+        record) words='-h' ;;
+        recording) words='-h' ;;
+        counters6862) words='-h' ;;
+        esac
+    else
+        mapfile -t COMPREPLY < <(compgen -f -- "$word")
+        return
+    fi
+    mapfile -t COMPREPLY < <(compgen -W "$words" -- "$word")
+}
+complete -o filenames -F _nt6861 nt6861 ./nt6861
