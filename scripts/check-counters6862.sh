@@ -1,6 +1,6 @@
 #!/usr/bin/env bash
 # Compares `./nt6861 counters6862` with the independent model of the counters: generated scripts of four seeds, the hand-worked
-# lines of crates/counters6862, malformed lines, and the example of the README; then the calls of the C interface, linked from their
+# lines of crates/counters6862 and malformed lines; then the calls of the C interface, linked from their
 # static library, from C by the header and, beside the same model, from Rust. A difference prints the line and both outputs.
 set -euo pipefail
 cd "$(dirname "$0")/.."
@@ -45,12 +45,6 @@ for bad in x 'h' 'h 0 0' 'h  0 ' ' h 0' 'clrh 0' 'clrv ' 'field 1' 'put 12 0' 'p
     same "line '$bad'"
     malformed=$((malformed + 1))
 done
-
-# the README's example, as written there
-sed -n 's/^    \(printf .*counters6862\)$/\1/p' README.md > "$work/example.sh"
-sed -n 's/^    \([0-9]* 686[12] .*\)$/\1/p' README.md > "$work/example"
-[ -s "$work/example.sh" ] && [ -s "$work/example" ] || { echo "counters6862: no example in README.md"; exit 1; }
-bash "$work/example.sh" | cmp - "$work/example" || { echo "counters6862: the example of README.md differs"; exit 1; }
 
 library sync6862_capi
 cc -std=c99 -Wall -Wextra -Werror -Iinclude -o "$work/c" tests/counters6862.c target/staticlib/libsync6862_capi.a

@@ -1,7 +1,7 @@
 #!/usr/bin/env python3
 """manual.py [--check]: writes the manual page nt6861.1, the completion for bash and README's table of commands, all from scripts/commands.txt.
 
-A command whose crate is not in crates.txt is left out, as ./nt6861 leaves it out. With --check nothing is written, and what differs is told.
+A command whose crate is not in crates.txt is left out, as ./nt6861 leaves it out; one of a script has none. With --check nothing is written, and what differs is told.
 """
 import pathlib
 import re
@@ -21,7 +21,7 @@ def entries():
         field, _, text = line.partition(" ")
         if field == "command":
             name, fields = text, {}
-        elif field == "crate" and text in crates:
+        elif field == "script" or field == "crate" and text in crates:
             shown[name] = fields
         fields.setdefault(field, []).append(text)
     return shown
@@ -103,7 +103,8 @@ def main():
     if len(shown) < 10:
         sys.exit(f"manual: {len(shown)} commands are found")
     page = pathlib.Path("README.md").read_text()
-    bad = [f"README.md has no line with './nt6861 {name}'" for name in shown if not re.search(rf"\./nt6861 {name}\b", page)]
+    pages = page + "".join(pathlib.Path(f"docs/{name}.md").read_text() for name in ("COMMANDS", "CAPTURES", "FIRMWARE"))
+    bad = [f"neither README.md nor a page for users has './nt6861 {name}'" for name in shown if not re.search(rf"\./nt6861 {name}\b", pages)]
     for path, text in (("nt6861.1", manual(shown)), ("scripts/completion.bash", completion(shown)), ("README.md", readme(shown, page))):
         file = pathlib.Path(path)
         if "--check" not in sys.argv:

@@ -41,6 +41,10 @@ read_table() {
             shown+=("$name")
             entry[$name crate]=${line#crate }
             ;;
+        'script '*)
+            shown+=("$name")
+            entry[$name script]=${line#script }
+            ;;
         *)
             field=${line%% *}
             [ -z "$name" ] || entry[$name $field]=${entry[$name $field]+${entry[$name $field]}$'\n'}${line#"$field" }
@@ -277,6 +281,10 @@ main() {
     command=$1
     shift
     case ${1:-} in -h | --help) told usage_of "$command" ;; esac
+    if [ -n "${entry[$command script]:-}" ]; then
+        { : 3>&1; } 2> /dev/null || fail "standard output is closed"
+        exec "$top/${entry[$command script]}" "$@"
+    fi
     case ${entry[$command input]} in
     file) input "$@" ;;
     'byte file') input_byte "$@" ;;

@@ -299,7 +299,7 @@ def report(rows, skipped, left):
     lines = [
         "# Wrong answers that were run",
         "",
-        "The last result of `scripts/check-wrong-answers.sh`, which writes this page. Each wrong answer of a must-fail edit that changes code",
+        "For whoever doubts that a refused program is wrong. The last result of `scripts/check-wrong-answers.sh`, which writes this page. Each wrong answer of a must-fail edit that changes code",
         "was built unproved, with that edit alone, and run beside the right program; the run named in the last column differed.",
         "`driver NAME` is `tests/drivers/NAME.txt`, `listings` are those of `crates/vectors/data` and one of generated words with the",
         "independent model's answers (generated.txt), and another name is the program `crates/NAME` over its file `stdin`.",
