@@ -5,4 +5,5 @@ cd "$(dirname "$0")/.."
 source scripts/library.sh
 front vcd vcd_capi
 front addresses addresses_capi
+front hosted firmware_capi chip_capi
 python3 scripts/readme.py README.md

@@ -68,7 +68,7 @@ def manual(shown):
 
 
 def completion(shown):
-    options = [f"        {name}) words='{' '.join(re.findall(r'-[a-z]', fields['usage'][0]) + ['-h'])}' ;;" for name, fields in shown.items()]
+    options = [f"        {name}) words='{' '.join(re.findall(r'--?[a-z][a-z-]*(?![A-Z])', fields['usage'][0]) + ['-h'])}' ;;" for name, fields in shown.items()]
     return "\n".join([
         "# Completion for bash: source scripts/completion.bash. Made by scripts/manual.py from scripts/commands.txt.",
         "_nt6861() {",
