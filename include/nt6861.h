@@ -95,6 +95,9 @@ enum nt6861_number {
 #define NT6861_REQUESTS_OF(answer) ((uint32_t)(answer) >> 8 & 0x3f)
 #define NT6861_BYTE_OF(answer) ((uint32_t)(answer) & 0xff)
 
+/* Bits of nt6861_lines. */
+enum nt6861_line { NT6861_LINE_SDA = 1, NT6861_LINE_SCL = 2, NT6861_LINE_PULLS_SDA = 4, NT6861_LINE_PULLS_SCL = 8 };
+
 /* The bytes of a chip. */
 #define NT6861_AREA 128
 
@@ -122,6 +125,11 @@ uint8_t nt6861_replay(const uint32_t *words, size_t count, uint32_t *answers, si
 /* How long the chip has held SCL low: bits 31..24 the number (0, 15 or 8), below it the clocks of 8 us, 0 to 65535; 0 too where SCL is
  * not held. */
 uint32_t nt6861_hold(const uint8_t *area, size_t length);
+
+/* The lines of the bus as the outside and the chip leave them: bits 31..24 the number (0, 15 or 8); below it bit 0 is the level of SDA and
+ * bit 1 that of SCL, as PT3 has them, and bits 2 and 3 say that the chip pulls SDA and SCL. With DDC off the lines are P30 and P31, open
+ * drain, and a 0 in the latch of PT3 pulls. */
+uint32_t nt6861_lines(const uint8_t *area, size_t length);
 
 /* By which of its addresses the chip was called in the transfer under way: bits 31..24 the number (0, 15 or 8), below it 0 none, 1 A0H,
  * 2 II ADR, 3 both. */

@@ -662,6 +662,18 @@ impl Chip {
         self.level(pin::SDA) && !self.pull_sda
     }
 
+    /// Both lines as they are reported: SDA and SCL in bits 0 and 1, and that the chip pulls them in bits 2 and 3. With DDC off
+    /// the pins are P30 and P31, and a 0 in the latch pulls.
+    pub fn lines(&self) -> u32 {
+        let (sda, scl) = if self.ddc_on() {
+            (self.pull_sda, self.pull_scl)
+        } else {
+            (!bit(self.pt3, 0), !bit(self.pt3, 1))
+        };
+        let levels = [self.level(pin::SDA) && !sda, self.level(pin::SCL) && !scl, sda, scl];
+        levels.iter().rev().fold(0, |word, &level| word << 1 | level as u32)
+    }
+
     /// For how many 8 µs clocks SCL has been held; None while it is not.
     pub fn hold(&self) -> Option<u16> {
         (self.phase == Phase::Held).then_some(self.held_clocks)

@@ -90,16 +90,16 @@ fn ddc2b_serves_the_block() {
 fn ddc2b_serves_parts_at_other_speeds() {
     // From an offset, over the end of the block, at 400 kHz and slowly.
     let block = file("edid.bin");
-    for half in [5, 11, 90] {
+    for rate in ["400kHz", "5.5us", "45us"] {
         let description = format!(
-            "half {half}\nwait 3000\nstart\nsend A0\nsend 7E\nstart\nsend A1\nreceive 5\nstop\n\
-             start\nsend A1\nreceive 1\nstop\nstart\nsend A0\nsend 10\nsend 55\nstop\nstart\n\
-             send A1\nreceive 2\nstop"
+            "scl {rate}\nat 750us\nSTART\nwrite A0 7E\nrepeated START\nread A1 5\nSTOP\n\
+             START\nread A1 1\nSTOP\nSTART\nwrite A0 10 55\nSTOP\nSTART\n\
+             read A1 2\nSTOP"
         );
         let hosted = host(&image("ddc2b"), &description).expect("ddc2b");
         let places = [0x7E, 0x7F, 0, 1, 2, 3, 0x10, 0x11];
         let expected: Vec<u8> = places.iter().map(|&place| block[place]).collect();
-        assert_eq!(hosted.received, expected, "{half}");
+        assert_eq!(hosted.received, expected, "{rate}");
     }
 }
 
@@ -183,8 +183,7 @@ fn a_foreign_transfer_does_not_end_the_wait() {
     // Nor does any other foreign address, nor more time.
     for address in (0..=0xFFu8).filter(|address| ![0xA0, 0xFE].contains(&(address & 0xFE))) {
         let description = format!(
-            "wait 400\nstart\nsend {address:02X} unanswered\nsend 00 unanswered\nstop\n\
-             wait 2000\nshow 00"
+            "at 100us\nSTART\nwrite {address:02X} 00 nack\nSTOP\nwait 500us\nshow PT0"
         );
         let hosted = host(&image("recall"), &description).expect("recall");
         let ended = run(&image("recall"), hosted.instructions + 1, &hosted.events);
@@ -295,15 +294,26 @@ fn printed_reset_and_refusal() {
 #[test]
 fn descriptions_that_go_wrong() {
     for (description, why) in [
-        ("stop\nsing", "line 2: sing: no such act"),
-        ("wait x", "line 1: wait x: not a decimal number"),
-        ("send 1", "line 1: send 1: not a byte"),
-        // Nothing is set up yet: nobody answers.
-        ("start\nsend A0", "line 2: send A0: not acknowledged"),
+        ("START\nsing", "line 2: sing: no such act"),
+        ("\n# STOP\nSTOP", "line 3: STOP: no transfer has begun"),
         (
-            "wait 3000\nstart\nsend A0 unanswered",
-            "line 3: send A0 unanswered: acknowledged",
+            "START\nSTART",
+            "line 2: START: within a transfer a START is a `repeated START`",
         ),
+        ("wait x", "line 1: wait x: x: not a time, as 5us or 2.5ms, up to 1000s"),
+        ("scl 3MHz", "line 1: scl 3MHz: 3MHz: not a rate, as 31.5kHz, up to 2MHz"),
+        ("START\nwrite 1", "line 2: write 1: 1: not a byte of two hex digits"),
+        ("START\nread A1 0", "line 2: read A1 0: 0: not a count from 1 to 1000000"),
+        ("pin P17 0", "line 1: pin P17 0: P17: no pin"),
+        ("show DACH14", "line 1: show DACH14: DACH14: no register"),
+        // Nothing is set up yet: nobody answers.
+        ("START\nwrite A0", "line 2: write A0: A0 is not acknowledged"),
+        (
+            "at 750us\nSTART\nwrite A0 nack",
+            "line 3: write A0 nack: A0 is acknowledged",
+        ),
+        ("wait 10us\nat 5us", "line 2: at 5us: it is 10.00 us already"),
+        ("show DACH0\nexpect 00", "line 2: expect 00: 80 came"),
     ] {
         let told = host(&image("ddc2b"), description).err();
         assert_eq!(told.as_deref(), Some(why));
@@ -312,8 +322,8 @@ fn descriptions_that_go_wrong() {
     let rom = small(&[
         0xA9, 0x06, 0x85, 0x05, 0xA9, 0x00, 0x85, 0x15, 0x4C, 0x08, 0xA0,
     ]);
-    let told = host(&rom, "wait 100\nstart\nsend A0\nsend 00").err();
-    let why = "line 4: send 00: the chip does not let SCL go";
+    let told = host(&rom, "at 25us\nSTART\nwrite A0 00").err();
+    let why = "line 3: write A0 00: SCL is still held after 20000.00 us";
     assert_eq!(told.as_deref(), Some(why));
 }
 

@@ -1,29 +1,11 @@
-//! A host beside the firmware: makes lists of events from a description of what it does, and reads the
-//! bus.
-//!
-//! Events have the number of an instruction, and how long the chip holds SCL is the firmware's matter,
-//! so the host runs the independent core and looks at the lines. Time is counted in CPU cycles, four
-//! a microsecond.
-//!
-//! A description has an act a line, `#` begins a comment; numbers are decimal, bytes two hex digits:
-//!
-//! ```text
-//! half CYCLES              from here on half a clock of SCL takes so many cycles, at first 20
-//! watchdog CYCLES          from here on the watchdog's clock comes every so many cycles
-//! wait CYCLES              nothing happens for so long
-//! start                    START, also a repeated one
-//! send BYTE                a byte that must be acknowledged
-//! send BYTE unanswered     a byte that must not be acknowledged
-//! receive COUNT            reads bytes, and acknowledges all but the last
-//! stop                     STOP
-//! vsync COUNT CYCLES       so many pulses at VSYNCI, SDA read after each rise
-//! pin PIN LEVEL            a level from outside at a pin, by its number
-//! show BYTE                a listed read of this register
-//! ```
+//! A host beside the firmware on the independent core: the acts of model/acts.rs carried out by model/bus_host.rs; and the bus read from its
+//! lines.
 
+use crate::acts::acts;
+pub use crate::bus_host::ddc1_bytes;
+use crate::bus_host::{self, End, Found, Host, Watcher};
 use crate::chip::{pin, Chip};
 use crate::core6502::{Cpu, Listed, Machine, RAM_SIZE, ROM_SIZE};
-use crate::firmware::decimal;
 use std::fmt::Write;
 
 /// What a host did and found.
@@ -31,6 +13,8 @@ pub struct Hosted {
     pub events: Vec<Listed>,
     /// The events as a list, with the acts as comments.
     pub text: String,
+    /// What the host tells of it.
+    pub transcript: String,
     /// Bytes received.
     pub received: Vec<u8>,
     /// SDA after each rise of VSYNCI.
@@ -39,224 +23,106 @@ pub struct Hosted {
     pub instructions: u32,
 }
 
-struct Host<'a> {
-    machine: Machine<'a, ()>,
-    hosted: Hosted,
-    half: u64,
-    /// The watchdog's clock: every so many cycles, and when next.
-    watchdog: Option<(u64, u64)>,
+impl bus_host::Machine for Machine<'_, ()> {
+    fn give(&mut self, word: u32) -> u32 {
+        Machine::give(self, word)
+    }
+
+    fn go(&mut self, most: u32) -> Result<(), u8> {
+        (0..most).try_for_each(|_| self.turn())
+    }
+
+    fn counted(&self) -> u32 {
+        self.counted
+    }
+
+    fn cycles(&self) -> u64 {
+        Machine::cycles(self)
+    }
+
+    fn lines(&self) -> u32 {
+        self.chip.lines()
+    }
+
+    fn level(&self, pin: u8) -> bool {
+        self.chip.level(pin)
+    }
+
+    fn base(&self) -> Option<bool> {
+        (!self.chip.enbt).then_some(self.chip.tbs)
+    }
+
+    fn requests(&self) -> u8 {
+        self.chip.requests()
+    }
+
+    fn cpu(&self) -> [u8; 8] {
+        let cpu = &self.cpu;
+        let [low, high] = cpu.pc.to_le_bytes();
+        [cpu.a, cpu.x, cpu.y, cpu.s, cpu.p, low, high, cpu.over]
+    }
+
+    fn memory(&self, address: u16) -> Option<u8> {
+        match address {
+            0x0080..=0x017F => Some(self.ram[address as usize - 0x0080]),
+            0xA000.. => Some(self.rom[address as usize - 0xA000]),
+            _ => None,
+        }
+    }
 }
 
-/// Instructions for which a host waits for SCL.
-const SCL_LIMIT: u32 = 20_000;
-/// Cycles for which SDA stays after a fall of SCL.
-const HOLD: u64 = 4;
-const READ: u8 = 1;
-const PIN: u8 = 3;
-const WATCHDOG_CLOCK: u32 = 0x0400_0300;
+/// The transcript alone.
+struct Transcript(String);
+
+impl<M> Watcher<M> for Transcript {
+    fn each(&self) -> bool {
+        false
+    }
+
+    fn before(&mut self, _machine: &M, _time: u64, _pc: u16, _interrupt: bool) -> bool {
+        false
+    }
+
+    fn after(&mut self, _machine: &M) {}
+
+    fn say(&mut self, line: &str) {
+        self.0 += line;
+        self.0 += "\n";
+    }
+}
 
 /// What a description makes of an image, or the line that goes wrong and why.
 pub fn host(rom: &[u8; ROM_SIZE], description: &str) -> Result<Hosted, String> {
+    let lines = acts(description).map_err(|(line, why)| format!("line {line}: {why}"))?;
     let mut ram = [0; RAM_SIZE];
     let mut chip = Chip::fresh();
-    let mut host = Host {
-        machine: Machine {
-            cpu: Cpu::after_power_up(rom),
-            ram: &mut ram,
-            rom,
-            chip: &mut chip,
-            counted: 0,
-            clocks: 0,
-            watch: (),
-        },
-        hosted: Hosted {
-            events: Vec::new(),
-            text: String::new(),
-            received: Vec::new(),
-            levels: Vec::new(),
-            instructions: 0,
-        },
-        half: 20,
-        watchdog: None,
+    let mut machine = Machine {
+        cpu: Cpu::after_power_up(rom),
+        ram: &mut ram,
+        rom,
+        chip: &mut chip,
+        counted: 0,
+        clocks: 0,
+        watch: (),
     };
-    for (place, line) in description.lines().enumerate() {
-        let act = line.split('#').next().unwrap_or("").trim();
-        if act.is_empty() {
-            continue;
-        }
-        writeln!(host.hosted.text, "# {act}").expect("a string");
-        let words: Vec<&str> = act.split_whitespace().collect();
-        host.act(&words)
-            .map_err(|why| format!("line {}: {act}: {why}", place + 1))?;
+    let mut transcript = Transcript(String::new());
+    let mut host = Host::new(&mut machine, &mut transcript, u32::MAX);
+    let end = host.run(&lines, false);
+    let found: Found = std::mem::take(&mut host.found);
+    if let Some((line, why)) = found.failures.first() {
+        return Err(format!("line {line}: {why}"));
     }
-    host.hosted.instructions = host.machine.counted;
-    writeln!(host.hosted.text, "# {} instructions", host.machine.counted).expect("a string");
-    Ok(host.hosted)
-}
-
-fn count(text: &str) -> Result<u64, String> {
-    decimal(text.as_bytes())
-        .map(u64::from)
-        .ok_or("not a decimal number".to_string())
-}
-
-fn byte(text: &str) -> Result<u8, String> {
-    match text.len() {
-        2 => u8::from_str_radix(text, 16).map_err(|_| "not a byte".to_string()),
-        _ => Err("not a byte".to_string()),
+    if let End::Refused(number) = end {
+        return Err(format!("the instruction is refused with {number}"));
     }
-}
-
-impl Host<'_> {
-    fn act(&mut self, words: &[&str]) -> Result<(), String> {
-        match *words {
-            ["half", cycles] => self.half = count(cycles)?,
-            ["watchdog", cycles] => {
-                let period = count(cycles)?;
-                self.watchdog = Some((period, self.machine.cycles() + period));
-            }
-            ["wait", cycles] => self.wait(count(cycles)?)?,
-            ["start"] => self.start()?,
-            ["stop"] => self.stop()?,
-            ["send", text] => self.send_expecting(byte(text)?, true)?,
-            ["send", text, "unanswered"] => self.send_expecting(byte(text)?, false)?,
-            ["receive", number] => self.receive(count(number)?)?,
-            ["vsync", number, cycles] => self.vsync(count(number)?, count(cycles)?)?,
-            ["pin", which, level] => self.set(count(which)? as u8, count(level)? == 1),
-            ["show", register] => self.give(u32::from_be_bytes([READ, 0, byte(register)?, 0])),
-            _ => return Err("no such act".to_string()),
-        }
-        Ok(())
-    }
-
-    fn give(&mut self, word: u32) {
-        let number = self.machine.counted;
-        self.machine.give(word);
-        self.hosted.events.push(Listed { number, word });
-        writeln!(self.hosted.text, "{number} {word:08X}").expect("a string");
-    }
-
-    /// Puts a level at a pin where it is another.
-    fn set(&mut self, which: u8, level: bool) {
-        if self.machine.chip.level(which) != level {
-            self.give(u32::from_be_bytes([PIN, 0, which, level as u8]));
-        }
-    }
-
-    /// An instruction, and the watchdog's clock before it where that is due.
-    fn turn(&mut self) -> Result<(), String> {
-        if let Some((period, next)) = self.watchdog {
-            if self.machine.cycles() >= next {
-                self.watchdog = Some((period, next + period));
-                self.give(WATCHDOG_CLOCK);
-            }
-        }
-        self.machine
-            .turn()
-            .map_err(|number| format!("the instruction is refused with {number}"))
-    }
-
-    fn wait(&mut self, cycles: u64) -> Result<(), String> {
-        let until = self.machine.cycles() + cycles;
-        while self.machine.cycles() < until {
-            self.turn()?;
-        }
-        Ok(())
-    }
-
-    fn half(&mut self) -> Result<(), String> {
-        self.wait(self.half)
-    }
-
-    /// Lets SCL go, and waits while the chip holds it.
-    fn raise_scl(&mut self) -> Result<(), String> {
-        self.half()?;
-        self.set(pin::SCL, true);
-        let until = self.machine.counted + SCL_LIMIT;
-        while !self.machine.chip.scl() {
-            if self.machine.counted == until {
-                return Err("the chip does not let SCL go".to_string());
-            }
-            self.turn()?;
-        }
-        self.half()
-    }
-
-    fn lower_scl(&mut self) -> Result<(), String> {
-        self.set(pin::SCL, false);
-        self.wait(HOLD)
-    }
-
-    fn start(&mut self) -> Result<(), String> {
-        self.set(pin::SDA, true);
-        self.raise_scl()?;
-        self.set(pin::SDA, false);
-        self.half()?;
-        self.lower_scl()
-    }
-
-    fn stop(&mut self) -> Result<(), String> {
-        self.set(pin::SDA, false);
-        self.raise_scl()?;
-        self.set(pin::SDA, true);
-        self.half()
-    }
-
-    /// One clock with this level of the host's at SDA; gives that of the line.
-    fn clock(&mut self, level: bool) -> Result<bool, String> {
-        self.set(pin::SDA, level);
-        self.raise_scl()?;
-        let line = self.machine.chip.sda();
-        self.lower_scl()?;
-        Ok(line)
-    }
-
-    fn send_expecting(&mut self, byte: u8, acknowledged: bool) -> Result<(), String> {
-        for place in (0..8).rev() {
-            self.clock(byte >> place & 1 == 1)?;
-        }
-        match (self.clock(true)?, acknowledged) {
-            (true, true) => Err("not acknowledged".to_string()),
-            (false, false) => Err("acknowledged".to_string()),
-            _ => Ok(()),
-        }
-    }
-
-    fn receive(&mut self, number: u64) -> Result<(), String> {
-        for place in 0..number {
-            let mut byte = 0;
-            for _ in 0..8 {
-                byte = byte << 1 | self.clock(true)? as u8;
-            }
-            self.hosted.received.push(byte);
-            self.clock(place + 1 == number)?;
-        }
-        Ok(())
-    }
-
-    fn vsync(&mut self, number: u64, cycles: u64) -> Result<(), String> {
-        for _ in 0..number {
-            self.set(pin::VSYNCI, false);
-            self.wait(cycles / 2)?;
-            self.set(pin::VSYNCI, true);
-            self.wait(cycles / 2)?;
-            self.hosted.levels.push(self.machine.chip.sda());
-        }
-        Ok(())
-    }
-}
-
-/// The bytes that DDC1 sends: nine rises of nothing, then eight bits and a null bit for each byte. None
-/// where a null bit is not 1.
-pub fn ddc1_bytes(levels: &[bool]) -> Option<Vec<u8>> {
-    levels
-        .get(9..)?
-        .chunks_exact(9)
-        .map(|bits| {
-            let byte = bits[..8].iter().fold(0, |byte, &bit| byte << 1 | bit as u8);
-            bits[8].then_some(byte)
-        })
-        .collect()
+    Ok(Hosted {
+        events: found.events.iter().map(|&(number, word)| Listed { number, word }).collect(),
+        text: found.list,
+        transcript: transcript.0,
+        received: found.received,
+        levels: found.levels,
+        instructions: machine.counted,
+    })
 }
 
 /// Reads what passes over the bus from its lines, as a logic analyser does.

@@ -36,7 +36,8 @@ const USAGE: &str = "usage:
   model firmware [-t] ROM COUNT [EVENTS] runs so many instructions of an image from power up, with
                                          the listed events; prints answers and registers, with -t
                                          a trace
-  model host ROM DESCRIPTION             the events of a host that does as described, as a list
+  model host ROM ACTS                    the events of a host that does these acts, as a list
+  model transcript ROM ACTS              what such a host tells
   model bus ROM COUNT EVENTS             what passes over the bus in such a run, and what DDC1 sends
   model given ROM COUNT EVENTS           the words that the chip is given in such a run, the CPU's
                                          accesses and the clocks among them
@@ -63,7 +64,8 @@ fn main() -> ExitCode {
         ["firmware", "-t", rom, count, events] => firmware(rom, count, Some(events), true),
         ["firmware", rom, count] => firmware(rom, count, None, false),
         ["firmware", rom, count, events] => firmware(rom, count, Some(events), false),
-        ["host", rom, description] => hosted(rom, description),
+        ["host", rom, acts] => hosted(rom, acts, false),
+        ["transcript", rom, acts] => hosted(rom, acts, true),
         ["bus", rom, count, events] => bus(rom, count, events),
         ["given", rom, count, events] => given(rom, count, events),
         ["image", seed] => random_image(seed),
@@ -254,12 +256,13 @@ fn firmware(rom: &str, count: &str, events: Option<&str>, trace: bool) -> Result
     print_bytes(text.as_bytes())
 }
 
-fn hosted(rom: &str, description: &str) -> Result<bool, String> {
+fn hosted(rom: &str, description: &str, transcript: bool) -> Result<bool, String> {
     let image = image(rom)?;
     let text = String::from_utf8(read_file(description)?)
         .map_err(|_| format!("{description}: not text"))?;
     let hosted = host::host(&image, &text).map_err(|why| format!("{description}: {why}"))?;
-    print_bytes(hosted.text.as_bytes())
+    let text = if transcript { hosted.transcript } else { hosted.text };
+    print_bytes(text.as_bytes())
 }
 
 fn random_image(seed: &str) -> Result<bool, String> {

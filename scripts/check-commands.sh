@@ -1,6 +1,6 @@
 #!/usr/bin/env bash
 # Tries every command of ./nt6861 in what they have in common: usage, examples, options, more files than one, files that cannot be read, links,
-# outputs and errors that cannot be written; then the inputs of each by which a status was once wrong. Holds manual page, completion and README's
+# outputs and errors that cannot be written; then the inputs of each by which a status was once wrong. Holds manual page, completion and docs/COMMANDS.md's
 # table to scripts/commands.txt. What a command does is tried by its own check, and how it is proved and run by scripts/check-made.sh.
 # Usage: check-commands.sh [COMMAND ..]; without a name all commands are tried.
 set -euo pipefail
@@ -169,7 +169,7 @@ if is_tried replay; then
     [ ! -e "$work/writer" ] || complain "a pipe by name: $(cat "$work/writer")"
 fi
 
-# ---- manual page, completion and README's table are made of the same texts
+# ---- manual page, completion and docs/COMMANDS.md's table are made of the same texts
 python3 scripts/manual.py --check || bad=1
 
 [ "$bad" = 0 ] && echo "commands: $tried uses of ${#commands[@]} commands behave as said: usage, examples, arguments, files, links, failed reads and writes"

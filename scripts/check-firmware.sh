@@ -1,6 +1,7 @@
 #!/usr/bin/env bash
 # Firmware images and their runs on the independent core: the images are what their sources make, where the assembler is installed;
-# the lists of events are what the hosts' descriptions make; the EDID block is what a host reads; the commands of docs/RECALL.md and
+# the lists of events are what the hosts' acts make, and the same acts on the proved call tell and give the same; the EDID block is what a
+# host reads; the commands of docs/RECALL.md and
 # images/README.md print what these pages say; malformed files are told. Where crates.txt has the program `firmware`, the same runs
 # and refusals of the proved program print the same, and ./nt6861 firmware is tried on files that cannot be read and outputs that cannot be
 # written; where it has `firmware_capi`, the call for C is compared with the core. Ends in a line for each part, or names the first
@@ -94,6 +95,109 @@ if grep -q '^firmware_capi:' crates.txt; then
     library chip_capi
     cc -Wall -Wextra -Werror -Iinclude tests/firmware.c -o "$work/c" target/staticlib/libfirmware_capi.a target/staticlib/libchip_capi.a
     "$work/c" < images/sort.rom
+fi
+
+# the hosts on the proved call, ./nt6861 firmware --host: it tells what the host on the independent core tells, gives the same events, and
+# what it expects comes
+# hosted STATUS STDERR ARGUMENTS..: a run that ends with this status and tells this
+hosted() {
+    local status=0
+    ./nt6861 firmware "${@:3}" > "$work/printed" 2> "$work/said" || status=$?
+    # shellcheck disable=SC2053
+    [ "$status" = "$1" ] && [[ $(cat "$work/said") == $2 ]] || fail "${*:3}: status $status, told: $(cat "$work/said")"
+}
+if grep -q '^firmware_capi:' crates.txt; then
+    front hosted firmware_capi chip_capi
+    hosts=0
+    while read -r image list count; do
+        hosted 0 '' --host "images/$list.host" --events "$work/list" "images/$image.rom"
+        cmp "$work/list" "images/$list.events" || fail "$list.host gives other events on the proved call"
+        "$model" transcript "images/$image.rom" "images/$list.host" | diff <(grep -v '^SCL held \|^stretches of SCL\|^number ' "$work/printed") - ||
+            fail "$list.host tells otherwise on the proved call (program <, model >)"
+        grep -q "^number 0 counted $count given $(grep -c '^[0-9]' "$work/list") " "$work/printed" || fail "$list.host does not run to its end"
+        hosts=$((hosts + 1))
+    done < <(grep -v '^#' images/runs.txt)
+    echo "firmware: $hosts hosts on the proved call tell and give what they do on the model, the run in one go alike"
+
+    # the lines of that run, read by another decoder
+    if command -v sigrok-cli > /dev/null; then
+        hosted 0 '' --host images/ddc2b.host --lines "$work/lines.vcd" images/ddc2b.rom
+        sigrok-cli -I vcd -i "$work/lines.vcd" -P i2c:scl=SCL:sda=SDA -B i2c=data-read > "$work/read" 2> "$work/said" || fail "sigrok-cli: $(cat "$work/said")"
+        cmp "$work/read" images/edid.bin || fail "sigrok's decoder reads another block from the lines"
+        echo "firmware: sigrok's I2C decoder reads the EDID block from the lines"
+    else
+        echo "firmware: sigrok-cli is not installed: the lines are read by no other decoder"
+    fi
+
+    # a host with all that it can do, on random programs and on the images: both cores alike, whatever comes
+    cat > "$work/all.host" << 'END_OF_ACTS'
+scl 400kHz
+hsync 31.5kHz
+vsync 400us
+wait 2ms
+pin P16 0
+START
+write A0 01 any
+repeated START
+write 42 any
+STOP
+reset
+watchdog 500us
+wait 3ms
+pin P16 1
+wait 40us
+vsync off
+hsync off
+vsync 100us 12
+END_OF_ACTS
+    tried=0
+    for rom in images/ddc2b.rom images/registers.rom images/ddc1.rom "$work/random.rom"; do
+        theirs=0 ours=0
+        "$model" host "$rom" "$work/all.host" > "$work/expected" 2> "$work/told" || theirs=1
+        ./nt6861 firmware --host "$work/all.host" --events "$work/list" "$rom" > "$work/printed" 2> "$work/said" || ours=$?
+        [ "$theirs" = "$ours" ] || fail "$rom: status $ours, and $theirs on the model: $(cat "$work/said" "$work/told")"
+        [ "$ours" != 0 ] || cmp "$work/list" "$work/expected" || fail "$rom: other events on the proved call"
+        tried=$((tried + 1))
+    done
+    echo "firmware: a host with pulses, resets and all clocks does the same on both cores, with $tried images"
+
+    # what goes wrong, and what is not reached
+    uses=0
+    head -c 24575 images/sort.rom > "$work/short"
+    says() { # STATUS STDERR ACTS ARGUMENTS..: the acts in a file
+        printf '%b' "$3" > "$work/acts"
+        hosted "$1" "$2" --host "$work/acts" "${@:4}"
+        uses=$((uses + 1))
+    }
+    says 1 "nt6861 firmware: $work/acts:2: sing: no such act" 'wait 1us\nsing\n' images/ddc2b.rom
+    [ ! -s "$work/printed" ] || fail "a malformed act: something runs"
+    says 1 "nt6861 firmware: $work/acts:1: wait 5: 5: not a time*" 'wait 5' images/ddc2b.rom
+    says 1 "nt6861 firmware: $work/acts:1: STOP: no transfer has begun" 'STOP' images/ddc2b.rom
+    says 1 "nt6861 firmware: $work/acts:1: not text" '\377' images/ddc2b.rom
+    says 1 "nt6861 firmware: $work/short: 24575 bytes, not 24576" 'wait 1us' "$work/short"
+    says 1 "nt6861 firmware: /dev/zero: more than 24576 bytes, not 24576" 'wait 1us' /dev/zero
+    says 1 "nt6861 firmware: $work/acts:2: write A0: A0 is not acknowledged" 'START\nwrite A0' images/ddc2b.rom
+    says 1 "nt6861 firmware: $work/acts:5: expect 00 01: 00 FF came" 'at 750us\nSTART\nread A1 2\nSTOP\nexpect 00 01\n' images/ddc2b.rom
+    says 1 "nt6861 firmware: $work/acts:3: expect 81: 80 came" 'wait 1ms\nshow DACH5\nexpect 81' images/ddc2b.rom
+    says 1 "nt6861 firmware: $work/acts:1: wait 1s: after 9 instructions the host is not done" 'wait 1s' images/ddc2b.rom 9
+    says 1 "nt6861 firmware: SCL held at * us for 17.75 us, ended by * STA IIDAT; more than 10.00 us*" \
+        'at 750us\nSTART\nwrite A0 00\nSTOP' --max-hold 10us images/ddc2b.rom
+    says 0 '' 'at 750us\nSTART\nwrite A0 00\nSTOP' --max-hold 2ms --holds --labels images/ddc2b.lst images/ddc2b.rom
+    grep -q '^SCL held at .* us for 17.75 us, ended by .*+2 .* STA IIDAT$' "$work/printed" || fail "a hold is told otherwise: $(grep '^SCL' "$work/printed")"
+    says 0 '' 'at 750us\nSTART\nwrite A0 00\nSTOP' --labels images/ddc2b.lst --until service images/ddc2b.rom
+    grep -q ' until service A032 PHA ' "$work/printed" || fail "--until service: $(tail -n 2 "$work/printed")"
+    says 1 'nt6861 firmware: last was not reached' 'at 750us' --labels images/ddc2b.lst --break last images/ddc2b.rom
+    says 2 'nt6861 firmware: lost: no label, and not an address of four hex digits' 'at 750us' --labels images/ddc2b.lst --until lost images/ddc2b.rom
+    printf 'al 00A000 .reset\nal A00 reset\n' > "$work/labels"
+    says 1 "nt6861 firmware: $work/labels:2: no line of a label file, debug file or listing" 'at 750us' --labels "$work/labels" images/ddc2b.rom
+    # an instruction that is refused: JAM at A000
+    { printf '\002'; tail -c +2 images/sort.rom; } > "$work/refused.rom"
+    says 1 'nt6861 firmware: instruction 0 is refused with 20, an opcode that is not documented: A000 02, no documented opcode' 'wait 1us' "$work/refused.rom"
+    hosted 1 'nt6861 firmware: instruction 0 at A000 is refused with 20, an opcode that is not documented' "$work/refused.rom" 5
+    hosted 1 'nt6861 firmware: instruction 0 at A000 is refused with 20, an opcode that is not documented' -t "$work/refused.rom" 5
+    hosted 2 'nt6861 firmware: no option --hots; *' --hots x images/ddc2b.rom
+    hosted 2 'nt6861 firmware: without a host a count is needed; *' --holds images/ddc2b.rom
+    echo "firmware: $((uses + 4)) uses of ./nt6861 firmware --host that go wrong or stop are told"
 fi
 
 # what a host reads, as lines of sixteen bytes

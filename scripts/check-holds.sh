@@ -1,5 +1,6 @@
 #!/usr/bin/env bash
-# Compares the proved hold of SCL with the independent model's: generated traffic, and holds of 0 to 70,000 clocks.
+# Compares the proved hold of SCL and the proved lines with the independent model's: generated traffic, holds of 0 to 70,000 clocks, and the
+# latches of P30 and P31.
 set -euo pipefail
 cd "$(dirname "$0")/.."
 work=$(mktemp -d)

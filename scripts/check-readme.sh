@@ -6,4 +6,5 @@ python3 scripts/pages.py
 source scripts/library.sh
 front vcd vcd_capi
 front addresses addresses_capi
+front hosted firmware_capi chip_capi
 python3 scripts/readme.py README.md docs/COMMANDS.md docs/CAPTURES.md docs/FIRMWARE.md docs/CONTRIBUTING.md

@@ -8,7 +8,7 @@ _nt6861() {
         replay) words='-h' ;;
         words) words='-h' ;;
         why) words='-h' ;;
-        firmware) words='-t -h' ;;
+        firmware) words='-t --host -h' ;;
         vcd) words='-h' ;;
         addresses) words='-h' ;;
         edid) words='-h' ;;

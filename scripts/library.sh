@@ -33,8 +33,8 @@ program() {
     done
 }
 
-# front FRONT CRATE: the Rust program of a command over its proved library. A check that compares what ./nt6861 says asks for it first, so that
+# front FRONT CRATE..: the Rust program of a command over its proved libraries. A check that compares what ./nt6861 says asks for it first, so that
 # nothing is said of building or waiting meanwhile.
 front() {
-    made_or_told built_front "$1" "$2" || exit 1
+    made_or_told built_front "$@" || exit 1
 }

@@ -236,15 +236,27 @@ front_of() {
     echo "$top/target/made/$1"
 }
 
-built_front() { # FRONT CRATE
-    local program mark sources rust
-    local parts=("model/$1_main.rs" "model/$1_link.rs" model/descriptors.rs)
+# front_sources FRONT CRATE..: a sum for each library under it, with the program's own files: each module that its first file names
+front_sources() {
+    local crate sum sums='' parts
+    mapfile -t parts < <(sed -n 's/^mod \([a-z0-9_]*\);$/model\/\1.rs/p' "$top/model/$1_main.rs")
+    for crate in "${@:2}"; do
+        sum=$(sources_of "$crate" "model/$1_main.rs" "${parts[@]}") || return 1
+        sums+=$sum
+    done
+    echo "$sums"
+}
+
+built_front() { # FRONT CRATE..
+    local program mark sources rust crate
     program=$(front_of "$1")
     mark=$program.front
-    sources=$(sources_of "$2" "${parts[@]}") || fail "the sources of $1 cannot be read"
+    sources=$(front_sources "$@") || fail "the sources of $1 cannot be read"
     ! is_current "$mark" "$program" "$sources" || return 0
     rust=$(type -P rustc) || fail "the program is not built yet, and rustc is not on the PATH"
-    proved_library "$2"
+    for crate in "${@:2}"; do
+        proved_library "$crate"
+    done
     take_turn
     if ! is_current "$mark" "$program" "$sources"; then
         rm -f "$mark" "$program" 2> /dev/null || fail "$program cannot be made anew"
@@ -256,7 +268,7 @@ built_front() { # FRONT CRATE
             grep -m 1 '^error' "$top/target/$1.log" >&2 || true
             fail "the program cannot be built; $top/target/$1.log has all that rustc said"
         }
-        [ "$sources" = "$(sources_of "$2" "${parts[@]}")" ] || fail "the sources have changed while they were built"
+        [ "$sources" = "$(front_sources "$@")" ] || fail "the sources have changed while they were built"
         stamp "$mark" "$program" "$sources"
     fi
     end_turn

@@ -1,5 +1,5 @@
 #!/usr/bin/env python3
-"""manual.py [--check]: writes the manual page nt6861.1, the completion for bash and README's table of commands, all from scripts/commands.txt.
+"""manual.py [--check]: writes the manual page nt6861.1, the completion for bash and the table of commands in docs/COMMANDS.md, all from scripts/commands.txt.
 
 A command whose crate is not in crates.txt is left out, as ./nt6861 leaves it out; one of a script has none. With --check nothing is written, and what differs is told.
 """
@@ -68,7 +68,7 @@ def manual(shown):
 
 
 def completion(shown):
-    options = [f"        {name}) words='{' '.join(re.findall(r'-[a-z]', fields['usage'][0]) + ['-h'])}' ;;" for name, fields in shown.items()]
+    options = [f"        {name}) words='{' '.join(re.findall(r'--?[a-z][a-z-]*(?![A-Z])', fields['usage'][0]) + ['-h'])}' ;;" for name, fields in shown.items()]
     return "\n".join([
         "# Completion for bash: source scripts/completion.bash. Made by scripts/manual.py from scripts/commands.txt.",
         "_nt6861() {",
@@ -89,12 +89,12 @@ def completion(shown):
     ]) + "\n"
 
 
-def readme(shown, page):
+def listed(shown, page):
     rows = ["| command | what it gives |", "|---|---|"]
     rows += [f"| `{name} {fields['usage'][0]}` | {fields['does'][0]} |" for name, fields in shown.items()]
     parts = page.split(MARK)
     if len(parts) != 3:
-        sys.exit(f"manual: README.md has {len(parts) - 1} of the two marks '{MARK.strip()}' around its table of commands")
+        sys.exit(f"manual: docs/COMMANDS.md has {len(parts) - 1} of the two marks '{MARK.strip()}' around its table of commands")
     return parts[0] + MARK + "\n".join(rows) + "\n" + MARK + parts[2]
 
 
@@ -102,10 +102,10 @@ def main():
     shown = entries()
     if len(shown) < 10:
         sys.exit(f"manual: {len(shown)} commands are found")
-    page = pathlib.Path("README.md").read_text()
-    pages = page + "".join(pathlib.Path(f"docs/{name}.md").read_text() for name in ("COMMANDS", "CAPTURES", "FIRMWARE"))
+    page = pathlib.Path("docs/COMMANDS.md").read_text()
+    pages = page + "".join(pathlib.Path(name).read_text() for name in ("README.md", "docs/CAPTURES.md", "docs/FIRMWARE.md"))
     bad = [f"neither README.md nor a page for users has './nt6861 {name}'" for name in shown if not re.search(rf"\./nt6861 {name}\b", pages)]
-    for path, text in (("nt6861.1", manual(shown)), ("scripts/completion.bash", completion(shown)), ("README.md", readme(shown, page))):
+    for path, text in (("nt6861.1", manual(shown)), ("scripts/completion.bash", completion(shown)), ("docs/COMMANDS.md", listed(shown, page))):
         file = pathlib.Path(path)
         if "--check" not in sys.argv:
             file.write_text(text)

@@ -156,9 +156,17 @@ input_byte() {
 # What `firmware` takes. An image that is no regular file is read up to the byte that is too many, and one that is too long not at all.
 image_bytes=24576
 arguments=()
+hosted='' # an argument begins with --: the Rust program beside the proved one takes them all
 called=() # FILE NAME ..: a file that the program is given, and what to call it
 input_firmware() {
-    local option=() rom size fd
+    local option=() rom size fd argument
+    for argument; do
+        case $argument in --?*) hosted=yes ;; esac
+    done
+    if [ -n "$hosted" ]; then
+        arguments=("$@")
+        return
+    fi
     if [ "${1:-}" = -t ]; then
         option=(-t)
         shift
@@ -239,6 +247,30 @@ judge_output() {
     ! is_like "$last" "${entry[$command ends]}" || exit 1
 }
 
+# judge_firmware: the same for a run of firmware, in blocks, since a trace has many lines. An instruction that was refused is told: its number
+# among those carried out, the number of the refusal, and PC.
+judge_firmware() {
+    local block last='' more=yes reason
+    trap '' INT TERM HUP QUIT
+    while [ -n "$more" ]; do
+        IFS= read -r -N 65536 block || more=''
+        [ -n "$block" ] || continue
+        last=$last$block
+        ((${#last} <= 256)) || last=${last: -256}
+        printf '%s' "$block" 2> /dev/null && continue
+        { reason=$({ printf '%s' "$block" >&3; } 2>&1) || true; } 3>&1
+        fail "standard output: ${reason##*: }"
+    done
+    last=${last%$'\n'}
+    last=${last##*$'\n'}
+    is_like "$last" "${entry[$command ends]}" || return 0
+    if [[ $last =~ ^'number '([0-9]+)' counted '([0-9]+)' '.*' PC='([0-9A-F]+) ]]; then
+        reword "instruction ${BASH_REMATCH[2]} at ${BASH_REMATCH[3]} is refused with ${BASH_REMATCH[1]}"
+        tell "$line"
+    fi
+    exit 1
+}
+
 # worse A B: of two statuses the one to end with: a signal before a failure before a refusal
 worse() {
     echo $(($1 > $2 ? $1 : $2))
@@ -249,7 +281,9 @@ worse() {
 run() {
     local program=$1 status=0 judged=0 output='' errors out err job
     if [ -n "${entry[$command ends]:-}" ]; then
-        exec {out}> >(judge_output)
+        local judge=judge_output
+        [ "$command" != firmware ] || judge=judge_firmware
+        exec {out}> >("$judge")
         output=$!
     else
         exec {out}>&1
@@ -299,6 +333,11 @@ main() {
     if [ -n "${entry[$command front]:-}" ]; then
         built_front "${entry[$command front]}" "${entry[$command crate]}"
         exec "$(front_of "${entry[$command front]}")" "$source" "${byte[@]}"
+    fi
+    if [ -n "$hosted" ]; then
+        # shellcheck disable=SC2086
+        built_front ${entry[$command beside]}
+        exec "$(front_of "${entry[$command beside]%% *}")" "${arguments[@]}"
     fi
     proved_program "${entry[$command crate]}"
     run "$(program_of "${entry[$command crate]}")" "${arguments[@]}"

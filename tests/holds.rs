@@ -1,4 +1,5 @@
-//! The proved hold of SCL, read from the bytes of a chip, beside the independent model's, after each word of generated traffic.
+//! The proved hold of SCL and the proved lines, read from the bytes of a chip, beside the independent model's, after each word of
+//! generated traffic.
 
 #[allow(dead_code)]
 mod nt6861;
@@ -6,8 +7,11 @@ mod nt6861;
 use nt6861_model::chip::Chip;
 use nt6861_model::traffic::Traffic;
 
+/// What the lines were after the words: how often each of the sixteen combinations.
+type Seen = [usize; 16];
+
 /// Compares after every word.
-fn compare(seed: u64, count: usize) -> usize {
+fn compare(seed: u64, count: usize, seen: &mut Seen) -> usize {
     let mut area = [0u8; 128];
     assert_eq!(nt6861::fresh(&mut area), 0);
     let mut chip = Chip::fresh();
@@ -22,6 +26,12 @@ fn compare(seed: u64, count: usize) -> usize {
             std::process::exit(1);
         }
         held += usize::from(expected > 0);
+        let (given, expected) = (nt6861::lines(&area), chip.lines());
+        if given != expected {
+            println!("lines: seed {seed}, after {} words: proved {given:08X}, model {expected:08X}", place + 1);
+            std::process::exit(1);
+        }
+        seen[given as usize] += 1;
     }
     held
 }
@@ -46,9 +56,38 @@ fn proved(words: &[u32]) -> u32 {
     nt6861::hold(&area)
 }
 
+/// The latches of P30 and P31 at all outside levels, with DDC off and on; areas of other lengths and of no state.
+fn check_lines() {
+    for place in 0..32u32 {
+        let [sda, scl, latch_sda, latch_scl, off] = [0, 1, 2, 3, 4].map(|bit| place >> bit & 1);
+        let words = [0x0200_1500 | off << 3, 0x0200_0400 | latch_sda | latch_scl << 1, 0x0300_1800 | sda, 0x0300_1900 | scl];
+        let mut area = [0u8; 128];
+        let mut answers = [0; 4];
+        assert_eq!(nt6861::fresh(&mut area), 0);
+        assert_eq!(nt6861::run(&mut area, &words, &mut answers), 0);
+        let pulls = if off == 1 { (1 - latch_sda) | (1 - latch_scl) << 1 } else { 0 };
+        assert_eq!(nt6861::lines(&area), ((sda | scl << 1) & !pulls) | pulls << 2, "{words:08X?}");
+        // with DDC off PT3 shows the lines
+        if off == 1 {
+            assert_eq!(nt6861::step(&mut area, 0x0100_0400) & 0xFF, nt6861::lines(&area) & 3, "{words:08X?}");
+        }
+    }
+    let mut area = [0u8; 129];
+    for length in [0, 1, 127, 129] {
+        assert_eq!(nt6861::lines(&area[..length]), 0x0F00_0000, "{length} bytes");
+    }
+    area[0] = 255;
+    assert_eq!(nt6861::lines(&area[..128]), 0x0800_0000);
+}
+
 fn main() {
-    let held: usize = (1..=8).map(|seed| compare(seed, 40_000)).sum();
+    let mut seen = [0; 16];
+    let held: usize = (1..=8).map(|seed| compare(seed, 40_000, &mut seen)).sum();
     assert!(held > 100, "the traffic holds SCL too seldom: {held}");
+    // a line that is pulled is 0, so that nine of the sixteen can be
+    let kinds = seen.iter().filter(|&&count| count > 100).count();
+    assert_eq!(kinds, 9, "the lines are {seen:?}");
+    check_lines();
     // holds of no clock, one, the last that is counted, and one more
     for clocks in [0usize, 1, 65_534, 65_535, 65_536, 70_000] {
         let mut words = until_held();
@@ -59,4 +98,5 @@ fn main() {
         assert_eq!(proved(&words), 0);
     }
     println!("holds agree: 8 seeds, {held} holds with a count, and holds of 0 to 70,000 clocks");
+    println!("lines agree: {} words, {kinds} combinations of levels and pulls, the latches of P30 and P31 at all levels", seen.iter().sum::<usize>());
 }

@@ -4,7 +4,7 @@ ghost use mathlib.Core.Path.{_≡_};
 ghost use Rattle.chip.specs.State.{fresh};
 ghost use Rattle.list_call.specs.Run.{run as runOf, runAnswers};
 ghost use Rattle.state_area.specs.Area.{storeNumber, storeLeft};
-ghost use Rattle.state_calls.specs.Calls.{stepArea, stepAnswer, runNumber, runArea, runPlaces, holdIn, outcomeIn};
+ghost use Rattle.state_calls.specs.Calls.{stepArea, stepAnswer, runNumber, runArea, runPlaces, holdIn, outcomeIn, linesIn};
 ghost use Rattle.state_rate.specs.Rate.{rateIn, hertzIn};
 
 // A fresh chip into the area: 0, or 15 and nothing written.
@@ -55,6 +55,14 @@ pub extern "C" fn nt6861_outcome(area: &[u8]) -> u32
     ensures { λ r. ⌜ r ≡ outcomeIn (now (area .entry)) ⌝ }
 {
     state_calls::called_by(area)
+}
+
+// The levels of SDA and SCL, and which of them the chip in the area pulls.
+#[no_mangle]
+pub extern "C" fn nt6861_lines(area: &[u8]) -> u32
+    ensures { λ r. ⌜ r ≡ linesIn (now (area .entry)) ⌝ }
+{
+    state_calls::lines(area)
 }
 
 // The field rate (0) or the line rate (1) of the chip in the area.

@@ -15,10 +15,11 @@ use Rattle.step.specs.Step.{step}
 use Rattle.list_call.specs.Run.{run, runAnswers}
 use Rattle.chip_hold.specs.Hold.{holdReport, holdWord}
 use Rattle.chip_address_match.specs.AddressOutcome.{outcomeReport, outcomeWord}
+use Rattle.chip_lines.specs.Lines.{linesReport, linesWord}
 use Rattle.state_bytes.specs.Layout.{bytesOf}
 use Rattle.state_area.specs.Area.{holds, loaded}
 use Rattle.state_area.proofs.Accepted.{load-written, loaded-well, loaded-written}
-use Rattle.state_calls.specs.Calls.{holdsState, refusalWord, stepArea, stepAnswer, runNumber, runArea, runPlaces, holdIn, outcomeIn}
+use Rattle.state_calls.specs.Calls.{holdsState, refusalWord, stepArea, stepAnswer, runNumber, runArea, runPlaces, holdIn, outcomeIn, linesIn}
 
 -- ---- the bytes of a well formed state
 
@@ -53,6 +54,10 @@ module _ (c : Chip) (size : length (c .registers) ≡ 38) (well : wellFormed c �
   pub outcome-in : outcomeIn (bytesOf c) ≡ outcomeWord (outcomeReport c)
   unfolding outcomeIn
   outcome-in = rw read
+
+  pub lines-in : linesIn (bytesOf c) ≡ linesWord (linesReport c)
+  unfolding linesIn
+  lines-in = rw read
 
 -- ---- every other area: it keeps its bytes, and the answer is the number of its refusal, 15 or 8, before all else
 

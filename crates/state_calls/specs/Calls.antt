@@ -1,4 +1,4 @@
--- Calls on a state in a lent area (document 02, Wish 14): the step, the list call, the hold of SCL and the address outcome. 15 and 8
+-- Calls on a state in a lent area (document 02, Wish 14): the step, the list call, the hold of SCL, the address outcome and the lines. 15 and 8
 -- for the area come before all others, and the area keeps its bytes then.
 use Prim.Native.Nat.{ℕ, _*_}
 use mathlib.Core.Bool.{Bool}
@@ -9,6 +9,7 @@ use Rattle.step.specs.Step.{step}
 use Rattle.list_call.specs.Run.{run, runAnswers}
 use Rattle.chip_hold.specs.Hold.{holdReport, holdWord}
 use Rattle.chip_address_match.specs.AddressOutcome.{outcomeReport, outcomeWord}
+use Rattle.chip_lines.specs.Lines.{linesReport, linesWord}
 use Rattle.state_bytes.specs.Layout.{bytesOf}
 use Rattle.state_area.specs.Area.{loaded}
 
@@ -43,3 +44,7 @@ holdIn s = pick (holdsState s) (holdWord (holdReport (loaded s .state))) (refusa
 
 unfoldable pub outcomeIn : List ℕ → ℕ
 outcomeIn s = pick (holdsState s) (outcomeWord (outcomeReport (loaded s .state))) (refusalWord s)
+
+-- the levels of the lines and what the chip pulls: the number in bits 31..24, below it a bit each
+unfoldable pub linesIn : List ℕ → ℕ
+linesIn s = pick (holdsState s) (linesWord (linesReport (loaded s .state))) (refusalWord s)

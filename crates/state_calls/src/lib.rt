@@ -1,4 +1,4 @@
-// A state in a lent area of 128 bytes: a fresh one, the step, the list call, the hold of SCL and the address outcome.
+// A state in a lent area of 128 bytes: a fresh one, the step, the list call, the hold of SCL, the address outcome and the lines.
 ghost use mathlib.Core.Path.{_≡_};
 ghost use mathlib.Core.Bool.{true};
 ghost use Prim.Native.Nat.{_*_};
@@ -6,7 +6,7 @@ ghost use Rattle.chip.specs.State.{fresh as freshOf};
 ghost use Rattle.chip_well_formed.specs.WellFormed.{wellFormed};
 ghost use Rattle.step.specs.Step.{step as stepOf};
 ghost use Rattle.state_area.specs.Area.{storeNumber, storeLeft};
-ghost use Rattle.state_calls.specs.Calls.{stepArea, stepAnswer, runNumber, runArea, runPlaces, holdIn, outcomeIn};
+ghost use Rattle.state_calls.specs.Calls.{stepArea, stepAnswer, runNumber, runArea, runPlaces, holdIn, outcomeIn, linesIn};
 use chip::Chip;
 use step::Stepped;
 
@@ -97,6 +97,20 @@ pub fn called_by(area: &[u8]) -> u32
     if number == 0 {
         let c = read.state;
         chip_address_match::outcome_word(chip_address_match::called_by(c))
+    } else {
+        in_top_byte(number)
+    }
+}
+
+// The levels of SDA and SCL in bits 0 and 1, and that the chip pulls them in bits 2 and 3; 15 or 8 in bits 31 to 24.
+pub fn lines(area: &[u8]) -> u32
+    ensures { λ r. ⌜ r ≡ linesIn (now (area .entry)) ⌝ }
+{
+    let read = state_area::load(area);
+    let number = read.number;
+    if number == 0 {
+        let c = read.state;
+        chip_lines::lines_word(chip_lines::line_levels(c))
     } else {
         in_top_byte(number)
     }
