@@ -45,7 +45,7 @@ declare -A own=([firmware]=yes)
 declare -A script=([release]=yes)
 declare -A file=(
     [addresses]=tests/addresses/example.bin [counters6862]=crates/counters6862/stdin [edid]=crates/edid/stdin [feed]=crates/edid/stdin
-    [firmware]=images/sort.rom [record]=crates/record/stdin [recording]=crates/record/stdout [replay]=crates/record/stdin [vcd]=tests/vcd/start.vcd [why]=crates/why/stdin [words]=crates/words/stdin)
+    [firmware]=images/sort.rom [record]=crates/record/stdin [recording]=crates/record/stdout [replay]=crates/record/stdin [vcd]=tests/vcd/start.vcd [wave]=crates/wave/stdin [why]=crates/why/stdin [words]=crates/words/stdin)
 mapfile -t commands < <(./nt6861 -h | sed -n 's/^  \([a-z0-9]*\) .*/\1/p')
 [ "${#commands[@]}" -ge 10 ] || complain "./nt6861 -h lists ${#commands[@]} commands"
 [ $# = 0 ] || commands=("$@")
@@ -137,6 +137,10 @@ if is_tried counters6862; then
 fi
 if is_tried vcd; then
     tried 1 '*' 'nt6861 vcd: tests/vcd/back.vcd: at byte 45: 41, time goes back' ./nt6861 vcd tests/vcd/back.vcd
+fi
+if is_tried wave; then
+    tried 2 '' 'nt6861 wave: the name after -o is missing; *' ./nt6861 wave -o
+    tried 1 '$timescale*#1' 'nt6861 wave: the input ends within a word; its bytes are left out' given '\000\000\000\006\001' ./nt6861 wave
 fi
 if is_tried addresses; then
     tried 1 2 'nt6861 addresses: standard input: refused with 2, a line that is neither SDA nor SCL' given '\001\000' ./nt6861 addresses 6E

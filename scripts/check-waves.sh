@@ -1,21 +1,26 @@
 #!/usr/bin/env bash
-# Dumps of replays. The proved reader gives back, of the independent writer's dumps of random lists and of the stored runs, each list's 8 µs clocks and
-# levels of the four pins; the proved writer writes the same dumps, byte for byte; the recall's pictures are those of its dumps; what other readers of
-# dumps are installed take them. Ends in 'waves: ..', or names the first difference and fails.
+# Dumps of runs. Of random lists and of the stored runs the proved program writes the same dump as the independent writer, byte for byte, and the proved
+# reader gives back the list's 8 µs clocks and levels of the four pins; ./nt6861 wave leaves nothing half written under the name asked for; the
+# recall's pictures are those of its dumps; what other readers of dumps are installed take them. Ends in 'waves: ..', or names the first difference
+# and fails.
 set -euo pipefail
 cd "$(dirname "$0")/.."
 work=$(mktemp -d)
 trap 'rm -rf "$work"' EXIT
 source scripts/library.sh
 library vcd_capi
+program wave
 cargo test --offline --quiet --release --lib wave > "$work/log" 2>&1 || { cat "$work/log"; exit 1; }
 cargo build --offline --quiet --release --bin model
 cargo build --offline --quiet --release --features proved --bin vcd
 model=target/cargo/release/model
 
-# read_back NAME: the dump of $work/words, and the words that the proved reader gives back
+# read_back NAME: the dump of $work/words by both writers, and the words that the proved reader gives back
 read_back() {
-    "$model" wave < "$work/words" > "$work/dump"
+    target/bin/wave < "$work/words" > "$work/dump" 2> "$work/said"
+    [ ! -s "$work/said" ] || { echo "waves: $1: the program says '$(cat "$work/said")'"; exit 1; }
+    "$model" wave < "$work/words" > "$work/independent"
+    cmp "$work/dump" "$work/independent" || { echo "waves: $1: the two writers' dumps differ"; exit 1; }
     target/cargo/release/vcd < "$work/dump" > "$work/read" || { echo "waves: $1: the reader refuses the dump"; exit 1; }
     "$model" kept < "$work/words" > "$work/kept"
     cmp "$work/read" "$work/kept" || { echo "waves: $1: the words read back differ"; exit 1; }
@@ -23,14 +28,14 @@ read_back() {
 
 # Random lists, among them an empty one and one word.
 lists=0
-for count in 0 1 2 1000 5000 60000; do
+for count in 0 1 2 1023 1024 1025 60000; do
     for seed in 1 2 3; do
         "$model" words "$seed" "$count" > "$work/words"
         read_back "$count words of seed $seed"
         lists=$((lists + 1))
     done
 done
-echo "waves: of $lists random lists' dumps the proved reader gives back their clocks and pins"
+echo "waves: of $lists random lists the program writes the independent writer's dump, and the proved reader gives back their clocks and pins"
 
 # Events between two clocks stay before the next one, however many they are.
 python3 - "$work/words" <<'PYTHON'
@@ -51,11 +56,31 @@ for run in "foreign 2153" "own 2187"; do
 done
 echo "waves: images/recall-foreign.svg and images/recall-own.svg are the pictures of the recall's dumps"
 
-# The proved writer: an unproved program over it writes the same dumps. The interpreter, one of the four ways in which it is run, takes 10,000,000 steps at most.
-"$model" words 4 3000 > "$work/long.words"
-"$model" wave < "$work/long.words" > "$work/long.vcd"
-python3 scripts/wave_driver.py "$work/long.words" "$work/long.vcd" "$work/recall-own.words" "$work/recall-own.vcd"
-echo "waves: the proved writer writes the same dumps of 3,000 words and of the recall, byte for byte"
+# Outputs: the dump of standard input and of a file under a name; bytes left over; what cannot be written. Nothing is left under another name.
+mkdir "$work/out"
+printf '\001\002\003' > "$work/left"
+cat "$work/recall-own.words" "$work/left" > "$work/cut.words"
+uses=0
+# used STATUS SAID DUMP COMMAND..: the status, what is said, and the dump that then has the name
+used() {
+    local status=0
+    "${@:4}" 2> "$work/said" || status=$?
+    uses=$((uses + 1))
+    # shellcheck disable=SC2053
+    [ "$status" = "$1" ] && [[ "$(cat "$work/said")" == $2 ]] || { echo "waves: ${*:4}: status $status, said '$(cat "$work/said")'"; exit 1; }
+    [ -z "$3" ] || cmp "$3" "$work/out/dump.vcd" || { echo "waves: ${*:4}: another dump"; exit 1; }
+    [ "$(ls -A "$work/out")" = "${3:+dump.vcd}" ] || { echo "waves: ${*:4}: leaves $(ls -A "$work/out")"; exit 1; }
+    rm -f "$work/out/dump.vcd"
+}
+full() { (ulimit -f 1; trap '' XFSZ; exec "$@"); }
+ended() { timeout 2 "$@" < <(exec sleep 4); }
+used 0 '' "$work/recall-own.vcd" ./nt6861 wave -o "$work/out/dump.vcd" "$work/recall-own.words"
+used 1 'nt6861 wave: the input ends within a word; its bytes are left out' "$work/recall-own.vcd" ./nt6861 wave -o "$work/out/dump.vcd" "$work/cut.words"
+used 2 "nt6861 wave: $work/out/dump.vcd: *" '' full ./nt6861 wave -o "$work/out/dump.vcd" "$work/recall-own.words"
+used 2 "nt6861 wave: $work/none/dump.vcd: No such file or directory" '' ./nt6861 wave -o "$work/none/dump.vcd" "$work/recall-own.words"
+used 2 "nt6861 wave: $work: Is a directory" '' ./nt6861 wave -o "$work" "$work/recall-own.words"
+used 124 '*' '' ended ./nt6861 wave -o "$work/out/dump.vcd"
+echo "waves: in $uses uses a dump has the name asked for when it is whole, and nothing is left otherwise"
 
 # The save file for GTKWave names the variables of the header, and the translation file the phases.
 python3 - "$work/recall-own.vcd" <<'PYTHON'

@@ -2,7 +2,7 @@
 _nt6861() {
     local words='' word=${COMP_WORDS[COMP_CWORD]}
     if [ "$COMP_CWORD" = 1 ]; then
-        words='replay words why firmware vcd addresses edid feed record recording counters6862 release -h'
+        words='replay words why firmware vcd wave addresses edid feed record recording counters6862 release -h'
     elif [[ $word == -* ]]; then
         case ${COMP_WORDS[1]} in
         replay) words='-h' ;;
@@ -10,6 +10,7 @@ _nt6861() {
         why) words='-h' ;;
         firmware) words='-t --host -h' ;;
         vcd) words='-h' ;;
+        wave) words='-o -h' ;;
         addresses) words='-h' ;;
         edid) words='-h' ;;
         feed) words='-h' ;;

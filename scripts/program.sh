@@ -141,6 +141,52 @@ input() {
     { : 3<&0; } 2> /dev/null || fail "standard input is closed"
 }
 
+# What `wave` takes before its file: -o OUT. The output has another name until it is whole, and is then renamed, so that nothing is left half
+# written under the name asked for. What is there and no regular file, as a pipe, is written to as it is.
+output=''
+partial=''
+input_output() {
+    if [ "${1:-}" = -o ]; then
+        [ -n "${2:-}" ] || misused "the name after -o is missing"
+        output=$2
+        shift 2
+    fi
+    input "$@"
+    [ -z "$output" ] || open_output
+}
+
+open_output() {
+    local reason name=$output
+    [ ! -d "$output" ] || fail "$output: Is a directory"
+    if [ -f "$output" ] || [ ! -e "$output" ]; then
+        name=$(readlink -m -- "$output").$$.part
+        partial=$name
+        trap 'rm -f -- "$partial"' EXIT
+    fi
+    if ! { command exec > "$name"; } 2> /dev/null; then
+        reason=$({ : > "$name"; } 2>&1) || true
+        fail "$output: ${reason##*: }"
+    fi
+}
+
+remove_at_signals() {
+    local signal
+    for signal in INT TERM HUP QUIT; do
+        # shellcheck disable=SC2064
+        trap "rm -f -- \"\$partial\"; stopped $signal" "$signal"
+    done
+}
+
+# settle STATUS: an output that is whole gets its name, any other is removed
+settle() {
+    [ -n "$partial" ] || return 0
+    if (($1 <= 1)); then
+        mv -f -- "$partial" "${partial%.$$.part}" 2> /dev/null || { tell "$output: cannot be renamed"; return 1; }
+    else
+        rm -f -- "$partial"
+    fi
+}
+
 # What `addresses` takes before its file.
 byte=()
 input_byte() {
@@ -194,6 +240,7 @@ reword() {
     line=$1
     line=${line#"${entry[$command crate]}: "}
     [ "$source" = 'standard input' ] || line=${line/#standard input/"$source"}
+    [ -z "$output" ] || line=${line/#standard output/"$output"}
     for ((i = 0; i < ${#called[@]}; i += 2)); do
         line=${line/#"${called[i]}"/"${called[i + 1]}"}
     done
@@ -302,7 +349,9 @@ run() {
     # a program that was ended by a signal says so by that, but for a write that nobody reads
     ((status <= 128 || status == 141)) || tell "ended by signal $((status - 128))"
     ((status == 0 || status > 128)) || status=2
-    exit "$(worse "$status" "$judged")"
+    status=$(worse "$status" "$judged")
+    settle "$status" || status=2
+    exit "$status"
 }
 
 main() {
@@ -322,6 +371,7 @@ main() {
     case ${entry[$command input]} in
     file) input "$@" ;;
     'byte file') input_byte "$@" ;;
+    'output file') input_output "$@" ;;
     *)
         arguments=("$@")
         [ "$command" != firmware ] || input_firmware "$@"
@@ -330,6 +380,7 @@ main() {
     # that there is no output to write to is told before anything is proved
     { : 3>&1; } 2> /dev/null || fail "standard output is closed"
     heed_signals
+    [ -z "$partial" ] || remove_at_signals
     if [ -n "${entry[$command front]:-}" ]; then
         built_front "${entry[$command front]}" "${entry[$command crate]}"
         exec "$(front_of "${entry[$command front]}")" "$source" "${byte[@]}"

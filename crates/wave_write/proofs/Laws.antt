@@ -421,3 +421,27 @@ first-wrote pins w x y z = wrote-lines (first (eqb (pins % 2) 1) 24 ∷ []) _ w 
 pub first-size : (pins : ℕ) → length (text (firstLines pins)) ≡ 20
 unfolding firstLines text lineBytes
 first-size pins = refl
+
+-- ---- what is written is within its places
+
+begin-length : (pins : ℕ) (watch : Watch) → length (headerText ++ (10 ∷ text (beginLines pins watch))) ≤ 753
+unfolding beginLines
+begin-length pins watch =
+    rw (begin-text (time 0 ∷ (firstLines pins ++ watchLines (opposite watch) watch)), text-append (time 0 ∷ []) (firstLines pins ++ watchLines (opposite watch) watch), text-append (firstLines pins), text-append (levelLines 10 0 (opposite watch .levels) (watch .levels)))
+    (simp length-append (omega (arith, header-size, length-append headerText (10 ∷ []), time-length 0, first-size pins, levels-by 10 0 (opposite watch .levels) (watch .levels), vectors-by 6 0 (opposite watch .vectors) (watch .vectors))))
+
+begin-by : (b : Bool) (places : ℕ) (bytes : List ℕ) → fits places 0 753 ≡ b → length bytes ≤ 753 → length (pick b bytes []) ≤ places
+begin-by true places bytes e h = omega (arith, fits-room places 0 753 e)
+begin-by false places bytes e h = omega arith
+
+pub begin-within : (room : List ℕ) (pins : ℕ) (watch : Watch) → length (beginBytes room pins watch) ≤ length room
+unfolding beginBytes
+begin-within room pins watch = begin-by (fits (length room) 0 753) (length room) _ refl (begin-length pins watch)
+
+end-by : (b : Bool) (places : ℕ) (bytes : List ℕ) → fits places 0 22 ≡ b → length bytes ≤ 22 → length (pick b bytes []) ≤ places
+end-by true places bytes e h = omega (arith, fits-room places 0 22 e)
+end-by false places bytes e h = omega arith
+
+pub end-within : (room : List ℕ) (w : Writer) → length (endBytes room 0 w) ≤ length room
+unfolding endBytes
+end-within room w = end-by (fits (length room) 0 22) (length room) _ refl (time-length (timeOf w))

@@ -1,0 +1,1 @@
+// Theorems about the dump of a run: what is watched with each word, reading it back, and its blocks. There is no code here.
