@@ -28,7 +28,7 @@ use Rattle.wave_watch.specs.Watched.{phaseNumber, watchOf, pinsOf}
 use Rattle.wave_run.specs.declared.Run.{Run}
 use Rattle.wave_run.specs.Run.{eventsOf, runDump, start, ran}
 use Rattle.wave_run.proofs.Blocks.{events-length}
-use Rattle.wave_run_laws.specs.Blocks.{joined, blocksText}
+use Rattle.wave_run_laws.specs.Blocks.{event, joined, blocksText}
 
 -- ---- the events of a run
 
@@ -41,9 +41,6 @@ pub events-append : (c : Chip) (ws vs : List ℕ) → eventsOf c (ws ++ vs) ≡ 
 unfolding eventsOf
 events-append c [] vs = refl
 events-append c (w ∷ ws) vs = ap (λ (l : List Event). record { word = w; watch = watchOf (advance c (decode w) .chip) } ∷ l) (events-append (advance c (decode w) .chip) ws vs)
-
-abbrev event : ℕ → Watch → Event
-event word watch = record { word = word; watch = watch }
 
 -- with each word goes what is watched of the chip after the words so far
 pub watched-after : (c : Chip) (ws : List ℕ) (w : ℕ) (vs : List ℕ)

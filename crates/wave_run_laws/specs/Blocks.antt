@@ -1,9 +1,14 @@
 -- A run in blocks of words of any length.
 use Prim.Native.Nat.{ℕ}
 use mathlib.Core.List.{List, [], _∷_, _++_}
-use Rattle.wave_write.specs.Lines.{text, lines}
+use Rattle.wave_write.specs.Lines.{Event, text, lines}
 use Rattle.wave_run.specs.declared.Run.{Run}
 use Rattle.wave_run.specs.Run.{eventsOf, ran}
+use Rattle.wave_write.specs.declared.Watch.{Watch}
+
+-- a word with what is watched after it
+abbrev pub event : ℕ → Watch → Event
+event word watch = record { word = word; watch = watch }
 
 -- blocks one after the other
 unfoldable pub joined : List (List ℕ) → List ℕ
