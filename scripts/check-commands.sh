@@ -41,11 +41,14 @@ write_only_input() { "$@" 0> /dev/null; }
 # are tried by its own check.
 declare -A before=([addresses]=6E)
 declare -A behind=([firmware]=100)
-declare -A own=([firmware]=yes)
+declare -A own=([check]=yes [firmware]=yes)
 declare -A script=([release]=yes)
+# what is printed of a file that is missing
+declare -A missed=([check]='0 passed, 1 failed')
 declare -A file=(
-    [addresses]=tests/addresses/example.bin [counters6862]=crates/counters6862/stdin [edid]=crates/edid/stdin [feed]=crates/edid/stdin
-    [firmware]=images/sort.rom [record]=crates/record/stdin [recording]=crates/record/stdout [replay]=crates/record/stdin [vcd]=tests/vcd/start.vcd [wave]=crates/wave/stdin [why]=crates/why/stdin [words]=crates/words/stdin)
+    [addresses]=tests/addresses/example.bin [check]=tests/cases/vsync.txt [counters6862]=crates/counters6862/stdin [edid]=crates/edid/stdin [feed]=crates/edid/stdin
+    [firmware]=images/sort.rom [list]=crates/record/stdin [record]=crates/record/stdin [recording]=crates/record/stdout [replay]=crates/record/stdin [vcd]=tests/vcd/start.vcd
+    [wave]=crates/wave/stdin [why]=crates/why/stdin [words]=crates/words/stdin)
 mapfile -t commands < <(./nt6861 -h | sed -n 's/^  \([a-z0-9]*\) .*/\1/p')
 [ "${#commands[@]}" -ge 10 ] || complain "./nt6861 -h lists ${#commands[@]} commands"
 [ $# = 0 ] || commands=("$@")
@@ -108,7 +111,7 @@ status 2  *" '' ./nt6861 "$name" -h
     # the same status where it cannot be told why
     for quiet in full_error closed_error; do
         tried 2 '' '' "$quiet" ./nt6861 "$name" -x
-        tried 2 '' '' "$quiet" ./nt6861 "$name" "${words[@]}" "$missing" ${behind[$name]:-}
+        tried 2 "${missed[$name]:-}" '' "$quiet" ./nt6861 "$name" "${words[@]}" "$missing" ${behind[$name]:-}
         tried 2 '' '' "$quiet" full ./nt6861 "$name" "${whole[@]}"
         tried 0 '?*' '' "$quiet" ./nt6861 "$name" "${whole[@]}"
         cmp -s "$work/own" "$work/out" || complain "$name prints otherwise without standard error"

@@ -2,10 +2,12 @@
 _nt6861() {
     local words='' word=${COMP_WORDS[COMP_CWORD]}
     if [ "$COMP_CWORD" = 1 ]; then
-        words='replay words why firmware vcd wave addresses edid feed record recording counters6862 release -h'
+        words='replay list check words why firmware vcd wave addresses edid feed record recording counters6862 release -h'
     elif [[ $word == -* ]]; then
         case ${COMP_WORDS[1]} in
         replay) words='-h' ;;
+        list) words='-h' ;;
+        check) words='-h' ;;
         words) words='-h' ;;
         why) words='-h' ;;
         firmware) words='-t --host -h' ;;

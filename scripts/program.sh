@@ -233,6 +233,26 @@ input_firmware() {
     arguments=("${option[@]}" "$rom" "${@:2}")
 }
 
+# What `check` takes: cases, and folders, which stand for the files in and below them, hidden ones left out, in the order of their names.
+input_check() {
+    local name found
+    if [ $# = 0 ]; then
+        { : 3<&0; } 2> /dev/null || fail "standard input is closed"
+        arguments=(/dev/stdin)
+        return
+    fi
+    for name in "$@"; do
+        case $name in -*) misused "no option $name" ;; esac
+        if [ -d "$name" ]; then
+            mapfile -d '' -t found < <(find -L "$name" -mindepth 1 -name '.*' -prune -o -type f -print0 2> /dev/null | LC_ALL=C sort -z)
+            [ "${#found[@]}" != 0 ] || fail "$name: no files in this folder"
+            arguments+=("${found[@]}")
+        else
+            arguments+=("$name")
+        fi
+    done
+}
+
 # ---- running
 # reword LINE: `line` is a line of the program as the command tells it
 reword() {
@@ -373,8 +393,11 @@ main() {
     'byte file') input_byte "$@" ;;
     'output file') input_output "$@" ;;
     *)
-        arguments=("$@")
-        [ "$command" != firmware ] || input_firmware "$@"
+        case $command in
+        firmware) input_firmware "$@" ;;
+        check) input_check "$@" ;;
+        *) arguments=("$@") ;;
+        esac
         ;;
     esac
     # that there is no output to write to is told before anything is proved

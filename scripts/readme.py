@@ -2,7 +2,7 @@
 """readme.py PAGE..: runs the examples of the pages as they are written.
 
 In an indented block a line `$ command` is run by bash in the repository's top folder, and the lines after it are what it prints. Where the
-last of them is a refusal, as `30 length` or `nt6861 vcd: FILE: at byte 45: ..`, it must end with status 1, else with 0. A block of nothing but comments and entries of a
+last of them is a refusal, as `30 length`, `2 passed, 1 failed` or `nt6861 vcd: FILE: at byte 45: ..`, it must end with status 1, else with 0. A block of nothing but comments and entries of a
 listing is run by target/bin/vectors from a fresh chip.
 """
 import pathlib
@@ -12,7 +12,7 @@ import sys
 import tempfile
 
 ENTRY = re.compile(r"#.*|(?:[0-9]{1,5}\* *)?[0-9A-Fa-f]{8} +[0-9A-Fa-f]{8}(?: .*)?")
-REFUSAL = re.compile(r"3[0-6] .*|nt6861 \w+: .*")
+REFUSAL = re.compile(r"3[0-6] .*|nt6861 \w+: .*|\d+ passed, [1-9]\d* failed")
 complaints = []
 commands = listings = 0
 pages = [pathlib.Path(name) for name in sys.argv[1:]]

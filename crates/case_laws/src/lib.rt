@@ -1,0 +1,1 @@
+// What a case that passes says: laws alone.
