@@ -1,6 +1,6 @@
 /* A chip that a program keeps: it is made, stepped, stored in a file, read back and stepped on. Usage: chip FILE
  *
- *   cc -Iinclude -o chip examples/chip.c target/staticlib/libchip_capi.a
+ *   ./nt6861 library && cc -Iinclude -o target/chip examples/chip.c target/lib/libnt6861.a
  */
 #include <stdio.h>
 

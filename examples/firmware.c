@@ -1,8 +1,7 @@
 /* A firmware image run from C: power up, events at instructions, the run in two calls. A host sends an address on the bus, first that of
  * another device, then the monitor's own, and the port of the picture is read before and after it.
  *
- *   rt staticlib chip_capi && rt staticlib firmware_capi
- *   cc -Iinclude -o target/firmware-example examples/firmware.c target/staticlib/libfirmware_capi.a target/staticlib/libchip_capi.a
+ *   ./nt6861 library && cc -Iinclude -o target/firmware-example examples/firmware.c target/lib/libnt6861.a
  *   target/firmware-example images/recall.rom
  */
 #include <stdio.h>

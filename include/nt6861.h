@@ -1,5 +1,15 @@
-/* Calls of the proved libraries for programs in C. A slice of a library passes as a pointer and a length; what is lent to one call does not
- * overlap. A library NAME is made by `rt staticlib NAME` as target/staticlib/libNAME.a. */
+/* The proved calls for programs in C and C++: libnt6861, static and shared (`./nt6861 library` makes both in target/lib, `./nt6861 install
+ * PREFIX` installs them).
+ *
+ * What is lent to a call passes as a pointer and a number of elements.
+ *   - A call reads and writes within what is lent to it, whatever it holds and however long it is, and keeps nothing of it. Calls on
+ *     different memory may run at the same time.
+ *   - With a length of 0 the pointer is not looked at: it may be null. With any other length, and where a call has no length for it
+ *     (`hertz`, `count`, `told` of nt6861_why), it must point to that many elements.
+ *   - Areas that are lent to one call must not overlap where one of them is written to. Those that are read alone may.
+ *   - Pointers to uint16_t, uint32_t, uint64_t, size_t and double must be aligned for their type, as C asks; those to bytes need no alignment.
+ *
+ * The parts of the library are named below with their calls: a part NAME alone is made by `rt staticlib NAME` as target/staticlib/libNAME.a. */
 #ifndef NT6861_H
 #define NT6861_H
 
@@ -9,6 +19,11 @@
 #ifdef __cplusplus
 extern "C" {
 #endif
+
+/* ---- version: major, minor and patch, each in a byte, of this header, and of the library that is linked (part chip_capi). They agree where the major numbers
+ * do and the library's minor number is not below the header's. docs/DECISIONS.md says what a version promises. */
+#define NT6861_VERSION 0x010000
+uint32_t nt6861_version(void);
 
 /* ---- names: what the numbers of docs/WORDS.md and docs/NUMBERS.md are called here */
 
@@ -101,7 +116,7 @@ enum nt6861_line { NT6861_LINE_SDA = 1, NT6861_LINE_SCL = 2, NT6861_LINE_PULLS_S
 /* The bytes of a chip. */
 #define NT6861_AREA 128
 
-/* ---- the chip: library chip_capi
+/* ---- the chip: part chip_capi
  *
  * A chip is a state in an area of 128 bytes that the caller lends (docs/STATE.md). It may be copied, stored in a file and lent again;
  * the library keeps nothing. An area of another length answers 15, and one whose bytes are not those of a well formed state 8, both
@@ -139,7 +154,7 @@ uint32_t nt6861_outcome(const uint8_t *area, size_t length);
  * nothing is latched, 2 where a counter is in overflow, and in bits 31..24 the number 15, 8, or 2 for another `which`. */
 uint32_t nt6861_rate(const uint8_t *area, size_t length, uint32_t which, double *hertz);
 
-/* ---- EDID base blocks: library edid_capi
+/* ---- EDID base blocks: part edid_capi
  *
  * The check of a block before it goes into RAM. Reads `length` bytes at `block`, of any length, and keeps nothing. Gives 0 for an
  * accepted block, else the number of the first rule that it breaks: 30 length (not 128 bytes), 31 header, 32 version not
@@ -147,7 +162,7 @@ uint32_t nt6861_rate(const uint8_t *area, size_t length, uint32_t which, double 
  * interface. */
 uint8_t nt6861_edid(const uint8_t *block, size_t length);
 
-/* ---- value change dumps to event words: library vcd_capi */
+/* ---- value change dumps to event words: part vcd_capi */
 
 /* Writes the event words of a dump as far as there are places. Gives 0, or the number of the first refusal, 40 to 44. told has two
  * places: how many words were written, and the place of the refusal (0 where there is none). 15 where told has not two places;
@@ -159,7 +174,7 @@ uint8_t nt6861_vcd(const uint8_t *file, size_t size, uint32_t *words, size_t roo
 uint8_t nt6861_vcd_more(const uint8_t *file, size_t size, uint32_t *words, size_t room, uint64_t *cursor, size_t cursor_places,
                         uint64_t *told, size_t told_places);
 
-/* ---- the sync counters of the NT6861 or the NT6862: library sync6862_capi
+/* ---- the sync counters of the NT6861 or the NT6862: part sync6862_capi
  *
  * They are twelve numbers that the caller lends:
  *
@@ -181,7 +196,7 @@ uint8_t nt6862_counters(uint16_t *state, size_t length, uint32_t call, uint32_t 
  * formed state, -15: a length that is not 12. */
 double nt6862_field_rate(const uint16_t *state, size_t length);
 
-/* ---- recordings from the capture box: library blocks_capi */
+/* ---- recordings from the capture box: part blocks_capi */
 
 /* Reads the block in the first 512 of the bytes, whose block number must be `number` (65,536 and more is no block's number).
  * Returns 0, writes its words to the start of `words` and how many they are (0 to 126) to `count`; places past them keep their
@@ -193,7 +208,7 @@ uint8_t nt6861_read_block(uint32_t number, const uint8_t *bytes, size_t bytes_le
  * there are over 126 words; else 17 where the area has another length. */
 uint8_t nt6861_write_block(uint16_t number, const uint32_t *words, size_t words_length, uint8_t *area, size_t area_length);
 
-/* ---- a plain reading of the bus: library addresses_capi */
+/* ---- a plain reading of the bus: part addresses_capi */
 
 /* Lists the addresses in a list of outside changes of SCL and SDA, from both lines 1, for a chip idle in DDC2B with `ii_adr` in II ADR.
  * A change has the line in its upper byte (18H SDA, 19H SCL) and the level in its lower (0, 1). Returns 0, writes each address to the
@@ -205,7 +220,7 @@ uint8_t nt6861_write_block(uint16_t number, const uint32_t *words, size_t words_
 uint8_t nt6861_addresses(uint8_t ii_adr, const uint16_t *changes, size_t changes_length, uint16_t *found, size_t found_length,
                          size_t *count);
 
-/* ---- why request lines are up (Wish 3): library why_capi
+/* ---- why request lines are up (Wish 3): part why_capi
  *
  * Gives the words to the state in an area of 128 bytes (docs/STATE.md), which stays as it is, and tells of each source why its request
  * line is as it is after them. told has twelve places, two for each of V, E, R, A, D, S in this order: a code, and the place of a word,
@@ -218,7 +233,7 @@ uint8_t nt6861_addresses(uint8_t ii_adr, const uint16_t *changes, size_t changes
  * Returns 0. Or tells nothing and returns 15 for an area of another length, else 8 where its bytes are not those of a well formed state. */
 uint8_t nt6861_why(const uint8_t *area, size_t area_length, const uint32_t *words, size_t count, uint64_t told[12]);
 
-/* ---- firmware (Wish 5): library firmware_capi
+/* ---- firmware (Wish 5): part firmware_capi
  *
  * Runs `instructions` instructions of a 6502 over the chip in an area of 128 bytes (docs/STATE.md). cpu has eight bytes: A, X, Y, S, P,
  * PC (low byte first), and the cycles since the last 8 us clock (0 to 31); of P bits 5 and 4 count for nothing and come back as 0. ram has
@@ -234,7 +249,7 @@ uint8_t nt6861_firmware(uint8_t *cpu, size_t cpu_length, uint8_t *ram, size_t ra
                         uint8_t *area, size_t area_length, const uint64_t *events, size_t events_length, uint32_t *answers,
                         size_t answers_length, uint32_t instructions, uint32_t *counts, size_t counts_length);
 
-/* ---- rates of latches: library rates_capi
+/* ---- rates of latches: part rates_capi
  *
  * The rates in hertz by the latches alone, as document 01 has them; 0 where there is none (a latch of 0, or above 4095). v is the latch
  * of VCNT, h that of HCNT: the field rate, the line rate at HSEL 0, and the line rate at HSEL 1. */

@@ -49,7 +49,8 @@ declare -A file=(
     [addresses]=tests/addresses/example.bin [check]=tests/cases/vsync.txt [counters6862]=crates/counters6862/stdin [edid]=crates/edid/stdin [feed]=crates/edid/stdin
     [firmware]=images/sort.rom [list]=crates/record/stdin [record]=crates/record/stdin [recording]=crates/record/stdout [replay]=crates/record/stdin [vcd]=tests/vcd/start.vcd
     [wave]=crates/wave/stdin [why]=crates/why/stdin [words]=crates/words/stdin)
-mapfile -t commands < <(./nt6861 -h | sed -n 's/^  \([a-z0-9]*\) .*/\1/p')
+# library, install and uninstall are tried by scripts/check-library.sh
+mapfile -t commands < <(./nt6861 -h | sed -n 's/^  \([a-z0-9]*\) .*/\1/p' | grep -vxE 'library|install|uninstall')
 [ "${#commands[@]}" -ge 10 ] || complain "./nt6861 -h lists ${#commands[@]} commands"
 [ $# = 0 ] || commands=("$@")
 

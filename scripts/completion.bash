@@ -2,7 +2,7 @@
 _nt6861() {
     local words='' word=${COMP_WORDS[COMP_CWORD]}
     if [ "$COMP_CWORD" = 1 ]; then
-        words='replay list check words why firmware vcd wave addresses edid feed record recording counters6862 release -h'
+        words='replay list check words why firmware vcd wave addresses edid feed record recording counters6862 library install uninstall release -h'
     elif [[ $word == -* ]]; then
         case ${COMP_WORDS[1]} in
         replay) words='-h' ;;
@@ -19,6 +19,9 @@ _nt6861() {
         record) words='-h' ;;
         recording) words='-h' ;;
         counters6862) words='-h' ;;
+        library) words='-h' ;;
+        install) words='-h' ;;
+        uninstall) words='-h' ;;
         release) words='-h' ;;
         esac
     else

@@ -38,3 +38,9 @@ program() {
 front() {
     made_or_told built_front "$@" || exit 1
 }
+
+# whole_library: target/lib/libnt6861.a and .so
+whole_library() {
+    library $(sed -n 's/^\([a-z0-9_]*_capi\):.*/\1/p' crates.txt)
+    made_or_told joined_library || exit 1
+}

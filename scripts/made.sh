@@ -273,3 +273,66 @@ built_front() { # FRONT CRATE..
     fi
     end_turn
 }
+
+# ---- libnt6861: every call of include/nt6861.h in one library, static and shared. Each crate of the C interface stays an object of its own in it:
+# compiled together, they made the list call three times as slow (docs/PERFORMANCE.md).
+
+# interface_crates: the crates of the C interface
+interface_crates() {
+    sed -n 's/^\([a-z0-9_]*_capi\):.*/\1/p' "$top/crates.txt"
+}
+
+# library_version: MAJOR.MINOR.PATCH, as include/nt6861.h has it
+library_version() {
+    local number
+    number=$(sed -n 's/^#define NT6861_VERSION \(0x[0-9a-f]*\)$/\1/p' "$top/include/nt6861.h") && [ -n "$number" ] || fail "include/nt6861.h has no NT6861_VERSION"
+    echo "$((number >> 16)).$((number >> 8 & 255)).$((number & 255))"
+}
+
+# join_objects FOLDER VERSION CRATE..: both libraries in the folder, of the proved libraries of the crates
+join_objects() (
+    cd "$1" && mkdir objects && cd objects || exit 1
+    for crate in "${@:3}"; do
+        ar x "$(library_of "$crate")" || exit 1
+    done
+    # nothing but the calls may be seen, and nothing twice
+    nm -g --defined-only ./*.o | awk 'NF == 3 { print $3 }' > ../symbols || exit 1
+    foreign=$(grep -vE '^nt686[12]_[a-z0-9_]+$' ../symbols | tr '\n' ' ' || true)
+    [ -z "$foreign" ] || { echo "error: visible and no call: $foreign"; exit 1; }
+    twice=$(sort ../symbols | uniq -d | tr '\n' ' ')
+    [ -z "$twice" ] || { echo "error: defined twice: $twice"; exit 1; }
+    echo "NT6861_${2%%.*} { global: nt6861_*; nt6862_*; local: *; };" > ../map
+    ar rcsD ../libnt6861.a ./*.o &&
+        cc -shared -Wl,-soname,"libnt6861.so.${2%%.*}" -Wl,--version-script=../map -Wl,-z,defs,-z,noexecstack,-z,relro,-z,now -Wl,--build-id=none \
+            -o "../libnt6861.so.$2" ./*.o && chmod 644 "../libnt6861.so.$2"
+)
+
+# joined_library: target/lib/libnt6861.a and libnt6861.so with its two links, made anew where a part is another one
+joined_library() {
+    local crates crate version parts folder=$top/target/lib work file
+    mapfile -t crates < <(interface_crates)
+    ((${#crates[@]} > 0)) || fail "crates.txt has no crate of the C interface"
+    version=$(library_version) || exit 2
+    for crate in "${crates[@]}"; do
+        proved_library "$crate"
+    done
+    type -P cc > /dev/null && type -P ar > /dev/null && type -P nm > /dev/null || fail "cc, ar and nm are needed for the library"
+    parts=$({ echo "$version"; declare -f join_objects; for crate in "${crates[@]}"; do sum_of "$(library_of "$crate")"; done; } | sha256sum | cut -d ' ' -f 1)
+    take_turn
+    if ! { is_current "$top/target/made/libnt6861.a" "$folder/libnt6861.a" "$parts" && is_current "$top/target/made/libnt6861.so" "$folder/libnt6861.so.$version" "$parts" &&
+        [ "$folder/libnt6861.so" -ef "$folder/libnt6861.so.$version" ] && [ "$folder/libnt6861.so.${version%%.*}" -ef "$folder/libnt6861.so.$version" ]; }; then
+        tell "joining ${#crates[@]} parts to libnt6861"
+        rm -rf "$folder" "$top/target/made/libnt6861.a" "$top/target/made/libnt6861.so" && mkdir -p "$folder" "$top/target/made" && work=$(mktemp -d "$top/target/join.XXXXXX") || cannot_write "$folder"
+        join_objects "$work" "$version" "${crates[@]}" > "$top/target/libnt6861.log" 2>&1 || {
+            rm -rf "$work"
+            grep -m 1 'error' "$top/target/libnt6861.log" >&2 || true
+            fail "the parts cannot be joined; $top/target/libnt6861.log has what was said"
+        }
+        mv "$work/libnt6861.a" "$work/libnt6861.so.$version" "$folder" || cannot_write "$folder"
+        ln -s "libnt6861.so.$version" "$folder/libnt6861.so.${version%%.*}" && ln -s "libnt6861.so.${version%%.*}" "$folder/libnt6861.so" || cannot_write "$folder"
+        rm -rf "$work"
+        stamp "$top/target/made/libnt6861.a" "$folder/libnt6861.a" "$parts"
+        stamp "$top/target/made/libnt6861.so" "$folder/libnt6861.so.$version" "$parts"
+    fi
+    end_turn
+}

@@ -21,7 +21,7 @@ def entries():
         field, _, text = line.partition(" ")
         if field == "command":
             name, fields = text, {}
-        elif field == "script" or field == "crate" and text in crates:
+        elif field in ("script", "runs") or field == "crate" and text in crates:
             shown[name] = fields
         fields.setdefault(field, []).append(text)
     return shown
@@ -91,7 +91,7 @@ def completion(shown):
 
 def listed(shown, page):
     rows = ["| command | what it gives |", "|---|---|"]
-    rows += [f"| `{name} {fields['usage'][0]}` | {fields['does'][0]} |" for name, fields in shown.items()]
+    rows += [f"| `{' '.join([name, *fields['usage'][0].split()])}` | {fields['does'][0]} |" for name, fields in shown.items()]
     parts = page.split(MARK)
     if len(parts) != 3:
         sys.exit(f"manual: docs/COMMANDS.md has {len(parts) - 1} of the two marks '{MARK.strip()}' around its table of commands")

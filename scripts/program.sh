@@ -8,6 +8,13 @@ if ((BASH_VERSINFO[0] * 100 + BASH_VERSINFO[1] < 501)); then
     exit 2
 fi
 source "$(dirname "$(readlink -f "${BASH_SOURCE[0]}")")/made.sh"
+# Installed (scripts/install.sh), the programs stand in bin beside this folder, and nothing is proved or built.
+if [ -e "$top/manifest" ]; then
+    proved_program() { :; }
+    built_front() { :; }
+    program_of() { echo "$top/bin/$1"; }
+    front_of() { echo "$top/bin/$1"; }
+fi
 command=''
 : 3>&2 || exec 2> /dev/null
 
@@ -42,12 +49,21 @@ read_table() {
             entry[$name crate]=${line#crate }
             ;;
         'script '*)
+            # an installation has no scripts of the repository
+            [ ! -e "$top/manifest" ] || { name=''; continue; }
             shown+=("$name")
             entry[$name script]=${line#script }
             ;;
+        'runs '*)
+            # where it is installed there is nothing to make
+            [ "$line" = 'runs uninstall_from' ] || [ ! -e "$top/manifest" ] || { name=''; continue; }
+            shown+=("$name")
+            entry[$name runs]=${line#runs }
+            ;;
         *)
             field=${line%% *}
-            [ -z "$name" ] || entry[$name $field]=${entry[$name $field]+${entry[$name $field]}$'\n'}${line#"$field" }
+            line=${line#"$field"}
+            [ -z "$name" ] || entry[$name $field]=${entry[$name $field]+${entry[$name $field]}$'\n'}${line# }
             ;;
         esac
     done < "$top/scripts/commands.txt" || fail "$top/scripts/commands.txt cannot be read"
@@ -387,6 +403,12 @@ main() {
     if [ -n "${entry[$command script]:-}" ]; then
         { : 3>&1; } 2> /dev/null || fail "standard output is closed"
         exec "$top/${entry[$command script]}" "$@"
+    fi
+    if [ -n "${entry[$command runs]:-}" ]; then
+        heed_signals
+        source "$top/scripts/install.sh"
+        "${entry[$command runs]}" "$@"
+        exit
     fi
     case ${entry[$command input]} in
     file) input "$@" ;;

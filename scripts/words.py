@@ -99,6 +99,9 @@ def check_header():
     given = {int(number) for number in re.findall(r"NT686[12]_\w+ = (\d+)", header.split("enum nt6861_number")[1].split("};")[0])}
     rows = {int(number) for number in re.findall(r"^\| (\d+) \|", pathlib.Path("docs/NUMBERS.md").read_text(), re.M)}
     agree("numbers of include/nt6861.h beside docs/NUMBERS.md", sorted(given), sorted(rows))
+    version = re.search(r"#define NT6861_VERSION 0x(\w+)", header)
+    proved = re.search(r"^const VERSION: u32 = 0x([0-9a-f_]+);", pathlib.Path("crates/chip_capi/src/lib.rt").read_text(), re.M)
+    agree("NT6861_VERSION of include/nt6861.h beside chip_capi", version and int(version[1], 16), proved and int(proved[1].replace("_", ""), 16))
     return len(code) + len(given)
 
 

@@ -6,6 +6,17 @@ ghost use Rattle.list_call.specs.Run.{run as runOf, runAnswers};
 ghost use Rattle.state_area.specs.Area.{storeNumber, storeLeft};
 ghost use Rattle.state_calls.specs.Calls.{stepArea, stepAnswer, runNumber, runArea, runPlaces, holdIn, outcomeIn, linesIn};
 ghost use Rattle.state_rate.specs.Rate.{rateIn, hertzIn};
+ghost use Rattle.chip_capi.specs.Version.{version as versionOf};
+
+// The version of the library: major, minor and patch, each in a byte.
+const VERSION: u32 = 0x1_00_00;
+
+#[no_mangle]
+pub extern "C" fn nt6861_version() -> u32
+    ensures { λ r. ⌜ r ≡ versionOf ⌝ }
+{
+    VERSION
+}
 
 // A fresh chip into the area: 0, or 15 and nothing written.
 #[no_mangle]
