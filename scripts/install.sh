@@ -43,7 +43,7 @@ put_folder() {
 named_files() {
     { sed -n 's/^    \$ //p' README.md; sed -n 's/^example //p' scripts/commands.txt; } | tr -s " |<>;&'" '\n' | sort -u |
         while IFS= read -r file; do
-            case $file in ./* | /* | *..* | images/*) ;; */*) [ ! -f "$file" ] || echo "$file" ;; esac
+            case $file in ./* | /* | *..* | images/*) ;; */*) [ ! -e "$file" ] || find "$file" -type f ;; esac
         done
 }
 
@@ -58,6 +58,7 @@ put_commands() {
         [ -n "$crate" ] || continue
         if [ -n "${entry[$name front]:-}" ]; then program=$(front_of "${entry[$name front]}"); else program=$(program_of "$crate"); fi
         install -m 755 -- "$program" "$own/bin/$(basename "$program")" && echo "$crate:" >> "$own/crates.txt" || return 1
+        [ -z "${entry[$name beside]:-}" ] || install -m 755 -- "$(front_of "${entry[$name beside]%% *}")" "$own/bin/" || return 1
     done
     put_text scripts/made.sh libexec/nt6861/scripts/made.sh && put_text scripts/program.sh libexec/nt6861/scripts/program.sh &&
         put_text scripts/install.sh libexec/nt6861/scripts/install.sh && put_text scripts/commands.txt libexec/nt6861/scripts/commands.txt
@@ -139,6 +140,8 @@ install_into() {
         elif [ -n "${entry[$name crate]:-}" ]; then
             proved_program "${entry[$name crate]}"
         fi
+        # shellcheck disable=SC2086
+        [ -z "${entry[$name beside]:-}" ] || built_front ${entry[$name beside]}
     done
     joined_library
     umask 022

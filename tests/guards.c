@@ -183,9 +183,10 @@ static void try_chip(void)
     call = "nt6861_step";
     keep();
     refused(nt6861_step(chip->start, chip->bytes, any_word()) >> 24 != 0);
-    call = "nt6861_hold and nt6861_outcome";
+    call = "nt6861_hold, nt6861_lines and nt6861_outcome";
     keep();
     (void)nt6861_hold(chip->start, chip->bytes);
+    (void)nt6861_lines(chip->start, chip->bytes);
     (void)nt6861_outcome(chip->start, chip->bytes);
     refused(1);
     call = "nt6861_rate";

@@ -41,6 +41,7 @@ static void the_chip(void)
     expect("nt6861_run", nt6861_run(chip, sizeof chip, words, 4, answers, 4), NT6861_DONE);
     expect("its requests", NT6861_REQUESTS_OF(answers[3]), NT6861_REQUEST_V);
     expect("nt6861_hold", nt6861_hold(chip, sizeof chip), 0);
+    expect("nt6861_lines", nt6861_lines(chip, sizeof chip), NT6861_LINE_SDA | NT6861_LINE_SCL);
     expect("nt6861_outcome", nt6861_outcome(chip, sizeof chip), 0);
     expect("nt6861_rate", nt6861_rate(chip, sizeof chip, 0, &hertz), 1);
     expect("nt6861_field_rate", nt6861_field_rate(2000), 62.5);

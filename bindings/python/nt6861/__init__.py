@@ -13,7 +13,7 @@ Chip: a chip that steps, runs lists of words, and is stored as 128 bytes. Firmwa
 record, recording, rates of latches, Counters6862. Refusals are exceptions, Refused, with number and meaning. The calls are those of libnt6861.
 """
 from ._library import VERSION, library
-from .chip import AREA, Chip, Rates, replay
+from .chip import AREA, Chip, Lines, Rates, replay
 from .data import (
     Address, Counters6862, Reason, RefusedDump, addresses, edid, field_rate, interval_rate, line_rate, record, recording, vcd, why,
 )
@@ -24,7 +24,7 @@ from .names import (
 
 __version__ = ".".join(str(part) for part in VERSION.to_bytes(3, "big"))
 __all__ = [
-    "AREA", "Address", "Answer", "CLOCKS", "Chip", "Counters6862", "Cpu", "Firmware", "MEANINGS", "PINS", "REGISTERS", "Rates", "Reason", "Refused",
+    "AREA", "Address", "Answer", "CLOCKS", "Chip", "Counters6862", "Cpu", "Firmware", "Lines", "MEANINGS", "PINS", "REGISTERS", "Rates", "Reason", "Refused",
     "RefusedDump", "RefusedInstruction", "Run", "SOURCES", "VERSION", "addresses", "clock_word", "edid", "events_of", "field_rate", "interval_rate",
     "letters", "library", "line_rate", "pin_word", "polarity_word", "read_word", "record", "recording", "replay", "symbols_of", "vcd", "why", "word",
     "write_word",

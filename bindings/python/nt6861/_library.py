@@ -19,6 +19,7 @@ _CALLS = {
     "nt6861_run": (c_uint8, [_BYTES, c_size_t, _WORDS, c_size_t, _WORDS, c_size_t]),
     "nt6861_replay": (c_uint8, [_WORDS, c_size_t, _WORDS, c_size_t]),
     "nt6861_hold": (c_uint32, [_BYTES, c_size_t]),
+    "nt6861_lines": (c_uint32, [_BYTES, c_size_t]),
     "nt6861_outcome": (c_uint32, [_BYTES, c_size_t]),
     "nt6861_rate": (c_uint32, [_BYTES, c_size_t, c_uint32, POINTER(c_double)]),
     "nt6861_edid": (c_uint8, [_BYTES, c_size_t]),

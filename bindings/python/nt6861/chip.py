@@ -21,6 +21,15 @@ class Rates(NamedTuple):
     line: Optional[float]
 
 
+class Lines(NamedTuple):
+    """the levels of SDA and SCL, and which of them the chip pulls"""
+
+    sda: int
+    scl: int
+    pulls_sda: bool
+    pulls_scl: bool
+
+
 class Chip:
     """An NT6861. A new one is fresh: reset values, all outside levels 1. With `state` it goes on from there.
 
@@ -165,6 +174,16 @@ class Chip:
     def hold(self) -> int:
         """For how many clocks of 8 microseconds the chip has held SCL low; 0 too where it does not hold it."""
         return library.nt6861_hold(self._area, AREA) & 0xFFFF
+
+    @property
+    def lines(self) -> Lines:
+        """The levels of the bus lines as the outside and the chip leave them, and which of them the chip pulls.
+
+        >>> Chip().lines
+        Lines(sda=1, scl=1, pulls_sda=False, pulls_scl=False)
+        """
+        bits = library.nt6861_lines(self._area, AREA)
+        return Lines(bits & 1, bits >> 1 & 1, bool(bits & 4), bool(bits & 8))
 
     @property
     def address(self) -> Optional[str]:

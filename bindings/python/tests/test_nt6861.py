@@ -88,6 +88,7 @@ class TheChip(unittest.TestCase):
         chip = Chip()
         chip.run(DDC2B + start_and_address(0xA0))
         self.assertEqual((chip.address, chip.hold, chip.requests), ("A0", 0, {"A", "D", "S"}))
+        self.assertEqual((chip.lines.scl, chip.lines.pulls_scl), (0, True))
         chip.clock("8us", 2)
         self.assertEqual(chip.hold, 2)
         chip.write("IIDAT", 0)

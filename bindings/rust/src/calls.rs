@@ -11,6 +11,7 @@ mod c {
         pub fn nt6861_run(area: *mut u8, length: usize, words: *const u32, count: usize, answers: *mut u32, places: usize) -> u8;
         pub fn nt6861_replay(words: *const u32, count: usize, answers: *mut u32, places: usize) -> u8;
         pub fn nt6861_hold(area: *const u8, length: usize) -> u32;
+        pub fn nt6861_lines(area: *const u8, length: usize) -> u32;
         pub fn nt6861_outcome(area: *const u8, length: usize) -> u32;
         pub fn nt6861_rate(area: *const u8, length: usize, which: u32, hertz: *mut f64) -> u32;
         pub fn nt6861_edid(block: *const u8, length: usize) -> u8;
@@ -61,6 +62,11 @@ pub fn replay(words: &[u32], answers: &mut [u32]) -> u8 {
 pub fn hold(area: &[u8]) -> u32 {
     // SAFETY: one slice, read alone.
     unsafe { c::nt6861_hold(area.as_ptr(), area.len()) }
+}
+
+pub fn lines(area: &[u8]) -> u32 {
+    // SAFETY: one slice, read alone.
+    unsafe { c::nt6861_lines(area.as_ptr(), area.len()) }
 }
 
 pub fn outcome(area: &[u8]) -> u32 {

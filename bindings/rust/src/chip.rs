@@ -38,6 +38,15 @@ impl Default for Chip {
     }
 }
 
+/// The levels of the bus lines, and which of them the chip pulls.
+#[derive(Clone, Copy, Debug, PartialEq, Eq)]
+pub struct Lines {
+    pub sda: bool,
+    pub scl: bool,
+    pub pulls_sda: bool,
+    pub pulls_scl: bool,
+}
+
 /// By which of its addresses the chip was called in the transfer under way.
 #[derive(Clone, Copy, Debug, PartialEq, Eq, Hash)]
 pub enum Outcome {
@@ -183,6 +192,17 @@ impl Chip {
     pub fn requests(&self) -> u8 {
         // a word that is no event is answered with the requests; the copy is thrown away
         self.clone().step(0).requests()
+    }
+
+    /// The levels of the bus lines as the outside and the chip leave them, and which the chip pulls.
+    ///
+    /// ```
+    /// let lines = nt6861::Chip::new().lines();
+    /// assert!(lines.sda && lines.scl && !lines.pulls_sda && !lines.pulls_scl);
+    /// ```
+    pub fn lines(&self) -> Lines {
+        let bits = calls::lines(&self.0);
+        Lines { sda: bits & 1 != 0, scl: bits & 2 != 0, pulls_sda: bits & 4 != 0, pulls_scl: bits & 8 != 0 }
     }
 
     /// For how many clocks of 8 µs the chip has held SCL low; 0 too where it does not hold it.

@@ -25,7 +25,7 @@ mod machine;
 mod names;
 mod readers;
 
-pub use chip::{replay, Answer, Answers, Chip, NoRate, Outcome, AREA};
+pub use chip::{replay, Answer, Answers, Chip, Lines, NoRate, Outcome, AREA};
 pub use machine::{event, Cpu, Machine, Stopped, Tally, ROM_BYTES};
 pub use names::{clock, pin, register, requests, word, Refusal, VERSION};
 pub use readers::{edid, field_rate, interval_rate, line_rate, read_block, why, write_block, Counters, Reason, BLOCK, BLOCK_WORDS};
