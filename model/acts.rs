@@ -98,6 +98,21 @@ fn pin(name: &str) -> Option<u8> {
     }
 }
 
+/// An event word as text: `SCL 1`, `read PT0`.
+pub fn event_text(word: u32) -> String {
+    let [kind, _, place, byte] = word.to_be_bytes();
+    let register = || REGISTERS.get(place as usize).copied().unwrap_or("");
+    match (kind, place) {
+        (1, _) => format!("read {}", register()),
+        (3, 24..=28) => format!("{} {byte}", ["SDA", "SCL", "HSYNCI", "VSYNCI", "RESET"][place as usize - 24]),
+        (3, _) => format!("P{}{} {byte}", place / 8, place % 8),
+        (4, 0) => "clock of 8 us".to_string(),
+        (4, 3) => "clock of the watchdog".to_string(),
+        (4, _) => "clock of the base timer".to_string(),
+        _ => format!("{word:08X}"),
+    }
+}
+
 /// A number with at most one point, in parts of which `scale` make one; None where it has more digits than that, or is too great.
 fn scaled(digits: &str, scale: u64) -> Option<u64> {
     let (whole, part) = digits.split_once('.').unwrap_or((digits, ""));

@@ -12,8 +12,8 @@ use std::fmt::Write;
 pub trait Machine {
     /// Gives an event word before the next instruction; its answer.
     fn give(&mut self, word: u32) -> u32;
-    /// Carries out an instruction, or two where `most` is 2; or the number of a refusal.
-    fn go(&mut self, most: u32) -> Result<(), u8>;
+    /// Carries out so many instructions, which take less than 32 cycles; or gives the number of a refusal.
+    fn go(&mut self, instructions: u32) -> Result<(), u8>;
     /// Instructions so far.
     fn counted(&self) -> u32;
     /// CPU cycles so far.
@@ -25,10 +25,16 @@ pub trait Machine {
     /// TBS, where the base timer is enabled.
     fn base(&self) -> Option<bool>;
     fn requests(&self) -> u8;
+    /// IRQX.
+    fn flags(&self) -> u8;
     /// A, X, Y, S, P, PC (low byte first), cycles since the last clock of 8 us.
     fn cpu(&self) -> [u8; 8];
     /// RAM or ROM.
     fn memory(&self, address: u16) -> Option<u8>;
+    /// What a read of a register would show; None where it is refused.
+    fn register(&self, register: u8) -> Option<u8>;
+    /// By which address the transfer under way was called, as nt6861_outcome: 0 none, 1 A0H, 2 II ADR, 3 both.
+    fn outcome(&self) -> u32;
 }
 
 /// What looks on.
@@ -38,6 +44,8 @@ pub trait Watcher<M> {
     /// Before an instruction that lies at `pc`; true ends the run there.
     fn before(&mut self, machine: &M, time: Time, pc: u16, interrupt: bool) -> bool;
     fn after(&mut self, machine: &M);
+    /// An event was given, with this answer, and set these flags of IRQX.
+    fn given(&mut self, machine: &M, time: Time, word: u32, answer: u32, set: u8);
     /// A line of the transcript.
     fn say(&mut self, line: &str);
 }
@@ -121,8 +129,9 @@ pub struct Host<'a, M: Machine, W: Watcher<M>> {
 }
 
 const CYCLE: Time = US / 4;
-/// Two instructions, each with an interrupt before it, take fewer cycles than there are in a clock of 8 us.
-const TWO: Time = 28 * CYCLE;
+/// Instructions that are carried out at once take at most so long, fewer cycles than there are in a clock of 8 us: two of 7 cycles, each with
+/// an interrupt of 7 before it, or four where no flag is set, which only an event can change.
+const AT_ONCE: Time = 28 * CYCLE;
 /// For how long SDA stays after a fall of SCL.
 const AFTER_FALL: Time = US;
 const LOW_RESET: Time = 10 * US;
@@ -244,7 +253,10 @@ impl<'a, M: Machine, W: Watcher<M>> Host<'a, M, W> {
 
     fn give(&mut self, word: u32) -> u32 {
         let number = self.machine.counted();
+        let flags = self.machine.flags();
         let answer = self.machine.give(word);
+        let set = self.machine.flags() & !flags;
+        self.watcher.given(self.machine, self.now(), word, answer, set);
         self.found.events.push((number, word));
         writeln!(self.found.list, "{number} {word:08X}").expect("a string");
         self.look(Ended::Event(word));
@@ -324,7 +336,7 @@ impl<'a, M: Machine, W: Watcher<M>> Host<'a, M, W> {
         next(self.hsync).min(next(self.vsync)).min(watchdog).min(millisecond)
     }
 
-    /// What is due, then an instruction, or two where nothing can be due between them.
+    /// What is due, then an instruction, or more where nothing can be due between them.
     fn turn(&mut self, until: Time) -> Result<(), End> {
         if self.machine.counted() >= self.limit {
             return Err(End::Count);
@@ -338,9 +350,13 @@ impl<'a, M: Machine, W: Watcher<M>> Host<'a, M, W> {
         if self.watcher.each() && self.watcher.before(self.machine, self.now(), pc, interrupt) {
             return Err(End::Until);
         }
-        let room = self.limit - self.machine.counted() >= 2;
-        let two = room && self.now() + TWO <= until.min(self.quiet_until());
-        self.machine.go(1 + two as u32).map_err(End::Refused)?;
+        let quiet = self.now() + AT_ONCE <= until.min(self.quiet_until());
+        let most = match (quiet, self.machine.flags()) {
+            (false, _) => 1,
+            (true, 0) => 4,
+            (true, _) => 2,
+        };
+        self.machine.go(most.min(self.limit - self.machine.counted())).map_err(End::Refused)?;
         if reset {
             self.still += 2 * CYCLE;
         }
@@ -395,6 +411,9 @@ impl<'a, M: Machine, W: Watcher<M>> Host<'a, M, W> {
         self.set(SDA, false);
         self.raise_scl()?;
         self.set(SDA, true);
+        if self.machine.lines() & 1 == 0 {
+            return Err(End::GaveUp("SDA is held low".to_string()));
+        }
         self.end_transfer(" STOP");
         self.wait(self.half)
     }

@@ -3,6 +3,7 @@
 use crate::core6502::{Listed, ROM_SIZE};
 use crate::firmware::{parse_events, print, print_trace, run, Malformed};
 use crate::host::{ddc1_bytes, host, monitor};
+use crate::symbols::Labels;
 use crate::{edid, opcodes};
 
 fn file(name: &str) -> Vec<u8> {
@@ -333,5 +334,36 @@ fn images_are_documented_opcodes_and_vectors() {
         let rom = image(&name);
         assert_eq!(rom[ROM_SIZE - 4..ROM_SIZE - 2], [0x00, 0xA0], "{name}");
         assert_ne!(opcodes::TABLE[rom[0] as usize].op, opcodes::Op::Unknown);
+    }
+}
+
+#[test]
+fn labels_of_three_forms() {
+    let label_file = "al 00A000 .reset\n\nal 000080 .offset\nal 00A032 .service\n";
+    let debug_file = "version\tmajor=2,minor=0\nsym\tid=0,name=\"reset\",addrsize=absolute,scope=0,def=1,val=0xA000,seg=0,type=lab\n\
+                      sym\tid=1,name=\"offset\",addrsize=zeropage,scope=0,def=2,val=0x80,type=equ\n\
+                      sym\tid=2,name=\"service\",addrsize=absolute,scope=0,def=3,val=0xA032,seg=0,type=lab\n";
+    let rom = image("ddc2b");
+    let memory = |address: u16| rom.get(address.wrapping_sub(0xA000) as usize).copied();
+    for text in [label_file, debug_file, &text("ddc2b.lst")] {
+        let labels = Labels::parse(text).expect("labels");
+        assert_eq!(labels.address("service"), Some(0xA032));
+        assert_eq!(labels.address("A07F"), Some(0xA07F));
+        assert_eq!(labels.address("offset"), None);
+        assert_eq!(labels.place(0xA033).as_deref(), Some("service+1"));
+        assert_eq!(labels.place(0x9FFF), None);
+        assert_eq!(labels.instruction(0xA018, memory), "STA MDCON");
+        assert_eq!(labels.instruction(0xA00A, memory), "STA 0100,X");
+    }
+    let listing = Labels::parse(&text("ddc2b.lst")).expect("labels");
+    assert_eq!(listing.instruction(0xA00E, memory), "BPL copy");
+    assert_eq!(listing.instruction(0xA02F, memory), "JMP loop");
+    for (text, line) in [
+        ("al 00A000 .reset\nal A0G0 .x\n", 2),
+        ("al 00A000 reset\n", 1),
+        ("al 00A000\n", 1),
+        ("00A000  1  78           reset:  sei\nnothing\n", 2),
+    ] {
+        assert_eq!(Labels::parse(text).err(), Some(line), "{text}");
     }
 }

@@ -28,8 +28,8 @@ impl bus_host::Machine for Machine<'_, ()> {
         Machine::give(self, word)
     }
 
-    fn go(&mut self, most: u32) -> Result<(), u8> {
-        (0..most).try_for_each(|_| self.turn())
+    fn go(&mut self, instructions: u32) -> Result<(), u8> {
+        (0..instructions).try_for_each(|_| self.turn())
     }
 
     fn counted(&self) -> u32 {
@@ -56,6 +56,10 @@ impl bus_host::Machine for Machine<'_, ()> {
         self.chip.requests()
     }
 
+    fn flags(&self) -> u8 {
+        self.chip.irqx
+    }
+
     fn cpu(&self) -> [u8; 8] {
         let cpu = &self.cpu;
         let [low, high] = cpu.pc.to_le_bytes();
@@ -68,6 +72,14 @@ impl bus_host::Machine for Machine<'_, ()> {
             0xA000.. => Some(self.rom[address as usize - 0xA000]),
             _ => None,
         }
+    }
+
+    fn register(&self, register: u8) -> Option<u8> {
+        self.chip.read(register)
+    }
+
+    fn outcome(&self) -> u32 {
+        self.chip.outcome() as u32
     }
 }
 
@@ -84,6 +96,8 @@ impl<M> Watcher<M> for Transcript {
     }
 
     fn after(&mut self, _machine: &M) {}
+
+    fn given(&mut self, _machine: &M, _time: u64, _word: u32, _answer: u32, _set: u8) {}
 
     fn say(&mut self, line: &str) {
         self.0 += line;

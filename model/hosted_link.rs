@@ -29,12 +29,14 @@ extern "C" {
     fn nt6861_fresh(area: *mut u8, length: usize) -> u8;
     fn nt6861_step(area: *mut u8, length: usize, word: u32) -> u32;
     fn nt6861_lines(area: *const u8, length: usize) -> u32;
+    fn nt6861_outcome(area: *const u8, length: usize) -> u32;
 }
 
 pub const ROM_SIZE: usize = 24_576;
 
 // Places of the 128 bytes (docs/STATE.md).
 const IRQX: usize = 0;
+const SYNC: std::ops::Range<usize> = 5..17;
 const PORTS: usize = 28;
 const HSYNCI: usize = 31;
 const REGISTERS: usize = 90;
@@ -83,7 +85,7 @@ impl State {
     }
 }
 
-/// The machine under a host: the proved call carries out an instruction or two with the events before it. What an event leaves before the
+/// The machine under a host: the proved call carries out a few instructions with the events before them. What an event leaves before the
 /// instruction is seen on a copy of the chip, by the proved step; that both answer alike is looked at each time.
 pub struct Proved<'a> {
     rom: &'a [u8; ROM_SIZE],
@@ -119,6 +121,11 @@ impl<'a> Proved<'a> {
     }
 }
 
+/// Two states differ at most in the sync counters, to which no line looks.
+fn is_idle(one: &[u8; 128], other: &[u8; 128]) -> bool {
+    one[..SYNC.start] == other[..SYNC.start] && one[SYNC.end..] == other[SYNC.end..]
+}
+
 fn lines(area: &[u8; 128]) -> u32 {
     unsafe { nt6861_lines(area.as_ptr(), 128) }
 }
@@ -137,18 +144,20 @@ impl Machine for Proved<'_> {
         answer
     }
 
-    fn go(&mut self, most: u32) -> Result<(), u8> {
+    fn go(&mut self, instructions: u32) -> Result<(), u8> {
         let over = self.state.cpu[7];
         let mut answers = vec![0; self.waiting.len()];
-        let (number, counts) = self.state.run(self.rom, &self.waiting, &mut answers, most);
+        let (number, counts) = self.state.run(self.rom, &self.waiting, &mut answers, instructions);
         let expected = &self.answers[self.answers.len() - answers.len()..];
         self.differs |= answers != expected || counts[1] as usize != answers.len();
         self.waiting.clear();
         self.counted += counts[0];
         self.cycles += (self.state.cpu[7].wrapping_sub(over) & 31) as u64;
         self.cpu = self.state.cpu;
+        if !is_idle(&self.area, &self.state.area) {
+            self.lines = lines(&self.state.area);
+        }
         self.area = self.state.area;
-        self.lines = lines(&self.area);
         if number == 0 {
             Ok(())
         } else {
@@ -185,6 +194,10 @@ impl Machine for Proved<'_> {
         self.area[IRQX] & self.area[IEX]
     }
 
+    fn flags(&self) -> u8 {
+        self.area[IRQX]
+    }
+
     fn cpu(&self) -> [u8; 8] {
         self.cpu
     }
@@ -195,5 +208,15 @@ impl Machine for Proved<'_> {
             0xA000.. => Some(self.rom[address as usize - 0xA000]),
             _ => None,
         }
+    }
+
+    fn register(&self, register: u8) -> Option<u8> {
+        let mut area = self.area;
+        let answer = unsafe { nt6861_step(area.as_mut_ptr(), 128, 0x0100_0000 | (register as u32) << 8) };
+        (answer >> 24 == 0).then_some(answer as u8)
+    }
+
+    fn outcome(&self) -> u32 {
+        unsafe { nt6861_outcome(self.area.as_ptr(), 128) }
     }
 }

@@ -29,6 +29,7 @@ struct Options {
     labels: Option<String>,
     until: Option<String>,
     breaks: Vec<String>,
+    watches: Vec<String>,
     most_hold: Option<Time>,
     holds: bool,
     events: Option<String>,
@@ -53,6 +54,7 @@ fn options(arguments: &[String]) -> Result<Options, Told> {
             "--labels" => options.labels = Some(value()?),
             "--until" => options.until = Some(value()?),
             "--break" => options.breaks.push(value()?),
+            "--watch" => options.watches.push(value()?),
             "--events" => options.events = Some(value()?),
             "--lines" => options.lines = Some(value()?),
             "--max-hold" => {
@@ -105,6 +107,30 @@ fn text_of(name: &str) -> Result<String, Told> {
     })
 }
 
+/// A byte that is watched: its name, a register's number or an address of RAM, and what it was last.
+struct Watched {
+    name: String,
+    place: u16,
+    last: Option<u8>,
+}
+
+impl Watched {
+    fn new(name: &str) -> Option<Watched> {
+        let register = acts::REGISTERS.iter().position(|register| *register == name);
+        let digits = name.len() == 4 && name.bytes().all(|byte| byte.is_ascii_hexdigit());
+        let address = digits.then(|| u16::from_str_radix(name, 16).ok()).flatten().filter(|address| (0x0080..0x0180).contains(address));
+        let place = register.map(|register| register as u16).or(address)?;
+        Some(Watched { name: name.to_string(), place, last: None })
+    }
+
+    fn value<M: Machine>(&self, machine: &M) -> Option<u8> {
+        match self.place {
+            0..=0x25 => machine.register(self.place as u8),
+            address => machine.memory(address),
+        }
+    }
+}
+
 /// Trace, points to stop at, and the transcript.
 struct Looker {
     out: BufWriter<File>,
@@ -113,13 +139,34 @@ struct Looker {
     until: Option<u16>,
     /// Address, and how often it was reached.
     breaks: Vec<(u16, u64)>,
+    watches: Vec<Watched>,
     reached: bool,
+    /// Number, time and place of the instruction under way, for what is watched.
+    under_way: (u32, Time, u16),
+    /// The last event, and of each source what last took its flag from 0 to 1, and when.
+    event: u32,
+    asked: [(&'static str, Time); 6],
     /// The line of the instruction under way: its number, time, place and text.
     before: Option<String>,
     failed: Option<std::io::Error>,
 }
 
 const SOURCES: [&str; 6] = ["V", "E", "R", "A", "D", "S"];
+
+/// What took a flag from 0 to 1, by its source: the kinds of Wish 3. D comes by a load in DDC1, whose event is a rise of VSYNCI.
+fn cause(source: usize, word: u32, outcome: u32) -> &'static str {
+    match (source, outcome) {
+        (0, _) => "rise of VSYNCI",
+        (1, _) => "rise of P16",
+        (2, _) => "base timer",
+        (3, 1) => "matched address A0H",
+        (3, 2) => "matched address II ADR",
+        (3, _) => "matched address, A0H and II ADR",
+        (4, _) if word >> 8 & 0xFF == acts::VSYNCI as u32 => "load of DDC1",
+        (4, _) => "ninth clock",
+        _ => "fall of SCL",
+    }
+}
 
 fn registers(cpu: &[u8; 8]) -> String {
     let [a, x, y, s, p, low, high, over] = cpu;
@@ -133,6 +180,23 @@ impl Looker {
         }
     }
 
+    /// Bytes that are watched and have changed, by an event before the instruction or by the instruction.
+    fn changes<M: Machine>(&mut self, machine: &M, by_event: bool) {
+        let (number, time, pc) = self.under_way;
+        for place in 0..self.watches.len() {
+            let watched = &self.watches[place];
+            let (before, now) = (watched.last, watched.value(machine));
+            if before == now {
+                continue;
+            }
+            let by = if by_event { acts::event_text(self.event) } else { self.at(machine, pc) };
+            let text = |byte: Option<u8>| byte.map_or("--".to_string(), |byte| format!("{byte:02X}"));
+            let line = format!("{number} {} us watch {} {} to {} by {by}", microseconds(time), watched.name, text(before), text(now));
+            self.write(&line);
+            self.watches[place].last = now;
+        }
+    }
+
     /// `main+3 A003 STA IIDAT`
     fn at<M: Machine>(&self, machine: &M, pc: u16) -> String {
         let place = self.labels.place(pc).map_or(String::new(), |place| place + " ");
@@ -142,11 +206,13 @@ impl Looker {
 
 impl<M: Machine> Watcher<M> for Looker {
     fn each(&self) -> bool {
-        self.trace || self.until.is_some() || !self.breaks.is_empty()
+        self.trace || self.until.is_some() || !self.breaks.is_empty() || !self.watches.is_empty()
     }
 
     fn before(&mut self, machine: &M, time: Time, pc: u16, interrupt: bool) -> bool {
         let number = machine.counted();
+        self.under_way = (number, time, pc);
+        self.changes(machine, true);
         let time = microseconds(time);
         if self.until == Some(pc) {
             self.reached = true;
@@ -161,11 +227,16 @@ impl<M: Machine> Watcher<M> for Looker {
         }
         if self.trace {
             if interrupt {
-                let asked: Vec<&str> = (0..6).filter(|place| machine.requests() >> place & 1 == 1).map(|place| SOURCES[place]).collect();
-                let line = format!("{number} {time} us interrupt {}", asked.join(" "));
+                let asked: Vec<String> = (0..6)
+                    .filter(|source| machine.requests() >> source & 1 == 1)
+                    .map(|source| format!("{}: {} at {} us", SOURCES[source], self.asked[source].0, microseconds(self.asked[source].1)))
+                    .collect();
+                let line = format!("{number} {time} us interrupt {}", asked.join("; "));
                 self.write(&line);
             }
-            self.before = Some(format!("{number} {time} us {}", self.at(machine, pc)));
+            let reset = !machine.level(acts::RESET);
+            let at = if reset { format!("{pc:04X} --") } else { self.at(machine, pc) };
+            self.before = Some(format!("{number} {time} us {at}"));
         }
         false
     }
@@ -173,6 +244,18 @@ impl<M: Machine> Watcher<M> for Looker {
     fn after(&mut self, machine: &M) {
         if let Some(before) = self.before.take() {
             let line = format!("{before} {}", registers(&machine.cpu()));
+            self.write(&line);
+        }
+        self.changes(machine, false);
+    }
+
+    fn given(&mut self, machine: &M, time: Time, word: u32, answer: u32, set: u8) {
+        self.event = word;
+        for source in (0..6).filter(|source| set >> source & 1 == 1) {
+            self.asked[source] = (cause(source, word, machine.outcome()), time);
+        }
+        if self.trace {
+            let line = format!("{} {} us event {} {word:08X} {answer:08X}", machine.counted(), microseconds(time), acts::event_text(word));
             self.write(&line);
         }
     }
@@ -185,8 +268,7 @@ impl<M: Machine> Watcher<M> for Looker {
 fn hold_text<M: Machine>(looker: &Looker, machine: &M, hold: &Hold) -> String {
     let ended = match hold.ended {
         Ended::By(pc) => format!("ended by {}", looker.at(machine, pc)),
-        Ended::Event(0x0400_0300) => "ended by the watchdog".to_string(),
-        Ended::Event(word) => format!("ended by the event {word:08X}"),
+        Ended::Event(word) => format!("ended by the event {}", acts::event_text(word)),
         Ended::Not => "not ended".to_string(),
     };
     format!("SCL held at {} us for {} us, {ended}", microseconds(hold.begin), microseconds(hold.length))
@@ -300,10 +382,16 @@ fn run() -> Result<u8, Told> {
     let until = options.until.as_ref().map(address).transpose()?;
     let points: Result<Vec<(u16, u64)>, Told> = options.breaks.iter().map(|text| Ok((address(text)?, 0))).collect();
     let breaks = points?;
+    let watch = |text: &String| Watched::new(text).ok_or((2, format!("{text}: no register, and not an address of RAM, 0080 to 017F")));
+    let mut watches = options.watches.iter().map(watch).collect::<Result<Vec<Watched>, Told>>()?;
+    let mut proved = Proved::power_up(&rom);
+    for watched in &mut watches {
+        watched.last = watched.value(&proved);
+    }
     let (_, out) = descriptors::standard();
     let out = BufWriter::new(out);
-    let mut looker = Looker { out, labels, trace: options.trace, until, breaks, reached: false, before: None, failed: None };
-    let mut proved = Proved::power_up(&rom);
+    let (under_way, asked) = ((0, 0, 0), [("", 0); 6]);
+    let mut looker = Looker { out, labels, trace: options.trace, until, breaks, watches, reached: false, under_way, event: 0, asked, before: None, failed: None };
     let mut host = Host::new(&mut proved, &mut looker, options.count.unwrap_or(u32::MAX));
     let end = host.run(&lines, options.count.is_some());
     let found = std::mem::take(&mut host.found);

@@ -25,6 +25,7 @@ pub mod programs;
 pub mod recordings;
 pub mod replay;
 pub mod state;
+pub mod symbols;
 #[cfg(test)]
 mod tests;
 pub mod traffic;

@@ -177,6 +177,7 @@ END_OF_ACTS
     says 1 "nt6861 firmware: $work/short: 24575 bytes, not 24576" 'wait 1us' "$work/short"
     says 1 "nt6861 firmware: /dev/zero: more than 24576 bytes, not 24576" 'wait 1us' /dev/zero
     says 1 "nt6861 firmware: $work/acts:2: write A0: A0 is not acknowledged" 'START\nwrite A0' images/ddc2b.rom
+    says 1 "nt6861 firmware: $work/acts:4: STOP: SDA is held low" 'at 750us\nSTART\nwrite A1\nSTOP' images/ddc2b.rom
     says 1 "nt6861 firmware: $work/acts:5: expect 00 01: 00 FF came" 'at 750us\nSTART\nread A1 2\nSTOP\nexpect 00 01\n' images/ddc2b.rom
     says 1 "nt6861 firmware: $work/acts:3: expect 81: 80 came" 'wait 1ms\nshow DACH5\nexpect 81' images/ddc2b.rom
     says 1 "nt6861 firmware: $work/acts:1: wait 1s: after 9 instructions the host is not done" 'wait 1s' images/ddc2b.rom 9
@@ -186,6 +187,11 @@ END_OF_ACTS
     grep -q '^SCL held at .* us for 17.75 us, ended by .*+2 .* STA IIDAT$' "$work/printed" || fail "a hold is told otherwise: $(grep '^SCL' "$work/printed")"
     says 0 '' 'at 750us\nSTART\nwrite A0 00\nSTOP' --labels images/ddc2b.lst --until service images/ddc2b.rom
     grep -q ' until service A032 PHA ' "$work/printed" || fail "--until service: $(tail -n 2 "$work/printed")"
+    says 0 '' 'at 750us\nSTART\nwrite A0 00\nSTOP' --labels images/ddc2b.lst -t --watch 0080 images/ddc2b.rom
+    grep -q ' interrupt A: matched address A0H at [0-9.]* us$' "$work/printed" || fail "an interrupt is told otherwise: $(grep -m 1 interrupt "$work/printed")"
+    grep -q ' interrupt D: ninth clock at [0-9.]* us$' "$work/printed" || fail "an interrupt is told otherwise: $(grep interrupt "$work/printed")"
+    grep -q ' event SCL 0 03001900 ' "$work/printed" || fail "an event is told otherwise"
+    says 2 'nt6861 firmware: 0300: no register, and not an address of RAM, 0080 to 017F' 'at 750us' --watch 0300 images/ddc2b.rom
     says 1 'nt6861 firmware: last was not reached' 'at 750us' --labels images/ddc2b.lst --break last images/ddc2b.rom
     says 2 'nt6861 firmware: lost: no label, and not an address of four hex digits' 'at 750us' --labels images/ddc2b.lst --until lost images/ddc2b.rom
     printf 'al 00A000 .reset\nal A00 reset\n' > "$work/labels"
