@@ -159,29 +159,29 @@ input() {
 
 # What `wave` takes before its file: -o OUT. The output has another name until it is whole, and is then renamed, so that nothing is left half
 # written under the name asked for. What is there and no regular file, as a pipe, is written to as it is.
-output=''
+out_name=''
 partial=''
 input_output() {
     if [ "${1:-}" = -o ]; then
         [ -n "${2:-}" ] || misused "the name after -o is missing"
-        output=$2
+        out_name=$2
         shift 2
     fi
     input "$@"
-    [ -z "$output" ] || open_output
+    [ -z "$out_name" ] || open_output
 }
 
 open_output() {
-    local reason name=$output
-    [ ! -d "$output" ] || fail "$output: Is a directory"
-    if [ -f "$output" ] || [ ! -e "$output" ]; then
-        name=$(readlink -m -- "$output").$$.part
+    local reason name=$out_name
+    [ ! -d "$out_name" ] || fail "$out_name: Is a directory"
+    if [ -f "$out_name" ] || [ ! -e "$out_name" ]; then
+        name=$(readlink -m -- "$out_name").$$.part
         partial=$name
         trap 'rm -f -- "$partial"' EXIT
     fi
     if ! { command exec > "$name"; } 2> /dev/null; then
         reason=$({ : > "$name"; } 2>&1) || true
-        fail "$output: ${reason##*: }"
+        fail "$out_name: ${reason##*: }"
     fi
 }
 
@@ -197,7 +197,7 @@ remove_at_signals() {
 settle() {
     [ -n "$partial" ] || return 0
     if (($1 <= 1)); then
-        mv -f -- "$partial" "${partial%.$$.part}" 2> /dev/null || { tell "$output: cannot be renamed"; return 1; }
+        mv -f -- "$partial" "${partial%.$$.part}" 2> /dev/null || { tell "$out_name: cannot be renamed"; return 1; }
     else
         rm -f -- "$partial"
     fi
@@ -276,7 +276,7 @@ reword() {
     line=$1
     line=${line#"${entry[$command crate]}: "}
     [ "$source" = 'standard input' ] || line=${line/#standard input/"$source"}
-    [ -z "$output" ] || line=${line/#standard output/"$output"}
+    [ -z "$out_name" ] || line=${line/#standard output/"$out_name"}
     for ((i = 0; i < ${#called[@]}; i += 2)); do
         line=${line/#"${called[i]}"/"${called[i + 1]}"}
     done

@@ -64,7 +64,7 @@ fn finish(w: Writer, left: usize, out: &mut [u8]) {
     }
 }
 
-// What begins the dump, and whether it could be written.
+// What begins the dump of a chip's run, and whether it could be written.
 fn begin(c: Chip, out: &mut [u8]) -> bool {
     let end = wave_run::begin(c, out);
     written(&out[..end])
@@ -100,8 +100,17 @@ fn take_bytes(run: Run, bytes: &[u8], out: &mut [u8]) -> Turn {
     }
 }
 
-// Reads until the buffer is full or the input ends.
-fn take_turn(run: Run, out: &mut [u8]) -> Turn {
+// What begins the dump, before the first block, and whether it could be written.
+fn begun(run: Run, is_first: bool, out: &mut [u8]) -> bool {
+    if is_first {
+        let c = run.chip;
+        return begin(c, out);
+    }
+    true
+}
+
+// Reads until the buffer is full or the input ends. Nothing is written where the first read fails.
+fn take_turn(run: Run, is_first: bool, out: &mut [u8]) -> Turn {
     let mut bytes = input_buffer();
     let filled = input::fill(STDIN_FILENO, &mut bytes);
     if filled.failed {
@@ -112,26 +121,31 @@ fn take_turn(run: Run, out: &mut [u8]) -> Turn {
         };
     }
     let n = filled.count;
-    take_bytes(run, &bytes[..n], out)
+    let is_begun = begun(run, is_first, out);
+    if is_begun {
+        return take_bytes(run, &bytes[..n], out);
+    }
+    Turn {
+        run: run,
+        more: false,
+    }
 }
 
 // A proved loop has to end, and nothing says that the input does, so the loop counts blocks down, from a number that no run uses up.
 fn main() {
     let mut places = text_buffer();
     let out: &mut [u8] = &mut places;
-    let c = chip::fresh();
-    let is_begun = begin(c, out);
-    if is_begun {
-        let mut run = wave_run::start(c);
-        let mut blocks = u64::MAX;
-        while blocks > 0 {
-            let turn = take_turn(run, out);
-            if turn.more {
-                run = turn.run;
-                blocks -= 1;
-            } else {
-                return;
-            }
+    let mut run = wave_run::start(chip::fresh());
+    let mut is_first = true;
+    let mut blocks = u64::MAX;
+    while blocks > 0 {
+        let turn = take_turn(run, is_first, out);
+        if turn.more {
+            run = turn.run;
+            is_first = false;
+            blocks -= 1;
+        } else {
+            return;
         }
     }
 }

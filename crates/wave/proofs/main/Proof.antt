@@ -5,10 +5,10 @@ use Rattle.wave.proofs.main.Statement.{statement}
 use Rattle.wave.proofs.main.Tie as tie
 
 abbrev Inv-loop : tie.InvT-loop
-Inv-loop out₀ is-begun run₀ blocks₀ out run blocks = Unit {0}
+Inv-loop out₀ run₀ is-first₀ blocks₀ out run is-first blocks = Unit {0}
 
 abbrev μ-loop : tie.MeasureT-loop
-μ-loop out₀ is-begun run₀ blocks₀ out run blocks = blocks
+μ-loop out₀ run₀ is-first₀ blocks₀ out run is-first blocks = blocks
 
 text-buffer-requires : tie.Need-text-buffer-requires Inv-loop μ-loop
 text-buffer-requires c κs = search needs
@@ -18,9 +18,6 @@ slice-aggregate-out c = search needs
 
 fresh-requires : tie.Need-fresh-requires Inv-loop μ-loop
 fresh-requires c κs = search needs
-
-begin-requires : tie.Need-begin-requires Inv-loop μ-loop
-begin-requires c κs = search needs
 
 start-requires : tie.Need-start-requires Inv-loop μ-loop
 start-requires c κs = search needs
@@ -46,9 +43,6 @@ returns c = search needs
 returns-2 : tie.Need-returns-2 Inv-loop μ-loop
 returns-2 c = search needs
 
-returns-3 : tie.Need-returns-3 Inv-loop μ-loop
-returns-3 c = search needs
-
 pub main-spec : {M : Type 1} → statement M
 main-spec =
     tie.close
@@ -58,7 +52,6 @@ main-spec =
     text-buffer-requires
     slice-aggregate-out
     fresh-requires
-    begin-requires
     start-requires
     loop-holds
     take-turn-requires
@@ -66,5 +59,4 @@ main-spec =
     loop-less
     loop-again
     returns
-    returns-2
-    returns-3)
+    returns-2)
