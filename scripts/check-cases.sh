@@ -65,7 +65,8 @@ done
 damaged=0
 for case in "$work"/damaged/*.txt; do
     damaged=$((damaged + 1))
-    target/bin/check_cases "$case" | head -n 1 | grep -q "^$case:$(cat "$case.at"): .*: expected refused 9, given " || complain "an answer that is changed is not found: $(basename "$case")"
+    target/bin/check_cases "$case" > "$work/out"
+    grep -q "^$case:$(cat "$case.at"): .*: expected refused 9, given " "$work/out" || complain "an answer that is changed is not found: $(basename "$case")"
 done
 
 # ---- by hand
@@ -74,10 +75,10 @@ says 0 '/dev/stdin: passed, 100009 words
 says 1 '/dev/stdin:2: read IRQX: expected done byte 01, given done byte 00 (word 2)
 0 passed, 1 failed' '' text 'write IEX 01 => done\nread IRQX => done byte 01\nwrite IEX\n'
 says 1 '/dev/stdin:2: clock watchdog: expected done, given done watchdog reset (word 65)
-0 passed, 1 failed' '' text 'read IRQX\n18446744073709551614 * clock watchdog => done\n'
+0 passed, 1 failed' '' text 'read IRQX\n18446744073709551609 * clock watchdog => done\n'
 says 1 '/dev/stdin: no events
 0 passed, 1 failed' '' text '# nothing\n'
-for line in 'write IEX|9' 'read IRQX => done|17' 'read IRQX => done byte 00 00|26' 'write IEX 01 => done byte 00|21' 'read 10|5' '0 * clock 8us|0' 'write IEX 01 =>|15' '18446744073709551616 * clock 8us|0'; do
+for line in 'write IEX|9' 'read IRQX => done|17' 'read IRQX => done byte 00 00|26' 'write IEX 01 => done byte 00|21' 'read 10|5' '0 * clock 8us|0' 'write IEX 01 =>|15' '18446744073709551610 * clock 8us|0'; do
     says 2 '0 passed, 1 failed' "nt6861 check: /dev/stdin:2: at byte ${line#*|}: not an event with its answer" text "clock 8us => done\n${line%|*}\nclock 8us => done\n"
 done
 says 2 'tests/cases/vsync.txt: passed, 6 words

@@ -1,7 +1,7 @@
 -- A case agrees exactly where each of its lines can be read and the answers that it expects are those of the list call.
 -- Assumes nothing.
 use mathlib.Core.Path.{_≡_, refl, sym, ap, _∙_}
-use mathlib.Core.Bool.{Bool, true, false, _&&_, true≢false}
+use mathlib.Core.Bool.{Bool, true, false, not, _&&_, true≢false}
 use mathlib.Core.List.{List, [], _∷_, _++_}
 use Prim.Native.Nat.{ℕ, zero, suc}
 use lib.Dec.{eqb}
@@ -17,8 +17,8 @@ use Rattle.case_lines.specs.declared.Entry.{Entry}
 use Rattle.case_lines.specs.declared.Entry.the-variants.{Nothing, Given, Refused}
 use Rattle.case_lines.specs.Line.{lineStart, next, lineEnd}
 use Rattle.case_run.specs.declared.Progress.{Progress}
-use Rattle.case_run.specs.declared.Verdict.the-variants.{Agrees, Malformed, Differs}
-use Rattle.case_run.specs.Run.{goes, opened, stopped, meets, answeredAs, given as give, givenAt, repeated, nextLine, lineDone, entered, within, byteTaken, byteRead, read}
+use Rattle.case_run.specs.declared.Verdict.the-variants.{Agrees, Malformed, Differs, Empty}
+use Rattle.case_run.specs.Run.{goes, opened, stopped, meets, answeredAs, given as give, givenAt, repeated, nextLine, lineDone, entered, within, byteTaken, byteRead, read, concluded, closed}
 use Rattle.case_run.proofs.Reading.{stays}
 use Rattle.case_laws.specs.Cases.{entriesFrom, entries, given, meetAll, holds}
 
@@ -195,3 +195,36 @@ pub agrees-exactly : (text : List ℕ)
     → goes (byteRead (read opened text) 10 .verdict) ≡ holds (entries text) (advancedAnswers fresh (given (entries text)))
 unfolding opened
 agrees-exactly text = agreed text opened agrees
+
+-- ---- the end of a case
+
+empty : goes Empty ≡ false
+unfolding goes
+empty = refl
+
+-- a case without a word is empty, any other one ends as it is
+concluded-empty : (q : Progress) → goes (q .verdict) ≡ true → eqb (q .words) 0 ≡ true → concluded q ≡ stopped q Empty
+unfolding concluded
+concluded-empty q g e = rw (g, e) refl
+
+concluded-some : (q : Progress) → goes (q .verdict) ≡ true → eqb (q .words) 0 ≡ false → concluded q ≡ q
+unfolding concluded
+concluded-some q g e = rw (g, e) refl
+
+concluded-stopped : (q : Progress) → goes (q .verdict) ≡ false → concluded q ≡ q
+unfolding concluded
+concluded-stopped q g = rw (g) refl
+
+concluded-goes : (q : Progress) (t u : Bool) → goes (q .verdict) ≡ t → eqb (q .words) 0 ≡ u → goes (concluded q .verdict) ≡ (t && not u)
+concluded-goes q true true g e = ap (λ (r : Progress). goes (r .verdict)) (concluded-empty q g e) ∙ empty
+concluded-goes q true false g e = ap (λ (r : Progress). goes (r .verdict)) (concluded-some q g e) ∙ g
+concluded-goes q false u g e = ap (λ (r : Progress). goes (r .verdict)) (concluded-stopped q g) ∙ g
+
+-- a case passes exactly where its text agrees and a word of it was answered
+pub passes-exactly : (text : List ℕ)
+    → goes (closed (read opened text) .verdict)
+    ≡ (holds (entries text) (advancedAnswers fresh (given (entries text))) && not (eqb (byteRead (read opened text) 10 .words) 0))
+unfolding closed
+passes-exactly text =
+    let q = byteRead (read opened text) 10 in
+    concluded-goes q (goes (q .verdict)) (eqb (q .words) 0) refl refl ∙ ap (λ (t : Bool). t && not (eqb (q .words) 0)) (agrees-exactly text)
