@@ -14,7 +14,9 @@ front hosted firmware_capi chip_capi
 for name in $(sed -n 's/^crate \([a-z0-9_]*\)$/\1/p' scripts/commands.txt); do
     [ ! -f "crates/$name/src/main.rt" ] || program "$name"
 done
+# the copy below is another folder, with a turn of its own
 unset -f rt
+unset RT_TURN
 work=$(mktemp -d)
 trap 'chmod -R u+w "$work"; rm -rf "$work"' EXIT
 repository=$PWD
@@ -42,6 +44,23 @@ grep -qF "soname: [libnt6861.so.${version%%.*}]" "$work/dynamic" || fail "the so
 needed=$(sed -n 's/.*NEEDED.*\[\(.*\)\]/\1/p' "$work/dynamic" | grep -v '^libc\.so\.' || true)
 [ -z "$needed" ] || fail "the shared library needs $needed"
 readelf -lW target/lib/libnt6861.so | grep GNU_STACK | grep -q ' RW ' || fail "the shared library asks for a stack that can be executed"
+
+# ---- what is joined: nothing that is no call, and no call twice
+joined() (
+    tell() { :; }
+    source scripts/made.sh
+    library_of() { echo "$work/$1.a"; }
+    mkdir "$work/joined-$#$1" && join_objects "$work/joined-$#$1" 1.0.0 "$@" 2>&1
+)
+for part in one:nt6861_one two:nt6861_one foreign:other; do
+    echo "int ${part#*:}(void); int ${part#*:}(void) { return 1; }" | cc -x c -c -fPIC -o "$work/${part%:*}.o" -
+    ar rcs "$work/${part%:*}.a" "$work/${part%:*}.o"
+done
+joined one > /dev/null || fail "a part alone is not joined"
+for wrong in 'one two:defined twice: nt6861_one ' 'foreign one:visible and no call: other '; do
+    # shellcheck disable=SC2086
+    ! joined ${wrong%%:*} > "$work/out" && grep -qx "error: ${wrong#*:}" "$work/out" || fail "joining ${wrong%%:*}: $(cat "$work/out")"
+done
 
 # ---- every call, from C and C++, static and shared
 strict=(-Wall -Wextra -Wpedantic -Werror -Iinclude)

@@ -307,9 +307,16 @@ join_objects() (
             -o "../libnt6861.so.$2" ./*.o && chmod 644 "../libnt6861.so.$2"
 )
 
+# is_joined VERSION PARTS: both libraries and their links are there, and of these parts
+is_joined() {
+    local folder=$top/target/lib
+    is_current "$top/target/made/libnt6861.a" "$folder/libnt6861.a" "$2" && is_current "$top/target/made/libnt6861.so" "$folder/libnt6861.so.$1" "$2" &&
+        [ "$folder/libnt6861.so" -ef "$folder/libnt6861.so.$1" ] && [ "$folder/libnt6861.so.${1%%.*}" -ef "$folder/libnt6861.so.$1" ]
+}
+
 # joined_library: target/lib/libnt6861.a and libnt6861.so with its two links, made anew where a part is another one
 joined_library() {
-    local crates crate version parts folder=$top/target/lib work file
+    local crates crate version parts folder=$top/target/lib work
     mapfile -t crates < <(interface_crates)
     ((${#crates[@]} > 0)) || fail "crates.txt has no crate of the C interface"
     version=$(library_version) || exit 2
@@ -318,9 +325,9 @@ joined_library() {
     done
     type -P cc > /dev/null && type -P ar > /dev/null && type -P nm > /dev/null || fail "cc, ar and nm are needed for the library"
     parts=$({ echo "$version"; declare -f join_objects; for crate in "${crates[@]}"; do sum_of "$(library_of "$crate")"; done; } | sha256sum | cut -d ' ' -f 1)
+    ! is_joined "$version" "$parts" || return 0
     take_turn
-    if ! { is_current "$top/target/made/libnt6861.a" "$folder/libnt6861.a" "$parts" && is_current "$top/target/made/libnt6861.so" "$folder/libnt6861.so.$version" "$parts" &&
-        [ "$folder/libnt6861.so" -ef "$folder/libnt6861.so.$version" ] && [ "$folder/libnt6861.so.${version%%.*}" -ef "$folder/libnt6861.so.$version" ]; }; then
+    if ! is_joined "$version" "$parts"; then
         tell "joining ${#crates[@]} parts to libnt6861"
         rm -rf "$folder" "$top/target/made/libnt6861.a" "$top/target/made/libnt6861.so" && mkdir -p "$folder" "$top/target/made" && work=$(mktemp -d "$top/target/join.XXXXXX") || cannot_write "$folder"
         join_objects "$work" "$version" "${crates[@]}" > "$top/target/libnt6861.log" 2>&1 || {

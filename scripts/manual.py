@@ -42,8 +42,8 @@ def manual(shown):
         ".I COMMAND",
         "[ARGUMENT ..]",
         ".SH DESCRIPTION",
-        "What a command runs is proved and built first, where that is not done yet, which takes some minutes and is told. A file that is not named is",
-        "standard input. Errors are told on standard error, as nt6861 COMMAND: FILE: what.",
+        "In the repository what a command runs is proved and built first, where that is not done yet, which takes some minutes and is told; installed, it runs at",
+        "once. A file that is not named is standard input. Errors are told on standard error, as nt6861 COMMAND: FILE: what.",
         ".SH COMMANDS",
     ]
     for name, fields in shown.items():
