@@ -12,8 +12,14 @@ use std::fmt::Write;
 pub trait Machine {
     /// Gives an event word before the next instruction; its answer.
     fn give(&mut self, word: u32) -> u32;
-    /// Carries out so many instructions, which take less than 32 cycles; or gives the number of a refusal.
+    /// Carries out so many instructions, which take less than 32 cycles, but none after one that changed the lines or what clocks the base timer;
+    /// or gives the number of a refusal.
     fn go(&mut self, instructions: u32) -> Result<(), u8>;
+    /// Nothing is due for so many cycles: instructions may be carried out at once, as many as are in them, where it is known how long they take.
+    /// Says whether any were.
+    fn go_idle(&mut self, _cycles: u64, _instructions: u32) -> Result<bool, u8> {
+        Ok(false)
+    }
     /// Instructions so far.
     fn counted(&self) -> u32;
     /// CPU cycles so far.
@@ -117,8 +123,9 @@ pub struct Host<'a, M: Machine, W: Watcher<M>> {
     vsync: Option<Train>,
     watchdog: Option<(Time, Time)>,
     base: bool,
-    /// Clocks of 1 us and of 1 ms that have passed.
+    /// Clocks of 1 us and of 1 ms that have passed, and which of them the base timer took when that was looked at.
     passed: [u64; 2],
+    based: Option<bool>,
     /// Time under RESET, in which the CPU has no cycles.
     still: Time,
     holding: Option<Time>,
@@ -132,6 +139,8 @@ const CYCLE: Time = US / 4;
 /// Instructions that are carried out at once take at most so long, fewer cycles than there are in a clock of 8 us: two of 7 cycles, each with
 /// an interrupt of 7 before it, or four where no flag is set, which only an event can change.
 const AT_ONCE: Time = 28 * CYCLE;
+/// From so long on the machine may look whether the firmware idles.
+const IDLE: Time = 50 * US;
 /// For how long SDA stays after a fall of SCL.
 const AFTER_FALL: Time = US;
 const LOW_RESET: Time = 10 * US;
@@ -176,6 +185,7 @@ impl<'a, M: Machine, W: Watcher<M>> Host<'a, M, W> {
             watchdog: Some((WATCHDOG, WATCHDOG)),
             base: true,
             passed: [0; 2],
+            based: None,
             still: 0,
             holding: None,
             transfer: None,
@@ -223,7 +233,7 @@ impl<'a, M: Machine, W: Watcher<M>> Host<'a, M, W> {
         let done = if on {
             self.wait(Time::MAX / 2)
         } else if given {
-            self.turn(Time::MAX)
+            self.turn(0)
         } else {
             Ok(())
         };
@@ -312,11 +322,14 @@ impl<'a, M: Machine, W: Watcher<M>> Host<'a, M, W> {
         }
         self.hsync = self.give_due(self.hsync, HSYNCI);
         self.vsync = self.give_due(self.vsync, VSYNCI);
+        // those that passed before the firmware let the base timer run are not for it
+        let (before, base) = (self.based, self.machine.base());
+        self.based = base;
         for (place, unit) in BASE.iter().enumerate() {
             let passed = self.now() / unit;
             let due = passed - self.passed[place];
             self.passed[place] = passed;
-            if self.base && self.machine.base() == Some(place == 1) {
+            if self.base && base == Some(place == 1) && before == base {
                 for _ in 0..due {
                     self.give(0x0400_0100 + ((place as u32) << 8));
                 }
@@ -331,7 +344,8 @@ impl<'a, M: Machine, W: Watcher<M>> Host<'a, M, W> {
             return 0;
         }
         let next = |train: Option<Train>| train.map_or(Time::MAX, |train| train.next);
-        let millisecond = (self.now() / BASE[1] + 1) * BASE[1];
+        let slow = self.base && self.machine.base() == Some(true);
+        let millisecond = if slow { (self.now() / BASE[1] + 1) * BASE[1] } else { Time::MAX };
         let watchdog = self.watchdog.map_or(Time::MAX, |(_, next)| next);
         next(self.hsync).min(next(self.vsync)).min(watchdog).min(millisecond)
     }
@@ -350,7 +364,13 @@ impl<'a, M: Machine, W: Watcher<M>> Host<'a, M, W> {
         if self.watcher.each() && self.watcher.before(self.machine, self.now(), pc, interrupt) {
             return Err(End::Until);
         }
-        let quiet = self.now() + AT_ONCE <= until.min(self.quiet_until());
+        let due = until.min(self.quiet_until());
+        let free = due.saturating_sub(self.now());
+        if free > IDLE && self.machine.go_idle(free / CYCLE, self.limit - self.machine.counted()).map_err(End::Refused)? {
+            self.look(Ended::By(pc));
+            return Ok(());
+        }
+        let quiet = free >= AT_ONCE;
         let most = match (quiet, self.machine.flags()) {
             (false, _) => 1,
             (true, 0) => 4,

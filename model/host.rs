@@ -29,7 +29,15 @@ impl bus_host::Machine for Machine<'_, ()> {
     }
 
     fn go(&mut self, instructions: u32) -> Result<(), u8> {
-        (0..instructions).try_for_each(|_| self.turn())
+        let seen = |machine: &Self| (machine.chip.lines(), bus_host::Machine::base(machine));
+        let before = seen(self);
+        for _ in 0..instructions {
+            self.turn()?;
+            if seen(self) != before {
+                break;
+            }
+        }
+        Ok(())
     }
 
     fn counted(&self) -> u32 {

@@ -99,8 +99,43 @@ pub struct Proved<'a> {
     pub answers: Vec<u32>,
     counted: u32,
     cycles: u64,
-    /// The firmware call has answered an event otherwise than the step.
+    /// The firmware call has answered an event otherwise than the step, or an idle loop ends otherwise than it went round before.
     pub differs: bool,
+    /// From which instruction on an idle loop is looked for.
+    look_from: u32,
+}
+
+/// Instructions of an idle loop at most, and after how many more it is looked for again.
+const LOOP: u32 = 64;
+const AGAIN: u32 = 1024;
+// Places of the sync counters that no read shows: VCNT, and the interval. They are all that clocks of 8 us move while SCL is not held, up to
+// an overflow of VCNT or the end of the interval.
+const VCNT: usize = 10;
+const VCNTOV: usize = 14;
+const INTERVAL: usize = 15;
+const LAST_COUNT: u64 = 4095;
+const LAST_INTERVAL: u64 = 1023;
+
+impl State {
+    /// All that the next instructions go by: a state that comes again is gone on from as before.
+    fn shown(&self) -> ([u8; 7], [u8; 256], [u8; 128]) {
+        let mut cpu = [0; 7];
+        cpu.copy_from_slice(&self.cpu[..7]);
+        let mut area = self.area;
+        area[VCNT..VCNT + 2].fill(0);
+        area[INTERVAL..INTERVAL + 2].fill(0);
+        (cpu, self.ram, area)
+    }
+
+    fn number(&self, place: usize) -> u64 {
+        u16::from_le_bytes([self.area[place], self.area[place + 1]]) as u64
+    }
+
+    /// Clocks of 8 us before one can move what a read shows.
+    fn clocks_unseen(&self) -> u64 {
+        let overflow = if self.area[VCNTOV] == 0 { LAST_COUNT - self.number(VCNT) } else { u64::MAX };
+        overflow.min(LAST_INTERVAL - self.number(INTERVAL)).saturating_sub(2)
+    }
 }
 
 impl<'a> Proved<'a> {
@@ -117,6 +152,7 @@ impl<'a> Proved<'a> {
             counted: 0,
             cycles: 0,
             differs: false,
+            look_from: 0,
         }
     }
 }
@@ -124,6 +160,47 @@ impl<'a> Proved<'a> {
 /// Two states differ at most in the sync counters, to which no line looks.
 fn is_idle(one: &[u8; 128], other: &[u8; 128]) -> bool {
     one[..SYNC.start] == other[..SYNC.start] && one[SYNC.end..] == other[SYNC.end..]
+}
+
+impl Proved<'_> {
+    /// So many instructions by the proved call, with the events that wait before the first.
+    fn advance(&mut self, instructions: u32) -> Result<(), u8> {
+        let over = self.state.cpu[7];
+        let mut answers = vec![0; self.waiting.len()];
+        let (number, counts) = self.state.run(self.rom, &self.waiting, &mut answers, instructions);
+        let expected = &self.answers[self.answers.len() - answers.len()..];
+        self.differs |= answers != expected || counts[1] as usize != answers.len();
+        self.waiting.clear();
+        self.counted += counts[0];
+        self.cycles += (self.state.cpu[7].wrapping_sub(over) & 31) as u64;
+        self.cpu = self.state.cpu;
+        if !is_idle(&self.area, &self.state.area) {
+            self.lines = lines(&self.state.area);
+        }
+        self.area = self.state.area;
+        if number == 0 {
+            Ok(())
+        } else {
+            Err(number)
+        }
+    }
+
+    /// So many rounds of a loop of so many instructions and cycles.
+    fn go_round(&mut self, start: &([u8; 7], [u8; 256], [u8; 128]), instructions: u32, cycles: u64, rounds: u32) -> Result<(), u8> {
+        let over = self.state.cpu[7] as u64;
+        let (number, counts) = self.state.run(self.rom, &[], &mut [], instructions * rounds);
+        let ends = (over + cycles * rounds as u64) % 32;
+        self.differs |= self.state.shown() != *start || self.state.cpu[7] as u64 != ends || counts[0] != instructions * rounds;
+        self.counted += counts[0];
+        self.cycles += cycles * rounds as u64;
+        self.cpu = self.state.cpu;
+        self.area = self.state.area;
+        if number == 0 {
+            Ok(())
+        } else {
+            Err(number)
+        }
+    }
 }
 
 fn lines(area: &[u8; 128]) -> u32 {
@@ -145,24 +222,50 @@ impl Machine for Proved<'_> {
     }
 
     fn go(&mut self, instructions: u32) -> Result<(), u8> {
-        let over = self.state.cpu[7];
-        let mut answers = vec![0; self.waiting.len()];
-        let (number, counts) = self.state.run(self.rom, &self.waiting, &mut answers, instructions);
-        let expected = &self.answers[self.answers.len() - answers.len()..];
-        self.differs |= answers != expected || counts[1] as usize != answers.len();
-        self.waiting.clear();
-        self.counted += counts[0];
-        self.cycles += (self.state.cpu[7].wrapping_sub(over) & 31) as u64;
-        self.cpu = self.state.cpu;
-        if !is_idle(&self.area, &self.state.area) {
-            self.lines = lines(&self.state.area);
+        if instructions == 1 || !self.waiting.is_empty() {
+            return self.advance(1);
         }
-        self.area = self.state.area;
-        if number == 0 {
-            Ok(())
-        } else {
-            Err(number)
+        let seen = (self.lines, self.base());
+        let (state, counted, cycles) = (self.state.clone(), self.counted, self.cycles);
+        let done = self.advance(instructions);
+        if (self.lines, self.base()) == seen {
+            return done;
         }
+        // again, one by one
+        (self.cpu, self.area) = (state.cpu, state.area);
+        (self.state, self.counted, self.cycles, self.lines) = (state, counted, cycles, seen.0);
+        while (self.lines, self.base()) == seen {
+            self.advance(1)?;
+        }
+        Ok(())
+    }
+
+    /// Looks for a loop: the state that comes again after a few instructions. Then it goes round as often as there is time for, in one call,
+    /// each time in as many cycles as the first.
+    fn go_idle(&mut self, cycles: u64, instructions: u32) -> Result<bool, u8> {
+        if !self.waiting.is_empty() || self.counted < self.look_from || instructions < 2 * LOOP {
+            return Ok(false);
+        }
+        let start = self.state.shown();
+        let (first, began) = (self.counted, self.cycles);
+        let (lines, base) = (self.lines, self.base());
+        self.look_from = first + AGAIN;
+        while self.counted - first < LOOP && self.cycles - began + 32 < cycles {
+            self.advance(1)?;
+            // what the host goes by has changed
+            if (self.lines, self.base()) != (lines, base) {
+                break;
+            }
+            if self.state.shown() == start {
+                let taken = self.cycles - began;
+                let left = (cycles - taken).min(self.state.clocks_unseen() * 32);
+                let rounds = (left / taken).min(((instructions - (self.counted - first)) / (self.counted - first)) as u64);
+                self.go_round(&start, self.counted - first, taken, rounds as u32)?;
+                self.look_from = self.counted;
+                break;
+            }
+        }
+        Ok(true)
     }
 
     fn counted(&self) -> u32 {

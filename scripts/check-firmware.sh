@@ -129,7 +129,8 @@ if grep -q '^firmware_capi:' crates.txt; then
         echo "firmware: sigrok-cli is not installed: the lines are read by no other decoder"
     fi
 
-    # a host with all that it can do, on random programs and on the images: both cores alike, whatever comes
+    # a host with all that it can do, and one that waits for long, on random programs and on the images: both cores alike, whatever comes. The proved
+    # one carries out idle loops at once.
     cat > "$work/all.host" << 'END_OF_ACTS'
 scl 400kHz
 hsync 31.5kHz
@@ -150,16 +151,35 @@ vsync off
 hsync off
 vsync 100us 12
 END_OF_ACTS
+    cat > "$work/idle.host" << 'END_OF_ACTS'
+at 45ms
+pin P16 0
+wait 70ms
+pin P16 1
+vsync 60Hz
+wait 40ms
+START
+write A0 any
+STOP
+show IRQX
+END_OF_ACTS
     tried=0
-    for rom in images/ddc2b.rom images/registers.rom images/ddc1.rom "$work/random.rom"; do
-        theirs=0 ours=0
-        "$model" host "$rom" "$work/all.host" > "$work/expected" 2> "$work/told" || theirs=1
-        ./nt6861 firmware --host "$work/all.host" --events "$work/list" "$rom" > "$work/printed" 2> "$work/said" || ours=$?
-        [ "$theirs" = "$ours" ] || fail "$rom: status $ours, and $theirs on the model: $(cat "$work/said" "$work/told")"
-        [ "$ours" != 0 ] || cmp "$work/list" "$work/expected" || fail "$rom: other events on the proved call"
-        tried=$((tried + 1))
+    roms=(images/*.rom)
+    for seed in 1 2 3 4 5 6; do
+        "$model" image "$seed" > "$work/random-$seed.rom"
+        roms+=("$work/random-$seed.rom")
     done
-    echo "firmware: a host with pulses, resets and all clocks does the same on both cores, with $tried images"
+    for rom in "${roms[@]}"; do
+        for acts in "$work/all.host" "$work/idle.host"; do
+            theirs=0 ours=0
+            "$model" host "$rom" "$acts" > "$work/expected" 2> "$work/told" || theirs=1
+            ./nt6861 firmware --host "$acts" --events "$work/list" "$rom" > "$work/printed" 2> "$work/said" || ours=$?
+            [ "$theirs" = "$ours" ] || fail "$rom: status $ours, and $theirs on the model: $(cat "$work/said" "$work/told")"
+            [ "$ours" != 0 ] || cmp "$work/list" "$work/expected" || fail "$rom: other events on the proved call"
+            tried=$((tried + 1))
+        done
+    done
+    echo "firmware: a host with pulses, resets and all clocks, and one that waits, do the same on both cores: $tried runs"
 
     # what goes wrong, and what is not reached
     uses=0
