@@ -12,13 +12,10 @@ use std::collections::BTreeSet;
 use std::time::Instant;
 
 #[link(name = "why_capi", kind = "static")]
-extern "C" {
-    fn nt6861_why(area: *const u8, bytes: usize, words: *const u32, count: usize, told: *mut [u64; 12]) -> u8;
-}
+extern "C" {}
 
 fn call(area: &[u8], words: &[u32], told: &mut [u64; 12]) -> u8 {
-    // A slice passes as a pointer and a length, an array by its pointer.
-    unsafe { nt6861_why(area.as_ptr(), area.len(), words.as_ptr(), words.len(), told) }
+    nt6861::why(area, words, told)
 }
 
 /// A fresh chip with these flags in IRQX and these enable bits in IEX.

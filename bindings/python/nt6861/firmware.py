@@ -4,7 +4,7 @@ from __future__ import annotations
 import ctypes
 import re
 from array import array
-from typing import Any, Callable, Dict, Iterable, NamedTuple, Optional, Sequence, Tuple, Union
+from typing import Any, Callable, Dict, Iterable, NamedTuple, Optional, Sequence, Union
 
 from . import names
 from ._lent import lent, places_for
@@ -14,7 +14,6 @@ from .names import Answer, Refused
 
 #: Where ROM begins, how long it is, and where the vectors of reset and interrupt stand.
 ROM_START, ROM_BYTES, RESET_VECTOR, SERVICE_VECTOR = 0xA000, 24576, 0xFFFC, 0xFFFE
-Event = Tuple[int, Union[int, str]]
 
 
 class Cpu(NamedTuple):
@@ -145,7 +144,7 @@ class Firmware:
 
     def until(
         self, pc: Union[None, int, str, Iterable[Union[int, str]]] = None, when: Optional[Callable[["Firmware"], bool]] = None,
-        events: Iterable[Event] = (), limit: int = 1_000_000,
+        events: Any = (), limit: int = 1_000_000,
     ) -> int:
         """Goes on, an instruction at a time, until PC is at an address or name (one of several), or until `when` of the machine holds; at least one instruction. An
         interrupt and the first instruction of its service are one step: there it stops behind that instruction. How many there were; TimeoutError after `limit` of
@@ -153,12 +152,12 @@ class Firmware:
         """
         wanted = [pc] if isinstance(pc, (int, str)) else list(pc or ())
         places = {self.symbols[place] if isinstance(place, str) else place for place in wanted}
-        waiting = sorted(events, key=lambda event: event[0])
+        waiting = array("Q", bytes(_packed(events)))
         given = 0
         for counted in range(1, limit + 1):
             due = []
-            while given < len(waiting) and waiting[given][0] < counted:
-                due.append(waiting[given][1])
+            while given < len(waiting) and waiting[given] >> 32 < counted:
+                due.append(waiting[given] & 0xFFFFFFFF)
                 given += 1
             before = self.cpu
             self.step(due)

@@ -1,13 +1,16 @@
 """Tests of the module: python3 -m unittest discover -s bindings/python/tests, or from a folder that it is installed into."""
+import contextlib
 import copy
 import doctest
 import importlib
+import io
 import os
 import pathlib
 import pickle
 import random
 import re
 import unittest
+import warnings
 from array import array
 
 import nt6861
@@ -189,7 +192,7 @@ class TheFirmware(unittest.TestCase):
         self.assertEqual(machine.where(), "wait")
         events = [(event >> 32, event & 0xFFFFFFFF) for event in self.own]
         machine = Firmware(self.rom, symbols=self.symbols)
-        before = machine.until("service", events=events, limit=5000)
+        before = machine.until("service", events=self.own, limit=5000)
         again = Firmware(self.rom)
         again.run(before, events)
         self.assertEqual((machine.cpu, machine.chip, bytes(machine.ram)), (again.cpu, again.chip, bytes(again.ram)))
@@ -282,6 +285,19 @@ class Docs(unittest.TestCase):
             self.assertEqual(result.failed, 0, name)
             tried += result.attempted
         self.assertGreater(tried, 60)
+
+    def test_readme(self):
+        code = re.search(r"```python\n(.*?)```", (HERE.parents[1] / "README.md").read_text(), re.S)[1]
+        # in the folder that has images and examples
+        here, printed = os.getcwd(), io.StringIO()
+        os.chdir(TOP)
+        try:
+            with contextlib.redirect_stdout(printed), warnings.catch_warnings():
+                warnings.simplefilter("ignore", ResourceWarning)
+                exec(compile(code, "README.md", "exec"), {})
+        finally:
+            os.chdir(here)
+        self.assertEqual(printed.getvalue().split("\n")[-2], "5 a read of a write-only register")
 
 
 if __name__ == "__main__":
