@@ -1,12 +1,13 @@
 -- The addressing modes of the 6502 (document 02, Wish 5): the bytes that each reads, and the effective address.
 use Prim.Native.Nat.{ℕ, _+_, _*_, _/_, _%_}
+use mathlib.Core.Path.{_≡_}
 use mathlib.Core.Bool.{Bool, true, false}
 use lib.Dec.{eqb, ltb}
 use Rattle.bits.specs.Byte.{pick}
 use Rattle.cpu_operations.specs.declared.Cpu.{Cpu}
 use Rattle.cpu_opcodes.specs.declared.Mode.{Mode}
 use Rattle.cpu_opcodes.specs.declared.Mode.the-variants.{Implied, Accumulator, Immediate, ZeroPage, ZeroPageX, ZeroPageY, Absolute, AbsoluteX, AbsoluteY, AbsoluteIndirect, IndexedIndirect, IndirectIndexed, Relative, Undocumented}
-use Rattle.cpu_memory.specs.Reads.{Reads, done, undocumented, read, Result, gives, refuses, then, word}
+use Rattle.cpu_memory.specs.Reads.{Reads, done, undocumented, read, Result, gives, refuses, resultNumber, then, word}
 use Rattle.cpu_addressing.specs.declared.Effective.{Effective}
 use Rattle.cpu_addressing.specs.declared.Word.{Word}
 use Rattle.cpu_addressing.specs.declared.Word.the-variants as w
@@ -21,6 +22,24 @@ wordResult (w.Refused n) = refuses n
 abbrev pub locatedResult : Located → Result Effective
 locatedResult (located.At t) = gives t
 locatedResult (located.Refused n) = refuses n
+
+-- the number of each case, 0 for an address: that of the first read that fails, or 20 for an opcode that is not documented
+abbrev pub wordNumber : Word → ℕ
+wordNumber (w.Value a) = 0
+wordNumber (w.Refused n) = n
+
+abbrev pub locatedNumber : Located → ℕ
+locatedNumber (located.At t) = 0
+locatedNumber (located.Refused n) = n
+
+-- number and values of a case, where the reads come to x
+pub record WordCase (x : Result ℕ) (r : Word) : Type 0 where
+  pub number : wordNumber r ≡ resultNumber x
+  pub values : wordResult r ≡ x
+
+pub record LocatedCase (x : Result Effective) (r : Located) : Type 0 where
+  pub number : locatedNumber r ≡ resultNumber x
+  pub values : locatedResult r ≡ x
 
 -- ---- addresses
 

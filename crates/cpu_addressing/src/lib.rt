@@ -4,7 +4,7 @@ ghost use Prim.Native.Nat.{_+_, _-_, _*_, _%_, _≤_};
 ghost use lib.ListN.{getD};
 ghost use Rattle.cpu_memory.specs.Memory.{memory};
 ghost use Rattle.cpu_memory.specs.Reads.{run, highByte, word};
-ghost use Rattle.cpu_addressing.specs.Addressing.{wordResult, locatedResult, ahead as aheadOf, indexed as indexedOf, branchTarget, branchTo, nextInPage, zeroPage, absolute, absoluteUnless, pointer, zeroPagePointer, absoluteIndirect, relative, locate as locateOf};
+ghost use Rattle.cpu_addressing.specs.Addressing.{wordResult, locatedResult, WordCase, LocatedCase, ahead as aheadOf, indexed as indexedOf, branchTarget, branchTo, nextInPage, zeroPage, absolute, absoluteUnless, pointer, zeroPagePointer, absoluteIndirect, relative, locate as locateOf};
 use cpu_memory::Loaded;
 use cpu_opcodes::Mode;
 use cpu_operations::Cpu;
@@ -93,7 +93,7 @@ fn branch_to(p: u16, b: u8) -> Effective
 
 // The word whose low byte is at a and whose high byte is at b.
 pub fn word_at(seen: &[u16; 38], ram: &[u8; 256], rom: &[u8], a: u16, b: u16) -> Word
-    ensures { λ r. ⌜ wordResult r ≡ run (memory (now (seen .entry)) (now (ram .entry)) (now (rom .entry))) (word a b) ⌝ }
+    ensures { λ r. ⌜ WordCase (run (memory (now (seen .entry)) (now (ram .entry)) (now (rom .entry))) (word a b)) r ⌝ }
 {
     let p = cpu_memory::load(seen, ram, rom, a);
     match p {
@@ -224,7 +224,7 @@ fn relative_at(seen: &[u16; 38], ram: &[u8; 256], rom: &[u8], a: u16, p: u16) ->
 // The effective address of the instruction at PC. An instruction that fetches its own operand has none; that is asked only where the mode is
 // absolute, as JSR's is.
 pub fn locate(own: bool, m: Mode, c: Cpu, seen: &[u16; 38], ram: &[u8; 256], rom: &[u8]) -> Located
-    ensures { λ r. ⌜ locatedResult r ≡ run (memory (now (seen .entry)) (now (ram .entry)) (now (rom .entry))) (locateOf own m c) ⌝ }
+    ensures { λ r. ⌜ LocatedCase (run (memory (now (seen .entry)) (now (ram .entry)) (now (rom .entry))) (locateOf own m c)) r ⌝ }
 {
     let pc = c.pc;
     let x = c.x;

@@ -1,5 +1,6 @@
 -- An instruction with its store in RAM (document 02, Wish 5).
 use Prim.Native.Nat.{ℕ}
+use mathlib.Core.Path.{_≡_}
 use mathlib.Core.List.{List}
 use lib.ListN.{set}
 use Rattle.cpu_operations.specs.declared.Cpu.{Cpu}
@@ -60,3 +61,55 @@ executedWith (refuses n) = executed.Refused n
 abbrev pub ramWith : Result Effect → List ℕ → List ℕ
 ramWith (gives e) ram = stored ram (e .store)
 ramWith (refuses n) ram = ram
+
+-- ---- number and values of each case
+
+abbrev pub destinationNumber : Destination → ℕ
+destinationNumber to.Ram = 0
+destinationNumber (to.Register r b) = 0
+destinationNumber (to.Refused n) = n
+
+abbrev pub executedNumber : Executed → ℕ
+executedNumber (executed.Done c n) = 0
+executedNumber (executed.Write c n r b) = 0
+executedNumber (executed.Refused n) = n
+
+-- a store at a place is refused with 21 in ROM and where nothing is mapped; whether a register takes it is the chip's to say
+abbrev pub storeNumberAt : Place → ℕ
+storeNumberAt (at.Register r) = 0
+storeNumberAt (at.Ram i) = 0
+storeNumberAt (at.Rom i) = 21
+storeNumberAt at.Unmapped = 21
+
+-- and a push never is
+abbrev pub storeNumber : Store → ℕ
+storeNumber Nothing = 0
+storeNumber (Byte a b) = storeNumberAt (place a)
+storeNumber (PushOne s b) = 0
+storeNumber (PushTwo s b c) = 0
+storeNumber (PushThree s b c d) = 0
+
+-- an instruction that leaves an effect has the number of its store
+abbrev pub effectNumber : Result Effect → ℕ
+effectNumber (gives e) = storeNumber (e .store)
+effectNumber (refuses n) = n
+
+-- the register and the byte are those of the store
+abbrev pub DestinationValues : Store → Destination → Type 0
+DestinationValues t to.Ram = Unit {0}
+DestinationValues t (to.Register r b) = (a : ℕ) × (t ≡ Byte a b) × (place a ≡ at.Register r)
+DestinationValues t (to.Refused n) = Unit {0}
+
+-- CPU, cycles, register and byte are those of the effect
+abbrev pub ExecutedValues : Result Effect → Executed → Type 0
+ExecutedValues x (executed.Done c n) = (e : Effect) × (x ≡ gives e) × (c ≡ e .cpu) × (n ≡ e .cycles)
+ExecutedValues x (executed.Write c n r b) = (e : Effect) × (x ≡ gives e) × (c ≡ e .cpu) × (n ≡ e .cycles) × (destination (e .store) ≡ to.Register r b)
+ExecutedValues x (executed.Refused n) = Unit {0}
+
+pub record DestinationCase (t : Store) (d : Destination) : Type 0 where
+  pub number : destinationNumber d ≡ storeNumber t
+  pub values : DestinationValues t d
+
+pub record ExecutedCase (x : Result Effect) (r : Executed) : Type 0 where
+  pub number : executedNumber r ≡ effectNumber x
+  pub values : ExecutedValues x r

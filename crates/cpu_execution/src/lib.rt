@@ -6,7 +6,7 @@ ghost use Rattle.cpu_operations.specs.Operations.{intoA, modifyOperation, setS,
 ghost use Rattle.cpu_memory.specs.Memory.{memory, below as belowOf};
 ghost use Rattle.cpu_instruction.specs.Program.{perform};
 ghost use Rattle.cpu_instruction.specs.Instruction.{reading, modifying, branched, jsr as jsrOf, jsrHigh, rts as rtsOf, rtiWith, rti as rtiOf, brk as brkOf, pla as plaOf, plp as plpOf, execute as executeOf, instructionOf, instructionBy};
-ghost use Rattle.cpu_execution.specs.Execution.{destination, stored, executedTo, executedWith, ramWith};
+ghost use Rattle.cpu_execution.specs.Execution.{destination, stored, executedTo, executedWith, ramWith, DestinationCase, ExecutedCase};
 use cpu_addressing::Effective;
 use cpu_addressing::Located;
 use cpu_addressing::Word;
@@ -50,7 +50,7 @@ fn store_byte(ram: &mut [u8; 256], a: u16, b: u8) -> Destination
 
 // Does a store in RAM, and tells where it goes.
 pub fn commit(ram: &mut [u8; 256], t: Store) -> Destination
-    ensures { λ r. ⌜ (r ≡ destination t) × (now (ram .exit) ≡ stored (now (ram .entry)) t) ⌝ }
+    ensures { λ r. ⌜ (r ≡ destination t) × (now (ram .exit) ≡ stored (now (ram .entry)) t) × DestinationCase t r ⌝ }
 {
     match t {
         Store::Nothing => Destination::Ram,
@@ -404,7 +404,8 @@ pub fn instruction_at(
     ram: &mut [u8; 256],
     rom: &[u8],
 ) -> Executed
-    ensures { λ r. ⌜ (r ≡ executedWith (perform (memory (now (seen .entry)) (now (ram .entry)) (now (rom .entry))) (instructionBy (now (table .entry)) c))) × (now (ram .exit) ≡ ramWith (perform (memory (now (seen .entry)) (now (ram .entry)) (now (rom .entry))) (instructionBy (now (table .entry)) c)) (now (ram .entry))) ⌝ }
+    ensures { λ r. ⌜ (r ≡ executedWith (perform (memory (now (seen .entry)) (now (ram .entry)) (now (rom .entry))) (instructionBy (now (table .entry)) c))) × (now (ram .exit) ≡ ramWith (perform (memory (now (seen .entry)) (now (ram .entry)) (now (rom .entry))) (instructionBy (now (table .entry)) c)) (now (ram .entry)))
+        × ExecutedCase (perform (memory (now (seen .entry)) (now (ram .entry)) (now (rom .entry))) (instructionBy (now (table .entry)) c)) r ⌝ }
 {
     let p = cpu_memory::load(seen, ram, rom, c.pc);
     match p {

@@ -1,6 +1,7 @@
 -- The address map of the CPU (document 02, Wish 5): registers 0000..0025, RAM 0080..017F, of which 0080..00FF is seen again at
 -- 0180..01FF, ROM A000..FFFF. Nothing else is mapped.
 use Prim.Native.Nat.{ℕ, _+_, _-_, _*_, _%_, _<_}
+use mathlib.Core.Path.{_≡_}
 use mathlib.Core.Bool.{Bool, true, false}
 use mathlib.Core.List.{List}
 use lib.Dec.{eqb, ltb}
@@ -79,3 +80,40 @@ afterPush s b f a = pick (isStackPlace s (place a)) (Byte b) (f a)
 -- the word in ROM at two places, the low byte first: a vector
 abbrev pub romWord : List ℕ → ℕ → ℕ
 romWord rom i = getD rom (i + 1) 0 * 256 + getD rom i 0
+
+-- ---- number and values of each case of a read
+
+abbrev pub loadedNumber : Loaded → ℕ
+loadedNumber (Byte b) = 0
+loadedNumber (Refused n) = n
+
+-- a byte is this one
+abbrev pub LoadedValues : ℕ → Loaded → Type 0
+LoadedValues x (Byte b) = b ≡ x
+LoadedValues x (Refused n) = Unit {0}
+
+-- a read whose number is n, 0 for none, and whose byte, where it has one, is b
+pub record LoadedCase (n b : ℕ) (l : Loaded) : Type 0 where
+  pub number : loadedNumber l ≡ n
+  pub values : LoadedValues b l
+
+-- RAM and ROM are always read; 21 where nothing is mapped; of a register what is known of it says, which is a number of document 01, or, as no
+-- paper has it, 64 and the register's own number where it has not been looked at
+abbrev pub numberAt : List ℕ → Place → ℕ
+numberAt seen (Register r) = pick (ltb (getD seen r 0) 256) 0 (getD seen r 0 % 256)
+numberAt seen (Ram i) = 0
+numberAt seen (Rom i) = 0
+numberAt seen Unmapped = 21
+
+abbrev pub byteAt : List ℕ → List ℕ → List ℕ → Place → ℕ
+byteAt seen ram rom (Register r) = getD seen r 0
+byteAt seen ram rom (Ram i) = getD ram i 0
+byteAt seen ram rom (Rom i) = getD rom i 0
+byteAt seen ram rom Unmapped = 0
+
+-- the same after a byte has been pushed at S: its place is always read, and gives it
+abbrev pub numberPushed : ℕ → (Place → ℕ) → Place → ℕ
+numberPushed s f p = pick (isStackPlace s p) 0 (f p)
+
+abbrev pub bytePushed : ℕ → ℕ → (Place → ℕ) → Place → ℕ
+bytePushed s b f p = pick (isStackPlace s p) b (f p)

@@ -15,6 +15,11 @@ pub data Result (A : Type 0) : Type 0 where
   gives : A → Result A
   refuses : ℕ → Result A
 
+-- its number, 0 for a value
+abbrev pub resultNumber : {A : Type 0} → Result A → ℕ
+resultNumber (gives a) = 0
+resultNumber (refuses n) = n
+
 -- what follows on a byte read
 abbrev pub onByte : {A : Type 0} → Loaded → (ℕ → Result A) → Result A
 onByte (Byte b) k = k b

@@ -2,7 +2,7 @@
 ghost use mathlib.Core.Path.{_≡_};
 ghost use Prim.Native.Nat.{_+_, _<_};
 ghost use lib.ListN.{getD};
-ghost use Rattle.cpu_memory.specs.Memory.{place, known as knownOf, memory, stack as stackOf, stackPlace, below as belowOf, above as aboveOf, isStackPlace, afterPush, romWord, Reaches};
+ghost use Rattle.cpu_memory.specs.Memory.{place, known as knownOf, memory, stack as stackOf, stackPlace, below as belowOf, above as aboveOf, isStackPlace, afterPush, romWord, Reaches, LoadedCase, numberAt, byteAt, numberPushed, bytePushed};
 
 // What a read gives: a byte, or the number of its refusal.
 pub enum Loaded {
@@ -73,7 +73,8 @@ pub fn rom_byte(rom: &[u8], i: usize) -> u8
 
 // A read at an address: RAM, ROM, or what is known of a register.
 pub fn load(seen: &[u16; 38], ram: &[u8; 256], rom: &[u8], a: u16) -> Loaded
-    ensures { λ r. ⌜ r ≡ memory (now (seen .entry)) (now (ram .entry)) (now (rom .entry)) a ⌝ }
+    ensures { λ r. ⌜ (r ≡ memory (now (seen .entry)) (now (ram .entry)) (now (rom .entry)) a)
+        × LoadedCase (numberAt (now (seen .entry)) (place a)) (byteAt (now (seen .entry)) (now (ram .entry)) (now (rom .entry)) (place a)) r ⌝ }
 {
     let p = place_of(a);
     match p {
@@ -144,7 +145,8 @@ pub fn load_after_push(
     l: u8,
     a: u16,
 ) -> Loaded
-    ensures { λ r. ⌜ r ≡ afterPush (belowOf s) l (afterPush s h (memory (now (seen .entry)) (now (ram .entry)) (now (rom .entry)))) a ⌝ }
+    ensures { λ r. ⌜ (r ≡ afterPush (belowOf s) l (afterPush s h (memory (now (seen .entry)) (now (ram .entry)) (now (rom .entry)))) a)
+        × LoadedCase (numberPushed (belowOf s) (numberPushed s (numberAt (now (seen .entry)))) (place a)) (bytePushed (belowOf s) l (bytePushed s h (byteAt (now (seen .entry)) (now (ram .entry)) (now (rom .entry)))) (place a)) r ⌝ }
 {
     if is_stack_place(below(s), a) {
         return Loaded::Byte(l);

@@ -29,8 +29,8 @@ use Rattle.cpu_step.specs.declared.Turn.the-variants.{On, Clock, Interrupt, Ref
 use Rattle.cpu_execution.specs.Execution.{destinationAt, storedAt, destination, stored, ramWith}
 use Rattle.cpu_step.specs.InstructionTurn.{cyclesWith, counted, isInterrupted, turnTo, turnWith, turnOf, ramAfter}
 use Rattle.firmware_machine.specs.Machine.{Machine, machine, Turned, turned, load, storedTo, completed, instruct, isRequesting, interruptTaken, afterInterrupt, turn}
-use Rattle.firmware_machine.specs.Seen.{Knows, Waiting}
-use Rattle.firmware_machine.specs.Shows.{refusal, wait, Shows}
+use Rattle.firmware_machine.specs.Seen.{Knows}
+use Rattle.firmware_machine.specs.Shows.{Shows}
 use Rattle.firmware_machine.proofs.Loads.{sees, Gets, same, waits, gets, Numbered, LowResult, low}
 
 module _ (seen : List ℕ) (c : Cpu) (ram : List ℕ) (k : Chip) where
@@ -63,22 +63,18 @@ module _ (seen : List ℕ) (c : Cpu) (ram : List ℕ) (k : Chip) where
   unfolding turnTo
   shows-to e to.Ram h = shows-done e (stored ram (e .store)) (ltb (cyclesWith e) 32)
   shows-to e (to.Register r b) h = (h, refl)
-  shows-to e (to.Refused n) h = (h .0, refusal (lt-ltb n 64 (h .1 .1)) (h .1 .0) refl)
-
-  waiting : (n r : ℕ) → n ≡ 64 + r → r < 38 → getD seen r 0 ≡ notSeen r → Waiting seen n
-  waiting n r e h u =
-      let z : n - 64 ≡ r = omega arith in
-      record { below-38 = omega arith; not-seen = rw z u }
+  shows-to e (to.Refused n) h = rw (lt-ltb n 64 (h .1 .1)) (h .0, h .1 .0, refl)
 
   shows-result : (x y : Result Effect) → Gets seen x y → LowResult y → Shows seen c ram k (turnWith x) (ramWith x ram) (completed y (machine c ram k))
   shows-result (gives e) y (same h) l = rw (← h) (shows-to e (destination (e .store)) (leaves (e .store)))
   shows-result (gives e) y (waits r h u g) l = absurd (let z : _≡_ {A = ℕ} 0 1 = cc in omega arith)
   shows-result (refuses n) y (same h) l =
       let z : Numbered n = rw (← h) at l in
-      (refl, refusal (lt-ltb n 64 (z .1)) (z .0) (rw (← h)))
+      rw (lt-ltb n 64 (z .1)) (refl, z .0, rw (← h))
   shows-result (refuses n) y (waits r h u g) l =
       let z : n ≡ 64 + r = cc in
-      (refl, wait (le-ltb n 64 (omega arith)) (waiting n r z h u))
+      let y : n - 64 ≡ r = omega arith in
+      rw (le-ltb n 64 (omega arith), y) (refl, record { below-38 = h; not-seen = u })
 
   shows-instruct : (rom : List ℕ) → Knows seen k
       → Shows seen c ram k (turnWith (perform (memory seen ram rom) (instruction c))) (ramWith (perform (memory seen ram rom) (instruction c)) ram) (instruct rom (machine c ram k))

@@ -1,6 +1,6 @@
 -- What is known of the chip's registers while the chip does not change: of each that nothing has been asked, or what its read gives. It
 -- stands between the machine and the instructions that run without the chip.
-use Prim.Native.Nat.{ℕ, _+_, _-_, _<_}
+use Prim.Native.Nat.{ℕ, _+_, _<_}
 use mathlib.Core.Path.{_≡_}
 use mathlib.Core.List.{List}
 use lib.Dec.{eqb}
@@ -23,7 +23,7 @@ pub data Known (k : Chip) (r v : ℕ) : Type 0 where
 abbrev pub Knows : List ℕ → Chip → Type 0
 Knows seen k = (r : ℕ) → r < 38 → Known k r (getD seen r 0)
 
--- the refusal n, 64 or more, asks for a register of which nothing is known
-pub record Waiting (seen : List ℕ) (n : ℕ) : Type 0 where
-  pub below-38 : n - 64 < 38
-  pub not-seen : getD seen (n - 64) 0 ≡ notSeen (n - 64)
+-- nothing is known of the register r
+pub record Waiting (seen : List ℕ) (r : ℕ) : Type 0 where
+  pub below-38 : r < 38
+  pub not-seen : getD seen r 0 ≡ notSeen r

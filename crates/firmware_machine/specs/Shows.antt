@@ -3,7 +3,7 @@ use Prim.Native.Nat.{ℕ, _+_, _%_}
 use mathlib.Core.Path.{_≡_}
 use mathlib.Core.Bool.{true, false}
 use mathlib.Core.List.{List}
-use lib.Dec.{eqb, ltb}
+use lib.Dec.{eqb}
 use Rattle.bits.specs.Byte.{pick}
 use Rattle.events.specs.Clocks as clock
 use Rattle.events.specs.declared.Decoded.the-variants as event
@@ -13,15 +13,10 @@ use Rattle.chip_events.specs.Outcome.{next}
 use Rattle.cpu_operations.specs.declared.Cpu.{Cpu}
 use Rattle.cpu_operations.specs.Operations.{setOver}
 use Rattle.cpu_step.specs.declared.Turn.{Turn}
-use Rattle.cpu_step.specs.declared.Turn.the-variants.{On, Clock, Interrupt, Write, Refused}
+use Rattle.cpu_step.specs.declared.Turn.the-variants.{On, Clock, Interrupt, Write, Refused, NotCached}
 use Rattle.cpu_step.specs.InstructionTurn.{isInterrupted}
 use Rattle.firmware_machine.specs.Machine.{Machine, machine, Turned, turned, clockAfter, isRequesting}
 use Rattle.firmware_machine.specs.Seen.{Waiting}
-
--- a refusal without the chip: the number of the machine's own, or a wait for a register
-pub data Refuses (seen : List ℕ) (n : ℕ) (m : Machine) (t : Turned) : Type 0 where
-  refusal : ltb n 64 ≡ true → eqb n 0 ≡ false → t ≡ turned m n → Refuses seen n m t
-  wait : ltb n 64 ≡ false → Waiting seen n → Refuses seen n m t
 
 module _ (seen : List ℕ) (c : Cpu) (ram : List ℕ) (k : Chip) where
   -- an instruction of n cycles that writes a register, with the CPU q that it leaves
@@ -37,4 +32,5 @@ module _ (seen : List ℕ) (c : Cpu) (ram : List ℕ) (k : Chip) where
   Shows (Clock d) ram′ t = t ≡ turned (machine d ram′ (next k (event.Clock clock.period))) 0
   Shows Interrupt ram′ t = (ram′ ≡ ram) × (isInterrupted (isRequesting k) c ≡ true)
   Shows (Write q n r b) ram′ t = (ram′ ≡ ram) × (t ≡ written q n r b)
-  Shows (Refused n) ram′ t = (ram′ ≡ ram) × Refuses seen n (machine c ram k) t
+  Shows (Refused n) ram′ t = (ram′ ≡ ram) × (eqb n 0 ≡ false) × (t ≡ turned (machine c ram k) n)
+  Shows (NotCached r) ram′ t = (ram′ ≡ ram) × Waiting seen r

@@ -3,13 +3,16 @@
 use Prim.Native.Nat.{ℕ, _≤_, _<_}
 use mathlib.Core.Path.{_≡_, refl, sym, ap, _∙_}
 use mathlib.Core.Bool.{Bool, true, false, _&&_, true≢false}
+use mathlib.Core.List.{List}
 use native.Mathlib.Omega.{arith}
 use lib.Dec.{eqb, ltb}
 use borrow.Author.Tests.{ltb-true, ltb-false, le-ltb}
+use Rattle.bits.specs.Byte.{pick}
 use Rattle.bits.proofs.Finite.{both}
 use Rattle.firmware_trace.specs.declared.Run.{Run}
 use Rattle.firmware_trace.specs.Trace.{goesOn}
 use Rattle.firmware_print.specs.Marked.{marked}
+use Rattle.firmware_print.specs.Taken.{Proceeded, leastOf}
 
 pub never : {A : Type 0} (b : Bool) → b ≡ true → b ≡ false → A
 never b t f = absurd (true≢false (sym t ∙ f))
@@ -37,3 +40,15 @@ stops-kept r run count h g = ap (λ (x : Run). goesOn (x .number) (x .printed) (
 -- a run that is left as it is, and that is marked then
 pub marked-kept : (last r run : Run) → last ≡ marked r (last .printed) → r ≡ run → last ≡ marked run (last .printed)
 marked-kept last r run h g = h ∙ ap (λ (x : Run). marked x (last .printed)) g
+
+-- and nothing is done
+pub nothing-done : (rom : List ℕ) (traced : Bool) (to : ℕ) (run : Run) (ram : List ℕ) (r : Run) (left : List ℕ) → Proceeded rom traced to run ram r left
+    → goesOn (run .number) (run .printed) (run .next) to ≡ false → (r ≡ run) × (left ≡ ram)
+nothing-done rom traced to run ram r left p h = rw h at p
+
+least-by : (a b : ℕ) (t : Bool) → ltb a b ≡ t → pick t a b ≤ a
+least-by a b true h = omega arith
+least-by a b false h = ltb-false a b h
+
+pub least-le : (a b : ℕ) → leastOf a b ≤ a
+least-le a b = least-by a b (ltb a b) refl

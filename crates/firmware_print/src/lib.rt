@@ -1,10 +1,11 @@
 // A firmware run with its lines on standard output: the answers of the events given and the registers at the end, or a line for each event,
-// interrupt and instruction (images/README.md). No contract can say what is written; what a line is comes from `firmware_lines`.
+// interrupt and instruction (images/README.md). No contract can say what is written, nor whether that went well; what a line is comes from
+// `firmware_lines`.
 ghost use mathlib.Core.Path.{_≡_};
 ghost use mathlib.Core.Bool.{false};
-ghost use Prim.Native.Nat.{_≤_};
-ghost use Rattle.firmware_trace.specs.Trace.{goesOn};
+ghost use Rattle.firmware_trace.specs.Trace.{goesOn, givenTo};
 ghost use Rattle.firmware_print.specs.Marked.{marked};
+ghost use Rattle.firmware_print.specs.Taken.{isFollowed, TracedTo, Proceeded, numberBefore, leastOf, Taken};
 use cpu_memory::Loaded;
 use cpu_operations::Cpu;
 use firmware_trace::Fetched;
@@ -101,8 +102,16 @@ fn print_end(cpu: Cpu, number: u8, next: u32, given: u64) -> bool {
 
 // ---- the run
 
+fn is_followed(number: u8, printed: bool) -> bool
+    ensures { λ r. ⌜ r ≡ isFollowed number printed ⌝ }
+{
+    (number == 0) & printed
+}
+
 // Some instructions, each with its lines.
-fn trace_on(start: Run, ram: &mut [u8; 256], rom: &[u8], instructions: u32) -> Run {
+fn trace_on(start: Run, ram: &mut [u8; 256], rom: &[u8], instructions: u32) -> Run
+    ensures { λ r. ⌜ TracedTo (now (rom .entry)) instructions start (now (ram .entry)) r (now (ram .exit)) ⌝ }
+{
     let mut run = start;
     let mut i = 0;
     while i < instructions {
@@ -112,29 +121,33 @@ fn trace_on(start: Run, ram: &mut [u8; 256], rom: &[u8], instructions: u32) -> R
         let cpu = run.cpu;
         let printed = print_turn(next, fetched, run.number, cpu);
         run.printed = printed;
-        if (run.number != 0) | !printed {
+        i += 1;
+        if !is_followed(run.number, printed) {
             return run;
         }
-        i += 1;
     }
     run
 }
 
 // Instructions up to the one of number `to`, where another may follow.
 fn proceed(run: Run, ram: &mut [u8; 256], rom: &[u8], traced: bool, to: u32) -> Run
-    ensures { λ r. ⌜ (goesOn (run .number) (run .printed) (run .next) to ≡ false → (r ≡ run) × (now (ram .exit) ≡ now (ram .entry))) ⌝ }
+    ensures { λ r. ⌜ Proceeded (now (rom .entry)) traced to run (now (ram .entry)) r (now (ram .exit)) ⌝ }
 {
     let next = run.next;
-    if !firmware_trace::goes_on(run.number, run.printed, next, to) {
-        return run;
+    if firmware_trace::goes_on(run.number, run.printed, next, to) {
+        if traced {
+            trace_on(run, ram, rom, to - next)
+        } else {
+            firmware_trace::run_on(run, ram, rom, to - next)
+        }
+    } else {
+        run
     }
-    if traced {
-        return trace_on(run, ram, rom, to - next);
-    }
-    firmware_trace::run_on(run, ram, rom, to - next)
 }
 
-fn give(run: Run, rom: &[u8], traced: bool, word: u32) -> Run {
+fn give(run: Run, rom: &[u8], traced: bool, word: u32) -> Run
+    ensures { λ r. ⌜ r ≡ marked (givenTo (now (rom .entry)) run word) (r .printed) ⌝ }
+{
     let mut after = firmware_trace::give(run, rom, word);
     let printed = print_given(traced, after.next, word, after.answer);
     after.printed = printed;
@@ -142,13 +155,15 @@ fn give(run: Run, rom: &[u8], traced: bool, word: u32) -> Run {
 }
 
 fn least(a: u32, b: u32) -> u32
-    ensures { λ r. ⌜ (r ≤ a) × (r ≤ b) ⌝ }
+    ensures { λ r. ⌜ r ≡ leastOf a b ⌝ }
 {
     if a < b { a } else { b }
 }
 
 // The number of the instruction that an item of a list comes before: every instruction comes before the end.
-fn number_of(item: Item) -> u32 {
+fn number_of(item: Item) -> u32
+    ensures { λ r. ⌜ r ≡ numberBefore item ⌝ }
+{
     match item {
         Item::Event(e) => (e / 4294967296) as u32,
         Item::End => u32::MAX,
@@ -172,7 +187,8 @@ fn finish(run: Run) -> Run
 // The instructions before an item of a list; then an event is given where another instruction follows, and at the end the last line is printed.
 // Where no instruction may follow, as behind a refused one, nothing is done, and only whether all is printed can change.
 pub fn take(run: Run, ram: &mut [u8; 256], rom: &[u8], asked: Asked, item: Item) -> Run
-    ensures { λ r. ⌜ (goesOn (run .number) (run .printed) (run .next) (asked .count) ≡ false → (r ≡ marked run (r .printed)) × (now (ram .exit) ≡ now (ram .entry))) ⌝ }
+    ensures { λ r. ⌜ (goesOn (run .number) (run .printed) (run .next) (asked .count) ≡ false → (r ≡ marked run (r .printed)) × (now (ram .exit) ≡ now (ram .entry)))
+        × Taken (now (rom .entry)) asked item run (now (ram .entry)) r (now (ram .exit)) ⌝ }
 {
     let r = proceed(
         run,

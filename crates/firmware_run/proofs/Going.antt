@@ -23,8 +23,8 @@ use Rattle.firmware_machine.specs.Run.{numberOf, wordOf, occurred, afterEvents,
 use Rattle.firmware_machine.specs.Turns.{Later, none, next-at, onEnded}
 use Rattle.firmware_machine.proofs.Turns.{split, runs-next}
 use Rattle.firmware_run.specs.declared.Occurred.{Occurred}
-use Rattle.cpu_run.specs.declared.Settled.{Settled}
-use Rattle.cpu_run.specs.Instructions.{settledEnd}
+use Rattle.firmware_run.specs.declared.Settled.{Settled}
+use Rattle.firmware_run.specs.Instructions.{settledEnd}
 use Rattle.cpu_register_cache.specs.Cache.{seenAfterEvent, noneSeen}
 use Rattle.firmware_run.specs.Firmware.{resultOf, occurredWith, until}
 use Rattle.firmware_run.specs.Outcome.{outcome}

@@ -1,12 +1,11 @@
 -- An event, from what the functions that give it come to.
 use Prim.Native.Nat.{ℕ}
 use mathlib.Core.Path.{_≡_, refl}
-use mathlib.Core.Bool.{Bool, true, false}
+use mathlib.Core.Bool.{Bool}
 use mathlib.Core.List.{List}
 use Rattle.bits.specs.Byte.{pick}
 use Rattle.events.specs.declared.Decoded.{Decoded}
-use Rattle.events.specs.Word.{decode, noEvent, noPlace, badByte, event}
-use Rattle.events.specs.declared.Decoded.the-variants.{Pin}
+use Rattle.events.specs.Word.{decode}
 use Rattle.chip.specs.declared.Core.{Core}
 use Rattle.chip.specs.State.{chipOf}
 use Rattle.chip_events.specs.Outcome.{next, wasReset}
@@ -28,12 +27,3 @@ pub occurs : (t : Bool) (rom : List ℕ) (c q : Cpu) (registers : List ℕ) (cor
     → (occurredAs q (d .core) (d .answer) ≡ occurredWith rom c (chipOf registers core) w) × (r ≡ next (chipOf registers core) (decode w) .registers) × (s′ ≡ seenAfterEvent seen (decode w))
 unfolding occurredWith advance
 occurs t rom c q registers core w e p b s u v d x r y seen s′ z = rw (v, x, y, z, ← p, ← s, u) (refl, refl, refl)
-
--- the words of SCL's levels
-pub scl-low : decode 0x03001900 ≡ Pin 25 false
-unfolding decode noEvent noPlace badByte event
-scl-low = refl
-
-pub scl-high : decode 0x03001901 ≡ Pin 25 true
-unfolding decode noEvent noPlace badByte event
-scl-high = refl

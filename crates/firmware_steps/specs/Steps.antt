@@ -3,15 +3,20 @@ use Prim.Native.Nat.{ℕ}
 use mathlib.Core.Bool.{Bool, false, not}
 use mathlib.Core.List.{List}
 use lib.Dec.{eqb}
+use lib.ListN.{getD}
 use Rattle.bits.specs.Byte.{pick}
 use Rattle.events.specs.Word.{decode}
 use Rattle.chip.specs.declared.Chip.{Chip}
 use Rattle.chip.specs.State.{requests}
+use Rattle.chip_reads.specs.Reads.{reading}
+use Rattle.chip_reads.specs.declared.Reading.{Reading}
 use Rattle.chip_events.specs.Outcome.{wasReset}
 use Rattle.step.specs.declared.Stepped.{Stepped}
 use Rattle.step.specs.Step.{advance}
 use Rattle.cpu_arithmetic.specs.declared.Flags.{Flags}
 use Rattle.cpu_operations.specs.declared.Cpu.{Cpu}
+use Rattle.cpu_memory.specs.declared.Place.{Place}
+use Rattle.cpu_memory.specs.declared.Place.the-variants as at
 use Rattle.cpu_instruction.specs.Instruction.{resetCpu}
 use Rattle.firmware_machine.specs.Machine.{Machine, machine, afterInterrupt}
 use Rattle.firmware_steps.specs.declared.Given.{Given}
@@ -51,3 +56,17 @@ interruptedWith m b = record { cpu = m .cpu; chip = m .chip; taken = b }
 
 abbrev pub interruptedBy : List ℕ → List ℕ → Cpu → Chip → Interrupted
 interruptedBy rom ram c k = interruptedWith (beforeInstruction rom (machine c ram k)) (isDue c k)
+
+-- ---- number and byte of a read of the CPU, of a register as the chip gives them
+
+abbrev pub loadNumber : Chip → Place → ℕ
+loadNumber k (at.Register r) = reading k r .number
+loadNumber k (at.Ram i) = 0
+loadNumber k (at.Rom i) = 0
+loadNumber k at.Unmapped = 21
+
+abbrev pub loadByte : List ℕ → Chip → List ℕ → Place → ℕ
+loadByte ram k rom (at.Register r) = reading k r .byte
+loadByte ram k rom (at.Ram i) = getD ram i 0
+loadByte ram k rom (at.Rom i) = getD rom i 0
+loadByte ram k rom at.Unmapped = 0

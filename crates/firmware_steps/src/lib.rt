@@ -4,11 +4,11 @@ ghost use mathlib.Core.Path.{_≡_};
 ghost use mathlib.Core.List.{[]};
 ghost use lib.ListN.{set};
 ghost use Rattle.chip_reads.specs.Reads.{reading};
-ghost use Rattle.cpu_memory.specs.Memory.{stackPlace};
+ghost use Rattle.cpu_memory.specs.Memory.{place, stackPlace, LoadedCase};
 ghost use Rattle.firmware_machine.specs.Machine.{machine, registerRead, load as loadOf, clockAfter};
 ghost use Rattle.firmware_machine.specs.Run.{firmware as firmwareOf};
 ghost use Rattle.firmware_run.specs.Firmware.{resultOf};
-ghost use Rattle.firmware_steps.specs.Steps.{powerUp, givenBy, isDue, interruptedBy, beforeInstruction};
+ghost use Rattle.firmware_steps.specs.Steps.{powerUp, givenBy, isDue, interruptedBy, beforeInstruction, loadNumber, loadByte};
 use chip::Chip;
 use chip_reads::Reading;
 use cpu_arithmetic::Flags;
@@ -173,7 +173,8 @@ fn register_at(chip: Chip, r: u8) -> Loaded
 
 // A read of the CPU at an address, as that of an opcode.
 pub fn load(ram: &[u8; 256], rom: &[u8], chip: Chip, a: u16) -> Loaded
-    ensures { λ r. ⌜ r ≡ loadOf (now (ram .entry)) chip (now (rom .entry)) a ⌝ }
+    ensures { λ r. ⌜ (r ≡ loadOf (now (ram .entry)) chip (now (rom .entry)) a)
+        × LoadedCase (loadNumber chip (place a)) (loadByte (now (ram .entry)) chip (now (rom .entry)) (place a)) r ⌝ }
 {
     let p = cpu_memory::place_of(a);
     match p {

@@ -42,6 +42,10 @@ withResult r x = resultAt ((r .next + x .counted) % 2 ^ 32) r x
 abbrev pub ranOn : List ℕ → List ℕ → Run → ℕ → Run
 ranOn rom ram r n = withResult r (resultOf (firmware (r .cpu) ram rom (r .chip) [] [] n))
 
+-- RAM after them
+abbrev pub ramOn : List ℕ → List ℕ → Run → ℕ → List ℕ
+ramOn rom ram r n = firmware (r .cpu) ram rom (r .chip) [] [] n .ram
+
 -- ---- an event, the n-th one
 
 abbrev pub givenAt : ℕ → Run → Given → Run

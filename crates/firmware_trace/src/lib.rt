@@ -1,9 +1,7 @@
 // A firmware run from power up, as a program hands it on from one step to the next, and what a trace shows of the instruction to come
 // (document 02, Wish 5).
 ghost use mathlib.Core.Path.{_≡_};
-ghost use mathlib.Core.List.{[]};
-ghost use Rattle.firmware_machine.specs.Run.{firmware as firmwareOf};
-ghost use Rattle.firmware_trace.specs.Trace.{poweredUp, goesOn, ranOn, givenTo, fetched};
+ghost use Rattle.firmware_trace.specs.Trace.{poweredUp, goesOn, ranOn, ramOn, givenTo, fetched};
 use chip::Chip;
 use cpu_memory::Loaded;
 use cpu_operations::Cpu;
@@ -52,7 +50,7 @@ pub fn goes_on(number: u8, printed: bool, next: u32, count: u32) -> bool
 
 // Instructions with no event between; those done are counted.
 pub fn run_on(run: Run, ram: &mut [u8; 256], rom: &[u8], instructions: u32) -> Run
-    ensures { λ r. ⌜ (r ≡ ranOn (now (rom .entry)) (now (ram .entry)) run instructions) × (now (ram .exit) ≡ firmwareOf (run .cpu) (now (ram .entry)) (now (rom .entry)) (run .chip) [] [] instructions .ram) ⌝ }
+    ensures { λ r. ⌜ (r ≡ ranOn (now (rom .entry)) (now (ram .entry)) run instructions) × (now (ram .exit) ≡ ramOn (now (rom .entry)) (now (ram .entry)) run instructions) ⌝ }
 {
     let cpu = run.cpu;
     let chip = run.chip;

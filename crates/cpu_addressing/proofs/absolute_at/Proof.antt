@@ -15,5 +15,5 @@ absolute-at-spec =
     (λ c. search needs)
     (λ c κs. search needs)
     (λ c. search needs)
-    (λ c. simp (run-then, run-done, c .indexed2 .ensures, c .before .before .p .given .1, ← (c .before .before .before .before .word-at .ensures)))
-    (λ c. simp (run-then, c .before .p2 .given .1, ← (c .before .before .before .word-at .ensures))))
+    (λ c. simp (run-then, run-done, c .indexed2 .ensures, c .before .before .p .given .1, ← (c .before .before .before .before .word-at .ensures .values)))
+    (λ c. simp (run-then, c .before .p2 .given .1, ← (c .before .before .before .word-at .ensures .values))))

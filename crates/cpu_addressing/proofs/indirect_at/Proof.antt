@@ -11,5 +11,5 @@ indirect-at-spec =
     (λ c. search needs)
     (λ c κs. search needs)
     (λ c. search needs)
-    (λ c. simp (run-then, run-read, run-done, run-undocumented, c .pointer-at .ensures, c .before .before .p .given .1, ← (c .before .before .before .before .word-at .ensures)))
-    (λ c. simp (run-then, run-read, run-done, run-undocumented, c .before .p2 .given .1, ← (c .before .before .before .word-at .ensures))))
+    (λ c. simp (run-then, run-read, run-done, run-undocumented, c .pointer-at .ensures, c .before .before .p .given .1, ← (c .before .before .before .before .word-at .ensures .values)))
+    (λ c. simp (run-then, run-read, run-done, run-undocumented, c .before .p2 .given .1, ← (c .before .before .before .word-at .ensures .values))))

@@ -12,5 +12,5 @@ pointer-at-spec =
     (λ c. search needs)
     (λ c κs. search needs)
     (λ c. search needs)
-    (λ c. rw (← (c .before .before .before .before .before .next-in-page .ensures), run-then, ← (c .before .before .before .before .word-at .ensures), c .before .before .q .given .1) (simp (run-done, c .indexed .ensures)))
-    (λ c. rw (← (c .before .before .before .before .next-in-page .ensures), run-then, ← (c .before .before .before .word-at .ensures), c .before .q2 .given .1)))
+    (λ c. rw (← (c .before .before .before .before .before .next-in-page .ensures), run-then, ← (c .before .before .before .before .word-at .ensures .values), c .before .before .q .given .1) (simp (run-done, c .indexed .ensures)))
+    (λ c. rw (← (c .before .before .before .before .next-in-page .ensures), run-then, ← (c .before .before .before .word-at .ensures .values), c .before .q2 .given .1)))

@@ -12,5 +12,5 @@ zero-page-pointer-spec =
     (λ c κs. search needs)
     (λ c κs. search needs)
     (λ c. search needs)
-    (λ c. simp (run-then, run-read, run-done, run-undocumented, c .pointer-at .ensures, c .before .sum-in-page .ensures, c .before .before .before .p .given .1, ← (c .before .before .before .before .before .load .ensures)))
-    (λ c. simp (run-then, run-read, run-done, run-undocumented, c .before .p2 .given .1, ← (c .before .before .before .load .ensures))))
+    (λ c. simp (run-then, run-read, run-done, run-undocumented, c .pointer-at .ensures, c .before .sum-in-page .ensures, c .before .before .before .p .given .1, ← (c .before .before .before .before .before .load .ensures .0)))
+    (λ c. simp (run-then, run-read, run-done, run-undocumented, c .before .p2 .given .1, ← (c .before .before .before .load .ensures .0))))

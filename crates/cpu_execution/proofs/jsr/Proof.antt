@@ -13,5 +13,5 @@ jsr-spec =
     (λ c. search needs)
     (λ c κs. search needs)
     (λ c. search needs)
-    (λ c. simp (perform-reads, c .jsr-high .ensures .0, c .jsr-high .ensures .1, c .before .before .before .p .given .1, ← (c .before .before .before .before .before .load .ensures), ← (c .before .before .before .before .before .before .before .ahead .ensures)) (refl, refl))
-    (λ c. simp (perform-reads, c .before .p2 .given .1, ← (c .before .before .before .load .ensures), ← (c .before .before .before .before .before .ahead .ensures)) (refl, refl)))
+    (λ c. simp (perform-reads, c .jsr-high .ensures .0, c .jsr-high .ensures .1, c .before .before .before .p .given .1, ← (c .before .before .before .before .before .load .ensures .0), ← (c .before .before .before .before .before .before .before .ahead .ensures)) (refl, refl))
+    (λ c. simp (perform-reads, c .before .p2 .given .1, ← (c .before .before .before .load .ensures .0), ← (c .before .before .before .before .before .ahead .ensures)) (refl, refl)))

@@ -14,5 +14,5 @@ modify-at-spec =
     (λ c κs. search needs)
     (λ c κs. search needs)
     (λ c. search needs)
-    (λ c. simp (perform-reads, perform-leaves, c .put .ensures .0, c .put .ensures .1, c .before .before .set-p .ensures, c .before .before .before .before .modify-operation .ensures, c .before .before .before .before .before .before .p .given .1, ← (c .before .before .before .before .before .before .before .before .load .ensures)) (refl, refl))
-    (λ c. simp (perform-reads, perform-leaves, c .before .p2 .given .1, ← (c .before .before .before .load .ensures)) (refl, refl)))
+    (λ c. simp (perform-reads, perform-leaves, c .put .ensures .0, c .put .ensures .1, c .before .before .set-p .ensures, c .before .before .before .before .modify-operation .ensures, c .before .before .before .before .before .before .p .given .1, ← (c .before .before .before .before .before .before .before .before .load .ensures .0)) (refl, refl))
+    (λ c. simp (perform-reads, perform-leaves, c .before .p2 .given .1, ← (c .before .before .before .load .ensures .0)) (refl, refl)))

@@ -16,5 +16,5 @@ read-at-spec =
     (λ c κs. search needs)
     (λ c. search needs)
     (λ c. search needs)
-    (λ c. simp (perform-reads, perform-leaves, c .read-operation .ensures, c .before .before .p .given .1, ← (c .before .before .before .before .load .ensures), c .before .before .before .before .before .before .num .ensures .0) (refl, refl))
-    (λ c. simp (perform-reads, perform-leaves, c .before .p2 .given .1, ← (c .before .before .before .load .ensures)) (refl, refl)))
+    (λ c. simp (perform-reads, perform-leaves, c .read-operation .ensures, c .before .before .p .given .1, ← (c .before .before .before .before .load .ensures .0), c .before .before .before .before .before .before .num .ensures .0) (refl, refl))
+    (λ c. simp (perform-reads, perform-leaves, c .before .p2 .given .1, ← (c .before .before .before .load .ensures .0)) (refl, refl)))

@@ -14,5 +14,5 @@ rti-spec =
     (λ c. search needs)
     (λ c κs. search needs)
     (λ c. search needs)
-    (λ c. simp (perform-reads, c .rti-with .ensures .0, c .rti-with .ensures .1, c .before .before .before .p .given .1, ← (c .before .before .before .before .before .load .ensures), ← (c .before .before .before .before .before .before .stack .ensures), ← (c .before .before .before .before .before .before .before .before .above .ensures)) (refl, refl))
-    (λ c. simp (perform-reads, c .before .p2 .given .1, ← (c .before .before .before .load .ensures), ← (c .before .before .before .before .stack .ensures), ← (c .before .before .before .before .before .before .above .ensures)) (refl, refl)))
+    (λ c. simp (perform-reads, c .rti-with .ensures .0, c .rti-with .ensures .1, c .before .before .before .p .given .1, ← (c .before .before .before .before .before .load .ensures .0), ← (c .before .before .before .before .before .before .stack .ensures), ← (c .before .before .before .before .before .before .before .before .above .ensures)) (refl, refl))
+    (λ c. simp (perform-reads, c .before .p2 .given .1, ← (c .before .before .before .load .ensures .0), ← (c .before .before .before .before .stack .ensures), ← (c .before .before .before .before .before .before .above .ensures)) (refl, refl)))

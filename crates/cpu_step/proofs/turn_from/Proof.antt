@@ -20,4 +20,5 @@ turn-from-spec =
     (λ c. simp (lt-ltb _ _ (c .if1 .taken), c .before .set-over .ensures, c .before .before .before .before .x .given .1))
     (λ c. simp (le-ltb _ _ (c .if1 .left), c .before .set-over .ensures, c .before .before .before .before .x .given .1))
     (λ c. simp (c .before .x2 .given .1))
-    (λ c. simp (c .before .x3 .given .1)))
+    (λ c. simp (c .before .before .x3 .given .1, lt-ltb _ _ (c .if2 .taken)))
+    (λ c. simp (c .before .before .x3 .given .1, le-ltb _ _ (c .if2 .left))))

@@ -1,14 +1,14 @@
 -- `firmware_print::least` meets its contract.
 -- Assumes nothing.
-use borrow.Author.Needs.{needs}
+use borrow.Author.Tests.{lt-ltb, le-ltb}
 use Rattle.firmware_print.proofs.least.Statement.{statement}
 use Rattle.firmware_print.proofs.least.Tie as tie
 
 returns : tie.Need-returns
-returns c = search needs
+returns c = simp (lt-ltb _ _ (c .if1 .taken))
 
 returns-2 : tie.Need-returns-2
-returns-2 c = search needs
+returns-2 c = simp (le-ltb _ _ (c .if1 .left))
 
 pub least-spec : {M : Type 1} → statement M
 least-spec = tie.close (tie.spec returns returns-2)

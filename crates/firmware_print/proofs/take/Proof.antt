@@ -1,7 +1,7 @@
 -- `firmware_print::take` meets its contract.
 -- Assumes nothing.
 use mathlib.Core.Path.{refl, sym, _∙_}
-use Rattle.firmware_print.proofs.Stops.{never, stops-before, stops-kept, marked-kept}
+use Rattle.firmware_print.proofs.Stops.{never, stops-before, stops-kept, marked-kept, nothing-done, least-le}
 use borrow.Author.Needs.{needs}
 use Rattle.firmware_print.proofs.take.Statement.{statement}
 use Rattle.firmware_print.proofs.take.Tie as tie
@@ -28,12 +28,20 @@ give-requires : tie.Need-give-requires
 give-requires c κs = search needs
 
 returns : tie.Need-returns
-returns c h =
+returns c =
     let call = c .before .before in
     let at = call .before .before .before .before in
-    let run = at .before .before .before .before .before .args .run in
-    let kept = at .proceed .ensures (stops-before _ _ _ _ _ (at .before .least .ensures .0) h) .0 in
-    never _ (sym (call .goes-on .ensures) ∙ c .before .if1 .taken) (stops-kept (at .proceed .result) run _ kept h)
+    let to = at .before in
+    let run = at .before .before .before .before .before .args .run in (
+      (λ h.
+          let kept = nothing-done _ _ _ _ _ _ _ (at .proceed .ensures) (stops-before _ _ _ _ _ (rw (to .least .ensures) (least-le _ _)) h) .0 in
+          never _ (sym (call .goes-on .ensures) ∙ c .before .if1 .taken) (stops-kept (at .proceed .result) run _ kept h)),
+      record {
+        before = at .proceed .result;
+        proceeded = rw (← (to .before .number-of .ensures), ← (to .least .ensures)) (at .proceed .ensures);
+        taken = rw (call .before .before .item .given .1, ← (call .goes-on .ensures), c .before .if1 .taken) (c .give .ensures);
+      },
+    )
 
 enum-told : tie.Need-enum-told
 enum-told c = search needs
@@ -42,18 +50,35 @@ finish-requires : tie.Need-finish-requires
 finish-requires c κs = search needs
 
 returns-2 : tie.Need-returns-2
-returns-2 c h =
-    let at = c .before .before .before .before .before in
-    let run = at .before .before .before .before .before .args .run in
-    let kept = at .proceed .ensures (stops-before _ _ _ _ _ (at .before .least .ensures .0) h) in
-    (marked-kept (at .proceed .result) (at .proceed .result) run refl (kept .0), kept .1)
+returns-2 c =
+    let call = c .before in
+    let at = call .before .before .before .before in
+    let to = at .before in
+    let run = at .before .before .before .before .before .args .run in (
+      (λ h.
+          let kept = nothing-done _ _ _ _ _ _ _ (at .proceed .ensures) (stops-before _ _ _ _ _ (rw (to .least .ensures) (least-le _ _)) h) in
+          (marked-kept (at .proceed .result) (at .proceed .result) run refl (kept .0), kept .1)),
+      record {
+        before = at .proceed .result;
+        proceeded = rw (← (to .before .number-of .ensures), ← (to .least .ensures)) (at .proceed .ensures);
+        taken = rw (call .before .before .item .given .1, ← (call .goes-on .ensures), c .if1 .left) refl;
+      },
+    )
 
 returns-3 : tie.Need-returns-3
-returns-3 c h =
+returns-3 c =
     let at = c .before .before .before in
-    let run = at .before .before .before .before .before .args .run in
-    let kept = at .proceed .ensures (stops-before _ _ _ _ _ (at .before .least .ensures .0) h) in
-    (marked-kept (c .finish .result) (at .proceed .result) run (c .finish .ensures) (kept .0), kept .1)
+    let to = at .before in
+    let run = at .before .before .before .before .before .args .run in (
+      (λ h.
+          let kept = nothing-done _ _ _ _ _ _ _ (at .proceed .ensures) (stops-before _ _ _ _ _ (rw (to .least .ensures) (least-le _ _)) h) in
+          (marked-kept (c .finish .result) (at .proceed .result) run (c .finish .ensures) (kept .0), kept .1)),
+      record {
+        before = at .proceed .result;
+        proceeded = rw (← (to .before .number-of .ensures), ← (to .least .ensures)) (at .proceed .ensures);
+        taken = rw (c .before .enum-told .given .1) (c .finish .ensures);
+      },
+    )
 
 pub take-spec : {M : Type 1} → statement M
 take-spec =

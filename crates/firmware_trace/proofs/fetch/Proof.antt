@@ -14,4 +14,4 @@ fetch-spec =
     (λ c.
     let call = c .before .before .before .before in
     let run = call .before .before .before .before .before .before .args .run in
-    fetches _ _ run _ (call .interrupt .ensures .0) _ (call .interrupt .ensures .1) _ (c .load .ensures)))
+    fetches _ _ run _ (call .interrupt .ensures .0) _ (call .interrupt .ensures .1) _ (c .load .ensures .0)))

@@ -6,7 +6,6 @@ use mathlib.Core.List.{List, []}
 use native.Mathlib.Omega.{arith}
 use lib.Dec.{eqb, ltb}
 use lib.ListN.{length, set, length-set}
-use borrow.Author.Tests.{lt-ltb, le-ltb}
 use Rattle.bits.specs.Byte.{pick}
 use Rattle.bus.specs.declared.Phase.{Phase}
 use Rattle.chip.specs.declared.Bus.{Bus}
@@ -29,19 +28,19 @@ use Rattle.cpu_operations.specs.Operations.{setOver}
 use Rattle.cpu_instruction.specs.Instruction.{interrupted}
 use Rattle.cpu_execution.specs.Execution.{stored}
 use Rattle.cpu_step.specs.declared.Turn.{Turn}
-use Rattle.cpu_step.specs.declared.Turn.the-variants.{On, Clock, Interrupt, Write, Refused}
+use Rattle.cpu_step.specs.declared.Turn.the-variants.{On, Clock, Interrupt, Write, Refused, NotCached}
 use Rattle.cpu_step.specs.InstructionTurn.{cyclesWith, counted, turnOf, ramAfter}
 use Rattle.firmware_machine.specs.Machine.{Machine, machine, Turned, turned, clockAfter, isRequesting, interruptTaken, turn}
 use Rattle.firmware_machine.specs.Run.{Ended, ended, onTurned, runs}
-use Rattle.firmware_machine.specs.Seen.{Knows, Waiting, knownReading}
-use Rattle.firmware_machine.specs.Shows.{Refuses, refusal, wait, written, Shows}
+use Rattle.firmware_machine.specs.Seen.{Knows, knownReading}
+use Rattle.firmware_machine.specs.Shows.{written, Shows}
 use Rattle.firmware_machine.proofs.Instructions.{shows}
 use Rattle.firmware_machine.proofs.Interrupts.{interrupt-is, interrupted-masks}
 use Rattle.firmware_machine.proofs.Turns.{taken-clear, runs-first, runs-interrupt}
-use Rattle.cpu_run.specs.declared.Interrupted.{Interrupted}
-use Rattle.cpu_run.specs.declared.Settled.{Settled}
+use Rattle.firmware_run.specs.declared.Interrupted.{Interrupted}
+use Rattle.firmware_run.specs.declared.Settled.{Settled}
 use Rattle.cpu_register_cache.specs.Cache.{noneSeen, ticked, seenAfterClock, coreAfterCycles}
-use Rattle.cpu_run.specs.Instructions.{afterInterrupted, settledEnd}
+use Rattle.firmware_run.specs.Instructions.{afterInterrupted, settledEnd}
 use Rattle.cpu_register_cache.proofs.Registers.{knows-none, knows-set, unseenOf, unseen-le, unseen-set}
 use Rattle.cpu_register_cache.specs.Changed.{Changed}
 use Rattle.cpu_register_cache.proofs.Chips.{clock-chip, after-cycles, ticked-parts, ticked-high, after-high, clock-requests, knows-clock, clock-length}
@@ -253,35 +252,30 @@ module _ (rom : List ℕ) (from to : ℕ) (start : Machine) (ram seen registers 
             let y : eqb (writeNumber (core .reset) r) 0 ≡ false = rw o z in
             rw (writing .0) (ap (λ (x : ℕ). ended (machine c ram k) x i []) (sym o) ∙ (refused-end (writeNumber (core .reset) r) y (writing .1 ∙ refused-by _ refl y)))
 
-      module _ (n : ℕ) (q : t ≡ Refused n) where
-        refusing : Shows seen c ram k (Refused n) ram′ (turn rom (machine c ram k))
-        refusing = rw q at seen-turn
+      pub refuses : (n : ℕ) → t ≡ Refused n → ended (machine c ram′ k) n i [] ≡ whole
+      refuses n q =
+          let z : Shows seen c ram k (Refused n) ram′ (turn rom (machine c ram k)) = rw q at seen-turn in
+          rw (z .0) (refused-end n (z .1) (z .2))
 
-        refuses-by : Refuses seen n (machine c ram k) (turn rom (machine c ram k)) → n < 64 → ended (machine c ram k) n i [] ≡ whole
-        refuses-by (refusal g z u) s = refused-end n z u
-        refuses-by (wait g u) s = absurd (true≢false (sym (lt-ltb n 64 s) ∙ g))
+      -- a register that was not looked at is read
+      module _ (r : ℕ) (q : t ≡ NotCached r) where
+        waiting : Shows seen c ram k (NotCached r) ram′ (turn rom (machine c ram k))
+        waiting = rw q at seen-turn
 
-        pub refuses : n < 64 → ended (machine c ram′ k) n i [] ≡ whole
-        refuses s = rw (refusing .0) (refuses-by (refusing .1) s)
-
-        waiting-by : Refuses seen n (machine c ram k) (turn rom (machine c ram k)) → 64 ≤ n → Waiting seen n
-        waiting-by (refusal g z u) s = absurd (true≢false (sym g ∙ le-ltb n 64 s))
-        waiting-by (wait g u) s = u
-
-        pub waits : 64 ≤ n → (x : Reading) → x ≡ reading k (n - 64) → (v : ℕ) → v ≡ knownReading x → (s : List ℕ) → s ≡ set seen (n - 64) v → Running rom from to start ram′ s registers core c i clocked request
-        waits o x y v z s u =
-            rw (e, u, z, y, refusing .0)
+        pub waits : (x : Reading) → x ≡ reading k r → (v : ℕ) → v ≡ knownReading x → (s : List ℕ) → s ≡ set seen r v → Running rom from to start ram′ s registers core c i clocked request
+        waits x y v z s u =
+            rw (e, u, z, y, waiting .0)
             (record {
               small = h .small;
               total = rw e at (h .total);
-              knows = knows-set seen k (n - 64) (h .size) (h .knows);
-              size = length-set seen (n - 64) _ ∙ h .size;
+              knows = knows-set seen k r (h .size) (h .knows);
+              size = length-set seen r _ ∙ h .size;
               high = h .high;
               asked = h .asked;
               begun = λ z. absurd (true≢false z);
             })
 
-        pub waits-less : 64 ≤ n → (x : Reading) → x ≡ reading k (n - 64) → (v : ℕ) → v ≡ knownReading x → (s : List ℕ) → s ≡ set seen (n - 64) v → measure to i clocked c s < measure to i clocked c seen
-        waits-less o x y v z s u =
-            let m = waiting-by (refusing .1) o in
-            rw (u, z, y, e) (omega (arith, unseen-set seen k (n - 64) (omega (arith, m .below-38, h .size)) (m .not-seen)))
+        pub waits-less : (x : Reading) → x ≡ reading k r → (v : ℕ) → v ≡ knownReading x → (s : List ℕ) → s ≡ set seen r v → measure to i clocked c s < measure to i clocked c seen
+        waits-less x y v z s u =
+            let m = waiting .1 in
+            rw (u, z, y, e) (omega (arith, unseen-set seen k r (omega (arith, m .below-38, h .size)) (m .not-seen)))

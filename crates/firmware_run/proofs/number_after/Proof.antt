@@ -1,6 +1,6 @@
 use borrow.Author.Needs.{needs}
-use Rattle.cpu_run.proofs.number_after.Statement.{statement}
-use Rattle.cpu_run.proofs.number_after.Tie as tie
+use Rattle.firmware_run.proofs.number_after.Statement.{statement}
+use Rattle.firmware_run.proofs.number_after.Tie as tie
 
 pub number-after-spec : {M : Type 1} → statement M
 number-after-spec =

@@ -1,7 +1,7 @@
 use mathlib.Core.Path.{refl}
 use borrow.Author.Needs.{needs}
-use Rattle.cpu_run.proofs.interrupt.Statement.{statement}
-use Rattle.cpu_run.proofs.interrupt.Tie as tie
+use Rattle.firmware_run.proofs.interrupt.Statement.{statement}
+use Rattle.firmware_run.proofs.interrupt.Tie as tie
 
 pub interrupt-spec : {M : Type 1} → statement M
 interrupt-spec =

@@ -9,8 +9,8 @@ use Rattle.cpu_step.specs.InstructionTurn.{cyclesWith, counted}
 use Rattle.firmware_machine.specs.Machine.{machine}
 use Rattle.firmware_machine.specs.Run.{Ended, ended}
 use Rattle.cpu_register_cache.specs.Cache.{coreAfterCycles}
-use Rattle.cpu_run.specs.declared.Interrupted.{Interrupted}
-use Rattle.cpu_run.specs.declared.Settled.{Settled}
+use Rattle.firmware_run.specs.declared.Interrupted.{Interrupted}
+use Rattle.firmware_run.specs.declared.Settled.{Settled}
 
 -- CPU and core after an interrupt, its cycles counted
 abbrev pub afterInterrupted : List ℕ → Core → Cpu → Interrupted

@@ -1,7 +1,7 @@
 use Rattle.firmware_machine.specs.Machine.{isRequesting}
 use borrow.Author.Needs.{needs}
-use Rattle.cpu_run.proofs.is_requesting.Statement.{statement}
-use Rattle.cpu_run.proofs.is_requesting.Tie as tie
+use Rattle.firmware_run.proofs.is_requesting.Statement.{statement}
+use Rattle.firmware_run.proofs.is_requesting.Tie as tie
 
 pub is-requesting-spec : {M : Type 1} → statement M
 unfolding isRequesting

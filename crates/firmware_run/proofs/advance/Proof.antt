@@ -5,9 +5,9 @@ use borrow.Author.Tests.{eq-eqb, ne-eqb}
 use Rattle.chip.specs.State.{chipOf}
 use Rattle.firmware_machine.specs.Machine.{machine}
 use Rattle.cpu_register_cache.proofs.Chips.{changed-watchdog, watchdog-asked, changed-dac, dac-asked, changed-other}
-use Rattle.cpu_run.proofs.Running.{Running, measure, begin, finish, ticks, ticks-less, on, on-less, due, due-less, interrupts, interrupts-less, wrote, wrote-less, refused-write, refuses, waits, waits-less}
-use Rattle.cpu_run.proofs.advance.Statement.{statement}
-use Rattle.cpu_run.proofs.advance.Tie as tie
+use Rattle.firmware_run.proofs.Running.{Running, measure, begin, finish, ticks, ticks-less, on, on-less, due, due-less, interrupts, interrupts-less, wrote, wrote-less, refused-write, refuses, waits, waits-less}
+use Rattle.firmware_run.proofs.advance.Statement.{statement}
+use Rattle.firmware_run.proofs.advance.Tie as tie
 
 abbrev Inv-loop : tie.InvT-loop
 Inv-loop table registers₀ ram₀ rom from to seen₀ k₀ c₀ i₀ clocked₀ request₀ registers ram seen k c i clocked request =
@@ -58,12 +58,13 @@ advance-spec =
     (λ c. wrote-less _ _ _ _ _ _ _ _ _ _ _ _ (c .before .before .before .before .before .before .before .before .before .before .before .before .before .before .before .before .before .before .before .before .before .before .loop .inv) (c .before .before .before .before .before .before .before .before .before .before .before .before .before .before .before .before .before .before .before .before .before .loop-test .taken) (c .before .before .before .before .before .before .before .before .before .before .before .before .before .before .before .before .before .before .before .before .if1 .taken) _ (c .before .before .before .before .before .before .before .before .before .before .before .before .before .before .before .before .before .before .before .before .before .before .before .before .before .before .pre .0) _ _ (c .before .before .before .before .before .before .before .before .before .before .before .before .before .before .before .before .before .turn-of .ensures .0) (c .before .before .before .before .before .before .before .before .before .before .before .before .before .before .before .before .before .turn-of .ensures .1) _ _ _ _ (c .before .before .before .before .before .before .before .before .before .before .before .before .before .before .before .t3 .given .1) _ _ _ (changed-other (c .before .before .before .before .before .before .before .before .before .before .before .before .before .before .before .before .before .before .before .before .before .before .loop .seen) _ _ _ _ _ (c .before .before .before .before .before .before .write-number .ensures) (eq-eqb _ _ (c .before .before .before .before .before .if4 .left)) (c .before .before .before .before .before .before .before .before .before .before .before .before .before .before .before .before .before .before .before .before .before .before .loop .inv .high) (c .before .before .before .before .before .before .before .before .before .before .before .before .before .before .before .before .before .before .before .before .before .before .loop .inv .size) (c .before .before .before .before .before .before .before .before .before .before .before .before .before .before .before .before .before .before .before .before .before .before .loop .inv .knows) _ _ _ (c .before .before .write-register .ensures .0) (c .before .before .write-register .ensures .1) (c .before .before .write-register .ensures .2)) _ _ (c .before .before .before .before .before .before .before .before .before .before .before .before .set-over .ensures) _ (c .before .before .before .before .before .before .before .before .before .before .before .are-few .ensures) _ (c .before .before .before .before .before .before .before .before .before .before .number-after .ensures))
     (λ c. wrote _ _ _ _ _ _ _ _ _ _ _ _ (c .before .before .before .before .before .before .before .before .before .before .before .before .before .before .before .before .before .before .before .before .before .before .loop .inv) (c .before .before .before .before .before .before .before .before .before .before .before .before .before .before .before .before .before .before .before .before .before .loop-test .taken) (c .before .before .before .before .before .before .before .before .before .before .before .before .before .before .before .before .before .before .before .before .if1 .taken) _ (c .before .before .before .before .before .before .before .before .before .before .before .before .before .before .before .before .before .before .before .before .before .before .before .before .before .before .pre .0) _ _ (c .before .before .before .before .before .before .before .before .before .before .before .before .before .before .before .before .before .turn-of .ensures .0) (c .before .before .before .before .before .before .before .before .before .before .before .before .before .before .before .before .before .turn-of .ensures .1) _ _ _ _ (c .before .before .before .before .before .before .before .before .before .before .before .before .before .before .before .t3 .given .1) _ _ _ (changed-other (c .before .before .before .before .before .before .before .before .before .before .before .before .before .before .before .before .before .before .before .before .before .before .loop .seen) _ _ _ _ _ (c .before .before .before .before .before .before .write-number .ensures) (eq-eqb _ _ (c .before .before .before .before .before .if4 .left)) (c .before .before .before .before .before .before .before .before .before .before .before .before .before .before .before .before .before .before .before .before .before .before .loop .inv .high) (c .before .before .before .before .before .before .before .before .before .before .before .before .before .before .before .before .before .before .before .before .before .before .loop .inv .size) (c .before .before .before .before .before .before .before .before .before .before .before .before .before .before .before .before .before .before .before .before .before .before .loop .inv .knows) _ _ _ (c .before .before .write-register .ensures .0) (c .before .before .write-register .ensures .1) (c .before .before .write-register .ensures .2)) _ (c .before .before .before .before .before .before .before .before .before .before .before .before .before .cycles .ensures) _ (c .before .before .before .before .before .before .before .before .before .before .before .before .set-over .ensures) _ (c .before .before .before .before .before .before .before .before .before .before .before .are-few .ensures) _ (c .before .before .before .before .before .before .before .before .before .before .number-after .ensures) _ (c .is-requesting3 .ensures))
     (λ c. search needs)
-    (λ c. (refuses _ _ _ _ _ _ _ _ _ _ _ _ (c .before .before .before .before .before .before .before .before .before .loop .inv) (c .before .before .before .before .before .before .before .before .loop-test .taken) (c .before .before .before .before .before .before .before .if1 .taken) _ (c .before .before .before .before .before .before .before .before .before .before .before .before .before .pre .0) _ _ (c .before .before .before .before .turn-of .ensures .0) (c .before .before .before .before .turn-of .ensures .1) _ (c .before .before .t4 .given .1) (c .if5 .taken), c .before .before .before .before .before .before .before .before .before .loop .inv .knows, c .before .before .before .before .before .before .before .before .before .loop .inv .size))
+    (λ c. (refuses _ _ _ _ _ _ _ _ _ _ _ _ (c .before .before .before .before .before .before .before .before .loop .inv) (c .before .before .before .before .before .before .before .loop-test .taken) (c .before .before .before .before .before .before .if1 .taken) _ (c .before .before .before .before .before .before .before .before .before .before .before .before .pre .0) _ _ (c .before .before .before .turn-of .ensures .0) (c .before .before .before .turn-of .ensures .1) _ (c .before .t4 .given .1), c .before .before .before .before .before .before .before .before .loop .inv .knows, c .before .before .before .before .before .before .before .before .loop .inv .size))
+    (λ c. search needs)
     (λ c κs. search needs)
     (λ c κs. search needs)
     (λ c κs. search needs)
-    (λ c. waits-less _ _ _ _ _ _ _ _ _ _ _ _ (c .before .before .before .before .before .before .before .before .before .before .before .before .before .before .loop .inv) (c .before .before .before .before .before .before .before .before .before .before .before .before .before .loop-test .taken) (c .before .before .before .before .before .before .before .before .before .before .before .before .if1 .taken) _ (c .before .before .before .before .before .before .before .before .before .before .before .before .before .before .before .before .before .before .pre .0) _ _ (c .before .before .before .before .before .before .before .before .before .turn-of .ensures .0) (c .before .before .before .before .before .before .before .before .before .turn-of .ensures .1) _ (c .before .before .before .before .before .before .before .t4 .given .1) (c .before .before .before .before .before .if5 .left) _ (c .before .before .before .read-register .ensures) _ (c .before .known-reading .ensures) _ (c .note .ensures))
-    (λ c. waits _ _ _ _ _ _ _ _ _ _ _ _ (c .before .before .before .before .before .before .before .before .before .before .before .before .before .before .loop .inv) (c .before .before .before .before .before .before .before .before .before .before .before .before .before .loop-test .taken) (c .before .before .before .before .before .before .before .before .before .before .before .before .if1 .taken) _ (c .before .before .before .before .before .before .before .before .before .before .before .before .before .before .before .before .before .before .pre .0) _ _ (c .before .before .before .before .before .before .before .before .before .turn-of .ensures .0) (c .before .before .before .before .before .before .before .before .before .turn-of .ensures .1) _ (c .before .before .before .before .before .before .before .t4 .given .1) (c .before .before .before .before .before .if5 .left) _ (c .before .before .before .read-register .ensures) _ (c .before .known-reading .ensures) _ (c .note .ensures))
+    (λ c. waits-less _ _ _ _ _ _ _ _ _ _ _ _ (c .before .before .before .before .before .before .before .before .before .before .before .before .before .loop .inv) (c .before .before .before .before .before .before .before .before .before .before .before .before .loop-test .taken) (c .before .before .before .before .before .before .before .before .before .before .before .if1 .taken) _ (c .before .before .before .before .before .before .before .before .before .before .before .before .before .before .before .before .before .pre .0) _ _ (c .before .before .before .before .before .before .before .before .turn-of .ensures .0) (c .before .before .before .before .before .before .before .before .turn-of .ensures .1) _ (c .before .before .before .before .before .before .t5 .given .1) _ (c .before .before .before .read-register .ensures) _ (c .before .known-reading .ensures) _ (c .note .ensures))
+    (λ c. waits _ _ _ _ _ _ _ _ _ _ _ _ (c .before .before .before .before .before .before .before .before .before .before .before .before .before .loop .inv) (c .before .before .before .before .before .before .before .before .before .before .before .before .loop-test .taken) (c .before .before .before .before .before .before .before .before .before .before .before .if1 .taken) _ (c .before .before .before .before .before .before .before .before .before .before .before .before .before .before .before .before .before .pre .0) _ _ (c .before .before .before .before .before .before .before .before .turn-of .ensures .0) (c .before .before .before .before .before .before .before .before .turn-of .ensures .1) _ (c .before .before .before .before .before .before .t5 .given .1) _ (c .before .before .before .read-register .ensures) _ (c .before .known-reading .ensures) _ (c .note .ensures))
     (λ c κs. search needs)
     (λ c κs. search needs)
     (λ c κs. search needs)

@@ -1,8 +1,8 @@
 use borrow.Author.Tests.{lt-ltb, le-ltb, eq-eqb, ne-eqb}
 use Rattle.cpu_register_cache.specs.Cache.{coreAfterCycles}
 use borrow.Author.Needs.{needs}
-use Rattle.cpu_run.proofs.core_after_cycles.Statement.{statement}
-use Rattle.cpu_run.proofs.core_after_cycles.Tie as tie
+use Rattle.firmware_run.proofs.core_after_cycles.Statement.{statement}
+use Rattle.firmware_run.proofs.core_after_cycles.Tie as tie
 
 pub core-after-cycles-spec : {M : Type 1} → statement M
 unfolding coreAfterCycles

@@ -1,7 +1,7 @@
 use mathlib.Core.Path.{sym}
 use Rattle.firmware_machine.proofs.Turns.{runs-low}
-use Rattle.cpu_run.proofs.proceed.Statement.{statement}
-use Rattle.cpu_run.proofs.proceed.Tie as tie
+use Rattle.firmware_run.proofs.proceed.Statement.{statement}
+use Rattle.firmware_run.proofs.proceed.Tie as tie
 
 pub proceed-spec : {M : Type 1} → statement M
 proceed-spec =
