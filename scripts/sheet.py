@@ -49,7 +49,7 @@ def edits():
     """the labelled edits, as crate/label"""
     labels = set()
     for path in CRATES.glob("*/must-fail/*.edit"):
-        headers = re.findall(r"^# (?:[a-z0-9_]+(?: of [a-z0-9_]+)?|[A-Z]\w*\.[^ .:]+)( \([a-z0-9_]+\))?: ", path.read_text(), re.M)
+        headers = re.findall(r"^# (?:[a-z0-9_]+(?:/[a-z0-9-]+)?(?: of [a-z0-9_]+)?|[A-Z]\w*\.[^ .:]+)( \([a-z0-9_]+\))?: ", path.read_text(), re.M)
         names = [h[2:-1] for h in headers if h] if headers else [path.stem]
         labels |= {f"{path.parts[1]}/{name}" for name in names}
     return labels

@@ -26,7 +26,7 @@ OWN = KIT / "on" / os.uname().machine
 WORDS = 30000
 # what a driver reads of standard input at once
 BUFFER = 65536
-HEADER = re.compile(r"# ([a-z0-9_]+|[A-Z]\w*\.[^ .:]+)(?: of ([a-z0-9_]+))?(?: \(([a-z0-9_]+)\))?: (.*)")
+HEADER = re.compile(r"# ([a-z0-9_]+|[A-Z]\w*\.[^ .:]+)(?:/[a-z0-9-]+)?(?: of ([a-z0-9_]+))?(?: \(([a-z0-9_]+)\))?: (.*)")
 
 
 def dependencies(path):

@@ -8,8 +8,7 @@ use Rattle.answer_text.proofs.answer_end.Tie as tie
 pub answer-end-spec : {M : Type 1} → statement M
 unfolding ended
 answer-end-spec =
-    tie.close
-    (tie.spec
+    let closed = tie.spec
     (λ c. search needs)
     (λ c. search needs)
     (λ c. search needs)
@@ -29,4 +28,5 @@ answer-end-spec =
     (λ c. simp (c .requests-end .ensures, c .before .before .a2 .given .1))
     (λ c. simp (c .enum-told5 .given .1))
     (λ c. simp (c .before .a3 .given .1))
-    (λ c. simp (c .before .a4 .given .1)))
+    (λ c. simp (c .before .a4 .given .1)) in
+    tie.close closed

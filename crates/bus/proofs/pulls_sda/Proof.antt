@@ -8,8 +8,7 @@ use Rattle.bus.proofs.pulls_sda.Tie as tie
 pub pulls-sda-spec : {M : Type 1} → statement M
 unfolding pullsSda
 pulls-sda-spec =
-    tie.close
-    (tie.spec
+    let closed = tie.spec
     (λ c. search needs)
     (λ c. search needs)
     (λ c. search needs)
@@ -24,4 +23,5 @@ pulls-sda-spec =
     (λ c. simp (c .enum-told3 .given .1))
     (λ c. simp (c .before .phase2 .given .1))
     (λ c. simp (c .pulls-at-bit .ensures, c .before .before .phase3 .given .1))
-    (λ c. simp (c .enum-told4 .given .1)))
+    (λ c. simp (c .enum-told4 .given .1)) in
+    tie.close closed

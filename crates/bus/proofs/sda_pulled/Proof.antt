@@ -9,8 +9,7 @@ use Rattle.bus.proofs.sda_pulled.Tie as tie
 pub sda-pulled-spec : {M : Type 1} → statement M
 unfolding mode sdaPulled
 sda-pulled-spec =
-    tie.close
-    (tie.spec
+    let closed = tie.spec
     (λ c. search needs)
     (λ c. search needs)
     (λ c κs. search needs)
@@ -18,4 +17,5 @@ sda-pulled-spec =
     (λ c κs. search needs)
     (λ c. simp (c .enum-told .given .1))
     (λ c. simp (c .bit .ensures, c .before .enum-told2 .given .1))
-    (λ c. simp (c .pulls-sda .ensures, c .before .enum-told3 .given .1)))
+    (λ c. simp (c .pulls-sda .ensures, c .before .enum-told3 .given .1)) in
+    tie.close closed

@@ -8,7 +8,7 @@ use Rattle.bus_ddc2b.proofs.compared.Tie as tie
 pub compared-spec : {M : Type 1} → statement M
 unfolding compared
 compared-spec =
-    tie.close
-    (tie.spec
+    let closed = tie.spec
     (λ c κs. search needs)
-    (λ c. simp (c .comparison .ensures)))
+    (λ c. simp (c .comparison .ensures)) in
+    tie.close closed

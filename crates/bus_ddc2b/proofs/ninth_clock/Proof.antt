@@ -6,8 +6,8 @@ use Rattle.bus_ddc2b.proofs.ninth_clock.Tie as tie
 
 pub ninth-clock-spec : {M : Type 1} → statement M
 ninth-clock-spec =
-    tie.close
-    (tie.spec
+    let closed = tie.spec
     (λ c κs. search needs)
     (λ c. simp (← (c .before .acknowledges .ensures), c .if1 .taken))
-    (λ c. simp (← (c .before .acknowledges .ensures), c .if1 .left)))
+    (λ c. simp (← (c .before .acknowledges .ensures), c .if1 .left)) in
+    tie.close closed

@@ -8,8 +8,7 @@ use Rattle.bus_ddc2b.proofs.phase_at_period.Tie as tie
 pub phase-at-period-spec : {M : Type 1} → statement M
 unfolding phaseAtPeriod
 phase-at-period-spec =
-    tie.close
-    (tie.spec
+    let closed = tie.spec
     (λ c. search needs)
     (λ c. search needs)
     (λ c. search needs)
@@ -24,4 +23,5 @@ phase-at-period-spec =
     (λ c. simp (c .enum-told4 .given .1))
     (λ c. simp (c .enum-told5 .given .1))
     (λ c. simp (c .enum-told6 .given .1))
-    (λ c. simp (c .held-longer .ensures, c .before .before .phase .given .1)))
+    (λ c. simp (c .held-longer .ensures, c .before .before .phase .given .1)) in
+    tie.close closed

@@ -8,8 +8,8 @@ use Rattle.chip.proofs.fresh.Tie as tie
 pub fresh-spec : {M : Type 1} → statement M
 unfolding fresh
 fresh-spec =
-    tie.close
-    (tie.spec
+    let closed = tie.spec
     (λ c κs. search needs)
     (λ c κs. search needs)
-    (λ c. simp (c .reset-at .ensures, c .before .resets .ensures)))
+    (λ c. simp (c .reset-at .ensures, c .before .resets .ensures)) in
+    tie.close closed

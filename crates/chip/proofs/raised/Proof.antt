@@ -6,7 +6,7 @@ use Rattle.chip.proofs.raised.Tie as tie
 
 pub raised-spec : {M : Type 1} → statement M
 raised-spec =
-    tie.close
-    (tie.spec
+    let closed = tie.spec
     (λ c κs. search needs)
-    (λ c. simp (c .with-irqx .ensures)))
+    (λ c. simp (c .with-irqx .ensures)) in
+    tie.close closed

@@ -6,9 +6,9 @@ use Rattle.chip.proofs.requests.Tie as tie
 
 pub requests-spec : {M : Type 1} → statement M
 requests-spec =
-    tie.close
-    (tie.spec
+    let closed = tie.spec
     (λ c. search needs)
     (λ c κs. search needs)
     (λ c κs. search needs)
-    (λ c. simp (c .requested .ensures, c .before .register-at .ensures)))
+    (λ c. simp (c .requested .ensures, c .before .register-at .ensures)) in
+    tie.close closed

@@ -8,7 +8,7 @@ use Rattle.chip.proofs.reset_core.Tie as tie
 pub reset-core-spec : {M : Type 1} → statement M
 unfolding resetCore
 reset-core-spec =
-    tie.close
-    (tie.spec
+    let closed = tie.spec
     (λ c κs. search needs)
-    (λ c. simp (c .reset-at .ensures)))
+    (λ c. simp (c .reset-at .ensures)) in
+    tie.close closed

@@ -9,10 +9,10 @@ use Rattle.chip_edges.proofs.scl_fall.Tie as tie
 pub scl-fall-spec : {M : Type 1} → statement M
 unfolding sclFall atFall
 scl-fall-spec =
-    tie.close
-    (tie.spec
+    let closed = tie.spec
     (λ c κs. search needs)
     (λ c κs. search needs)
     (λ c κs. search needs)
     (λ c κs. search needs)
-    (λ c. simp (c .with-bus .ensures, c .before .with-phase .ensures, c .before .before .raised .ensures, c .before .before .before .at-fall .ensures)))
+    (λ c. simp (c .with-bus .ensures, c .before .with-phase .ensures, c .before .before .raised .ensures, c .before .before .before .at-fall .ensures)) in
+    tie.close closed

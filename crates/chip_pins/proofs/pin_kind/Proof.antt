@@ -9,8 +9,7 @@ use Rattle.chip_pins.proofs.pin_kind.Tie as tie
 pub pin-kind-spec : {M : Type 1} → statement M
 unfolding pinKind
 pin-kind-spec =
-    tie.close
-    (tie.spec
+    let closed = tie.spec
     (λ c κs. search needs)
     (λ c. simp (c .match .keys1))
     (λ c. simp (c .match .keys2))
@@ -18,4 +17,5 @@ pin-kind-spec =
     (λ c. simp (c .match .keys4))
     (λ c. simp (c .match .keys5))
     (λ c. simp (c .match .keys6))
-    (λ c. simp (c .port-kind .ensures, ne-eqb _ _ (c .before .match .rest .1), ne-eqb _ _ (c .before .match .rest .0 .1), ne-eqb _ _ (c .before .match .rest .0 .0 .1), ne-eqb _ _ (c .before .match .rest .0 .0 .0 .1), ne-eqb _ _ (c .before .match .rest .0 .0 .0 .0 .1), ne-eqb _ _ (c .before .match .rest .0 .0 .0 .0 .0 .1))))
+    (λ c. simp (c .port-kind .ensures, ne-eqb _ _ (c .before .match .rest .1), ne-eqb _ _ (c .before .match .rest .0 .1), ne-eqb _ _ (c .before .match .rest .0 .0 .1), ne-eqb _ _ (c .before .match .rest .0 .0 .0 .1), ne-eqb _ _ (c .before .match .rest .0 .0 .0 .0 .1), ne-eqb _ _ (c .before .match .rest .0 .0 .0 .0 .0 .1))) in
+    tie.close closed

@@ -8,11 +8,11 @@ use Rattle.chip_reads.proofs.port1.Tie as tie
 pub port1-spec : {M : Type 1} → statement M
 unfolding port1
 port1-spec =
-    tie.close
-    (tie.spec
+    let closed = tie.spec
     (λ c κs. search needs)
     (λ c κs. search needs)
     (λ c κs. search needs)
     (λ c κs. search needs)
     (λ c κs. search needs)
-    (λ c. simp (c .port-read .ensures, c .before .given1 .ensures, c .before .before .register-at3 .ensures, c .before .before .before .before .register-at2 .ensures, c .before .before .before .before .before .before .register-at .ensures)))
+    (λ c. simp (c .port-read .ensures, c .before .given1 .ensures, c .before .before .register-at3 .ensures, c .before .before .before .before .register-at2 .ensures, c .before .before .before .before .before .before .register-at .ensures)) in
+    tie.close closed

@@ -9,8 +9,7 @@ use Rattle.chip_reads.proofs.read_register.Tie as tie
 pub read-register-spec : {M : Type 1} → statement M
 unfolding reading
 read-register-spec =
-    tie.close
-    (tie.spec
+    let closed = tie.spec
     (λ c κs. search needs)
     (λ c κs. search needs)
     (λ c κs. search needs)
@@ -18,4 +17,5 @@ read-register-spec =
     (λ c κs. search needs)
     (λ c. simp (c .reading-of .ensures, c .before .before .shown .ensures, ← (row-read _ (c .before .before .before .before .row-of .ensures)), ← (row-readable _ (c .before .before .before .before .row-of .ensures)), c .before .before .before .if2 .taken, c .before .before .before .before .before .if1 .taken))
     (λ c. simp (c .reading-of2 .ensures, ← (row-readable _ (c .before .before .row-of .ensures)), c .before .if2 .left, c .before .before .before .if1 .taken))
-    (λ c. simp (c .reading-of3 .ensures, c .before .if1 .left)))
+    (λ c. simp (c .reading-of3 .ensures, c .before .if1 .left)) in
+    tie.close closed

@@ -8,8 +8,7 @@ use Rattle.chip_well_formed.proofs.phase_fits.Tie as tie
 pub phase-fits-spec : {M : Type 1} → statement M
 unfolding phaseFits
 phase-fits-spec =
-    tie.close
-    (tie.spec
+    let closed = tie.spec
     (λ c. search needs)
     (λ c. search needs)
     (λ c κs. search needs)
@@ -26,4 +25,5 @@ phase-fits-spec =
     (λ c. simp (c .enum-told2 .given .1))
     (λ c. simp (c .gathered-fits3 .ensures, c .before .before .phase3 .given .1))
     (λ c. simp (c .before .phase4 .given .1))
-    (λ c. simp (c .enum-told3 .given .1)))
+    (λ c. simp (c .enum-told3 .given .1)) in
+    tie.close closed

@@ -8,8 +8,7 @@ use Rattle.chip_writes.proofs.written_to.Tie as tie
 pub written-to-spec : {M : Type 1} → statement M
 unfolding writtenTo
 written-to-spec =
-    tie.close
-    (tie.spec
+    let closed = tie.spec
     (λ c. search needs)
     (λ c. search needs)
     (λ c κs. search needs)
@@ -35,4 +34,5 @@ written-to-spec =
     (λ c. simp (c .iiadr-written .ensures, c .before .enum-told6 .given .1))
     (λ c. simp (c .iidat-written .ensures, c .before .enum-told7 .given .1))
     (λ c. simp (c .iists-written .ensures, c .before .enum-told8 .given .1))
-    (λ c. simp (c .bt-written .ensures, c .before .enum-told9 .given .1)))
+    (λ c. simp (c .bt-written .ensures, c .before .enum-told9 .given .1)) in
+    tie.close closed

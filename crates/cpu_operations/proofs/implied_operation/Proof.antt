@@ -6,8 +6,7 @@ use Rattle.cpu_operations.proofs.implied_operation.Tie as tie
 pub implied-operation-spec : {M : Type 1} → statement M
 unfolding impliedOperation
 implied-operation-spec =
-    tie.close
-    (tie.spec
+    let closed = tie.spec
     (λ c. search needs)
     (λ c κs. search needs)
     (λ c κs. search needs)
@@ -80,4 +79,5 @@ implied-operation-spec =
     (λ c. simp (c .set-x3 .ensures, c .before .nz6 .ensures, c .before .before .one-more .ensures, c .before .before .before .enum-told15 .given .1))
     (λ c. simp (c .set-y2 .ensures, c .before .nz7 .ensures, c .before .before .one-more2 .ensures, c .before .before .before .enum-told16 .given .1))
     (λ c. simp (c .set-x4 .ensures, c .before .nz8 .ensures, c .before .before .one-less .ensures, c .before .before .before .enum-told17 .given .1))
-    (λ c. simp (c .set-y3 .ensures, c .before .nz9 .ensures, c .before .before .one-less2 .ensures, c .before .before .before .enum-told18 .given .1)))
+    (λ c. simp (c .set-y3 .ensures, c .before .nz9 .ensures, c .before .before .one-less2 .ensures, c .before .before .before .enum-told18 .given .1)) in
+    tie.close closed

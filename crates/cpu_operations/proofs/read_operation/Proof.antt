@@ -6,8 +6,7 @@ use Rattle.cpu_operations.proofs.read_operation.Tie as tie
 pub read-operation-spec : {M : Type 1} → statement M
 unfolding readOperation
 read-operation-spec =
-    tie.close
-    (tie.spec
+    let closed = tie.spec
     (λ c. search needs)
     (λ c κs. search needs)
     (λ c κs. search needs)
@@ -53,4 +52,5 @@ read-operation-spec =
     (λ c. simp (c .set-p .ensures, c .before .compared .ensures, c .before .before .enum-told9 .given .1))
     (λ c. simp (c .set-p2 .ensures, c .before .compared2 .ensures, c .before .before .enum-told10 .given .1))
     (λ c. simp (c .set-p3 .ensures, c .before .compared3 .ensures, c .before .before .enum-told11 .given .1))
-    (λ c. simp (c .set-p4 .ensures, c .before .tested .ensures, c .before .before .enum-told12 .given .1)))
+    (λ c. simp (c .set-p4 .ensures, c .before .tested .ensures, c .before .before .enum-told12 .given .1)) in
+    tie.close closed

@@ -10,10 +10,10 @@ use Rattle.edid_check.proofs.check.Tie as tie
 pub check-spec : {M : Type 1} → statement M
 unfolding verdict
 check-spec =
-    tie.close
-    (tie.spec
+    let closed = tie.spec
     (λ c κs. search needs)
     (λ c κs. search needs)
     (λ c. judged _ _ (simp (c .contents .ensures, ← (c .before .before .header-fits .ensures), c .before .if2 .taken, eq-eqb _ _ (c .before .before .before .if1 .taken))))
     (λ c. judged _ _ (simp (← (c .before .header-fits .ensures), c .if2 .left, eq-eqb _ _ (c .before .before .if1 .taken))))
-    (λ c. judged _ _ (simp (ne-eqb _ _ (c .if1 .left)))))
+    (λ c. judged _ _ (simp (ne-eqb _ _ (c .if1 .left)))) in
+    tie.close closed

@@ -9,8 +9,7 @@ use Rattle.edid_check.proofs.contents.Tie as tie
 pub contents-spec : {M : Type 1} → statement M
 unfolding contents
 contents-spec =
-    tie.close
-    (tie.spec
+    let closed = tie.spec
     (λ c κs. search needs)
     (λ c κs. search needs)
     (λ c. omega arith)
@@ -18,4 +17,5 @@ contents-spec =
     (λ c κs. search needs)
     (λ c. simp (c .input-verdict .ensures, ← (c .before .before .before .before .sum-fits .ensures), c .before .before .before .if2 .taken, ← (c .before .before .before .before .before .before .version-fits .ensures), c .before .before .before .before .before .if1 .taken))
     (λ c. simp (← (c .before .sum-fits .ensures), c .if2 .left, ← (c .before .before .before .version-fits .ensures), c .before .before .if1 .taken))
-    (λ c. simp (← (c .before .version-fits .ensures), c .if1 .left)))
+    (λ c. simp (← (c .before .version-fits .ensures), c .if1 .left)) in
+    tie.close closed

@@ -8,8 +8,8 @@ use Rattle.edid_check.proofs.input_by_3.Tie as tie
 pub input-by-3-spec : {M : Type 1} → statement M
 unfolding inputBy3
 input-by-3-spec =
-    tie.close
-    (tie.spec
+    let closed = tie.spec
     (λ c κs. search needs)
     (λ c. simp (← (c .before .digital-fits .ensures), c .if1 .taken))
-    (λ c. simp (← (c .before .digital-fits .ensures), c .if1 .left)))
+    (λ c. simp (← (c .before .digital-fits .ensures), c .if1 .left)) in
+    tie.close closed

@@ -9,9 +9,9 @@ use Rattle.edid_check.proofs.input_verdict.Tie as tie
 pub input-verdict-spec : {M : Type 1} → statement M
 unfolding inputVerdict
 input-verdict-spec =
-    tie.close
-    (tie.spec
+    let closed = tie.spec
     (λ c κs. search needs)
     (λ c κs. search needs)
     (λ c. simp (c .input-by-3 .ensures, eq-eqb _ _ (c .before .if1 .taken)))
-    (λ c. simp (c .input-by-4 .ensures, ne-eqb _ _ (c .before .if1 .left))))
+    (λ c. simp (c .input-by-4 .ensures, ne-eqb _ _ (c .before .if1 .left))) in
+    tie.close closed

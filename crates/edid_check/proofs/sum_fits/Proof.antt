@@ -7,4 +7,7 @@ use Rattle.edid_check.proofs.sum_fits.Tie as tie
 
 pub sum-fits-spec : {M : Type 1} → statement M
 unfolding sumFits
-sum-fits-spec = tie.close (tie.spec (λ c κs. search needs) (λ c. simp (c .sum .ensures)))
+sum-fits-spec =
+    let closed = tie.spec
+    (λ c κs. search needs) (λ c. simp (c .sum .ensures)) in
+    tie.close closed

@@ -8,8 +8,8 @@ use Rattle.event_text_read.proofs.is_line.Tie as tie
 pub is-line-spec : {M : Type 1} → statement M
 unfolding isLine
 is-line-spec =
-    tie.close
-    (tie.spec
+    let closed = tie.spec
     (λ c. search needs)
     (λ c κs. search needs)
-    (λ c. simp (c .bound-b .ensures)))
+    (λ c. simp (c .bound-b .ensures)) in
+    tie.close closed

@@ -9,8 +9,8 @@ use Rattle.event_text_read.proofs.taken.Tie as tie
 pub taken-spec : {M : Type 1} → statement M
 unfolding taken
 taken-spec =
-    tie.close
-    (tie.spec
+    let closed = tie.spec
     (λ c. simp (eq-eqb _ _ (c .if1 .taken)))
     (λ c κs. search needs)
-    (λ c. simp (c .take .ensures, ne-eqb _ _ (c .before .if1 .left))))
+    (λ c. simp (c .take .ensures, ne-eqb _ _ (c .before .if1 .left))) in
+    tie.close closed

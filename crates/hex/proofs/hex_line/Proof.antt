@@ -8,8 +8,7 @@ use Rattle.hex.proofs.hex_line.Tie as tie
 pub hex-line-spec : {M : Type 1} → statement M
 unfolding hexLine
 hex-line-spec =
-    tie.close
-    (tie.spec
+    let closed = tie.spec
     (λ c κs. search needs)
     (λ c κs. search needs)
     (λ c κs. search needs)
@@ -18,4 +17,5 @@ hex-line-spec =
     (λ c κs. search needs)
     (λ c κs. search needs)
     (λ c κs. search needs)
-    (λ c. simp (c .hex-digit8 .ensures, c .before .hex-digit7 .ensures, c .before .before .hex-digit6 .ensures, c .before .before .before .hex-digit5 .ensures, c .before .before .before .before .hex-digit4 .ensures, c .before .before .before .before .before .hex-digit3 .ensures, c .before .before .before .before .before .before .hex-digit2 .ensures, c .before .before .before .before .before .before .before .hex-digit .ensures)))
+    (λ c. simp (c .hex-digit8 .ensures, c .before .hex-digit7 .ensures, c .before .before .hex-digit6 .ensures, c .before .before .before .hex-digit5 .ensures, c .before .before .before .before .hex-digit4 .ensures, c .before .before .before .before .before .hex-digit3 .ensures, c .before .before .before .before .before .before .hex-digit2 .ensures, c .before .before .before .before .before .before .before .hex-digit .ensures)) in
+    tie.close closed

@@ -10,10 +10,10 @@ use Rattle.list_call.proofs.advance_all.Tie as tie
 
 pub advance-all-spec : {M : Type 1} → statement M
 advance-all-spec =
-    tie.close
-    (tie.spec
+    let closed = tie.spec
     (λ c κs. search needs)
     (λ c. simp (lt-ltb _ _ (c .if1 .taken)) (refl, refl))
     (λ c. search needs)
     (λ c. simp (le-ltb _ _ (c .before .before .before .before .if1 .left))
-    (ap (λ (s : Chip). runResult s 0) (c .before .before .run-all .ensures .0), c .before .before .run-all .ensures .1)))
+    (ap (λ (s : Chip). runResult s 0) (c .before .before .run-all .ensures .0), c .before .before .run-all .ensures .1)) in
+    tie.close closed

@@ -8,8 +8,7 @@ use Rattle.numbers6862.proofs.asked_for.Tie as tie
 pub asked-for-spec : {M : Type 1} → statement M
 unfolding asked call
 asked-for-spec =
-    tie.close
-    (tie.spec
+    let closed = tie.spec
     (λ c κs. tt)
     (λ c κs. tt)
     (λ c κs. tt)
@@ -23,4 +22,5 @@ asked-for-spec =
     (λ c. simp (c .with-bit3 .ensures, c .before .match .keys5))
     (λ c. simp (c .alone .ensures, c .before .match .keys6))
     (λ c. simp (c .alone2 .ensures, c .before .match .keys7))
-    (λ c. simp (ne-eqb _ _ (c .match .rest .1), ne-eqb _ _ (c .match .rest .0 .1), ne-eqb _ _ (c .match .rest .0 .0 .1), ne-eqb _ _ (c .match .rest .0 .0 .0 .1), ne-eqb _ _ (c .match .rest .0 .0 .0 .0 .1), ne-eqb _ _ (c .match .rest .0 .0 .0 .0 .0 .1), ne-eqb _ _ (c .match .rest .0 .0 .0 .0 .0 .0 .1))))
+    (λ c. simp (ne-eqb _ _ (c .match .rest .1), ne-eqb _ _ (c .match .rest .0 .1), ne-eqb _ _ (c .match .rest .0 .0 .1), ne-eqb _ _ (c .match .rest .0 .0 .0 .1), ne-eqb _ _ (c .match .rest .0 .0 .0 .0 .1), ne-eqb _ _ (c .match .rest .0 .0 .0 .0 .0 .1), ne-eqb _ _ (c .match .rest .0 .0 .0 .0 .0 .0 .1))) in
+    tie.close closed

@@ -8,8 +8,7 @@ use Rattle.numbers6862.proofs.given.Tie as tie
 pub given-spec : {M : Type 1} → statement M
 unfolding given
 given-spec =
-    tie.close
-    (tie.spec
+    let closed = tie.spec
     (λ c. search needs)
     (λ c κs. tt)
     (λ c. search needs)
@@ -19,4 +18,5 @@ given-spec =
     (λ c κs. tt)
     (λ c. simp (c .obeyed .ensures, c .before .before .wish .given .1))
     (λ c. simp (c .left .ensures, c .before .clocks .ensures, c .before .before .before .wish2 .given .1))
-    (λ c. simp (c .refused .ensures, c .before .before .wish3 .given .1)))
+    (λ c. simp (c .refused .ensures, c .before .before .wish3 .given .1)) in
+    tie.close closed

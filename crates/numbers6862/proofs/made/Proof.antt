@@ -8,11 +8,11 @@ use Rattle.numbers6862.proofs.made.Tie as tie
 pub made-spec : {M : Type 1} → statement M
 unfolding madeOf
 made-spec =
-    tie.close
-    (tie.spec
+    let closed = tie.spec
     (λ c. search needs)
     (λ c κs. tt)
     (λ c. search needs)
     (λ c κs. tt)
     (λ c. simp (c .left .ensures, c .before .before .start .given .1))
-    (λ c. simp (c .refused .ensures, c .before .enum-told .given .1)))
+    (λ c. simp (c .refused .ensures, c .before .enum-told .given .1)) in
+    tie.close closed

@@ -7,8 +7,7 @@ use Rattle.numbers6862.proofs.written.Tie as tie
 pub written-spec : {M : Type 1} → statement M
 unfolding numbersOf
 written-spec =
-    tie.close
-    (tie.spec
+    let closed = tie.spec
     (λ c κs. tt)
     (λ c κs. tt)
     (λ c κs. tt)
@@ -16,4 +15,5 @@ written-spec =
     (λ c κs. tt)
     (λ c κs. tt)
     (λ c κs. tt)
-    (λ c. simp (c .enhsel-number .ensures, c .before .number-of5 .ensures, c .before .before .number-of4 .ensures, c .before .before .before .number-of3 .ensures, c .before .before .before .before .number-of2 .ensures, c .before .before .before .before .before .number-of .ensures, c .before .before .before .before .before .before .chip-number .ensures)))
+    (λ c. simp (c .enhsel-number .ensures, c .before .number-of5 .ensures, c .before .before .number-of4 .ensures, c .before .before .before .number-of3 .ensures, c .before .before .before .before .number-of2 .ensures, c .before .before .before .before .before .number-of .ensures, c .before .before .before .before .before .before .chip-number .ensures)) in
+    tie.close closed

@@ -9,11 +9,11 @@ use Rattle.plain_bus.proofs.is_rise.Tie as tie
 pub is-rise-spec : {M : Type 1} → statement M
 unfolding riseAt
 is-rise-spec =
-    tie.close
-    (tie.spec
+    let closed = tie.spec
     (λ c. search needs)
     (λ c. search needs)
     (λ c κs. search needs)
     (λ c. simp (c .level-before .ensures, eq-eqb _ _ (c .before .if2 .taken), eq-eqb _ _ (c .before .before .if1 .taken)))
     (λ c. simp (ne-eqb _ _ (c .if2 .left), eq-eqb _ _ (c .before .if1 .taken)))
-    (λ c. simp (ne-eqb _ _ (c .if1 .left))))
+    (λ c. simp (ne-eqb _ _ (c .if1 .left))) in
+    tie.close closed

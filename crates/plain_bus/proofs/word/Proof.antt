@@ -6,11 +6,11 @@ use Rattle.plain_bus.proofs.word.Tie as tie
 
 pub word-spec : {M : Type 1} → statement M
 word-spec =
-    tie.close
-    (tie.spec
+    let closed = tie.spec
     (λ c. search needs)
     (λ c κs. search needs)
     (λ c κs. search needs)
     (λ c. search needs)
     (λ c. search needs)
-    (λ c. simp (c .outcome-number .ensures, c .before .compared .ensures)))
+    (λ c. simp (c .outcome-number .ensures, c .before .compared .ensures)) in
+    tie.close closed

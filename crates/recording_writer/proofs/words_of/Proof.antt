@@ -5,11 +5,17 @@ use Rattle.recording_writer.proofs.Room.{too-few, enough}
 use Rattle.recording_writer.proofs.words_of.Statement.{statement}
 use Rattle.recording_writer.proofs.words_of.Tie as tie
 
+returns : tie.Need-returns
+returns c = too-few _ _ (c .if1 .taken)
+
+returns-2 : tie.Need-returns-2
+returns-2 c = enough _ _ _ (c .before .before .before .before .if1 .left) (c .before .before .take-words .ensures)
+
 pub words-of-spec : {M : Type 1} → statement M
 words-of-spec =
     tie.close
     (tie.spec
-    (λ c. too-few _ _ (c .if1 .taken))
+    returns
     (λ c κs. search needs)
     (λ c. search needs)
-    (λ c. enough _ _ _ (c .before .before .before .before .if1 .left) (c .before .before .take-words .ensures)))
+    returns-2)

@@ -14,8 +14,7 @@ blocks n = n / 126 + (n % 126 + 125) / 126
 
 pub write-blocks-spec : {M : Type 1} → statement M
 write-blocks-spec =
-    tie.close
-    (tie.spec
+    let closed = tie.spec
     (λ c. omega arith)
     (λ c. omega arith)
     (λ c. omega arith)
@@ -32,4 +31,5 @@ write-blocks-spec =
     (λ c. let start = c .before .before .before .before in
     gives-twelve (start .args .first) (start .args .words .now) (start .args .area .now) (blocks (length (start .args .words .now))) (omega arith) (c .if2 .left))
     (λ c. let start = c .before .before .before in
-    gives-twelve (start .args .first) (start .args .words .now) (start .args .area .now) (blocks (length (start .args .words .now))) (omega arith) (omega arith)))
+    gives-twelve (start .args .first) (start .args .words .now) (start .args .area .now) (blocks (length (start .args .words .now))) (omega arith) (omega arith)) in
+    tie.close closed

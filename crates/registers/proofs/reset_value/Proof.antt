@@ -8,7 +8,7 @@ use Rattle.registers.proofs.reset_value.Tie as tie
 pub reset-value-spec : {M : Type 1} → statement M
 unfolding resetValue
 reset-value-spec =
-    tie.close
-    (tie.spec
+    let closed = tie.spec
     (λ c κs. search needs)
-    (λ c. rw (c .row-of .ensures)))
+    (λ c. rw (c .row-of .ensures)) in
+    tie.close closed

@@ -6,8 +6,8 @@ use Rattle.registers.proofs.updated.Tie as tie
 
 pub updated-spec : {M : Type 1} → statement M
 updated-spec =
-    tie.close
-    (tie.spec
+    let closed = tie.spec
     (λ c κs. search needs)
     (λ c κs. search needs)
-    (λ c. simp (c .merge .ensures, c .before .write-mask .ensures)))
+    (λ c. simp (c .merge .ensures, c .before .write-mask .ensures)) in
+    tie.close closed

@@ -6,7 +6,7 @@ use Rattle.step.proofs.advance.Tie as tie
 
 pub advance-spec : {M : Type 1} → statement M
 advance-spec =
-    tie.close
-    (tie.spec
+    let closed = tie.spec
     (λ c κs. search needs)
-    (λ c. simp (c .before .advance-core .ensures .0, c .before .advance-core .ensures .1)))
+    (λ c. simp (c .before .advance-core .ensures .0, c .before .advance-core .ensures .1)) in
+    tie.close closed

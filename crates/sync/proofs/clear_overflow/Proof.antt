@@ -7,8 +7,8 @@ use Rattle.sync.proofs.clear_overflow.Tie as tie
 pub clear-overflow-spec : {M : Type 1} → statement M
 unfolding clearOverflow
 clear-overflow-spec =
-    tie.close
-    (tie.spec
+    let closed = tie.spec
     (λ c κs. search needs)
     (λ c κs. search needs)
-    (λ c. simp (c .clear-periods .ensures, c .before .clear-lines .ensures)))
+    (λ c. simp (c .clear-periods .ensures, c .before .clear-lines .ensures)) in
+    tie.close closed

@@ -7,7 +7,7 @@ use Rattle.sync.proofs.hsel_cleared.Tie as tie
 pub hsel-cleared-spec : {M : Type 1} → statement M
 unfolding hselCleared
 hsel-cleared-spec =
-    tie.close
-    (tie.spec
+    let closed = tie.spec
     (λ c κs. search needs)
-    (λ c. simp (c .zero-lines .ensures)))
+    (λ c. simp (c .zero-lines .ensures)) in
+    tie.close closed

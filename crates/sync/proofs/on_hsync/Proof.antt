@@ -7,7 +7,7 @@ use Rattle.sync.proofs.on_hsync.Tie as tie
 pub on-hsync-spec : {M : Type 1} → statement M
 unfolding onHsync
 on-hsync-spec =
-    tie.close
-    (tie.spec
+    let closed = tie.spec
     (λ c κs. search needs)
-    (λ c. simp (c .step-lines .ensures)))
+    (λ c. simp (c .step-lines .ensures)) in
+    tie.close closed

@@ -7,9 +7,9 @@ use Rattle.sync.proofs.on_period.Tie as tie
 pub on-period-spec : {M : Type 1} → statement M
 unfolding onPeriod
 on-period-spec =
-    tie.close
-    (tie.spec
+    let closed = tie.spec
     (λ c κs. search needs)
     (λ c κs. search needs)
     (λ c κs. search needs)
-    (λ c. simp (c .interval-next .ensures, c .before .step-periods .ensures, c .before .before .lines-on-period .ensures)))
+    (λ c. simp (c .interval-next .ensures, c .before .step-periods .ensures, c .before .before .lines-on-period .ensures)) in
+    tie.close closed

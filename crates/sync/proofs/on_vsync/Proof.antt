@@ -7,8 +7,8 @@ use Rattle.sync.proofs.on_vsync.Tie as tie
 pub on-vsync-spec : {M : Type 1} → statement M
 unfolding onVsync
 on-vsync-spec =
-    tie.close
-    (tie.spec
+    let closed = tie.spec
     (λ c κs. search needs)
     (λ c κs. search needs)
-    (λ c. simp (c .latch-periods .ensures, c .before .lines-on-vsync .ensures)))
+    (λ c. simp (c .latch-periods .ensures, c .before .lines-on-vsync .ensures)) in
+    tie.close closed

@@ -10,11 +10,11 @@ use Rattle.vcd_capi.proofs.nt6861_vcd.Tie as tie
 pub nt6861-vcd-spec : {M : Type 1} → statement M
 unfolding vcdOf
 nt6861-vcd-spec =
-    tie.close
-    (tie.spec
+    let closed = tie.spec
     (λ c κs. search needs)
     (λ c κs. search needs)
     (λ c. search needs)
     (λ c. search needs)
     (λ c. rw (c .before .before .tell .ensures) (simp (eq-eqb _ _ (c .before .before .before .before .before .before .before .before .if1 .taken)) (rw (← (c .before .before .before .before .before .before .read .ensures)) refl)))
-    (λ c. simp (ne-eqb _ _ (c .if1 .left))))
+    (λ c. simp (ne-eqb _ _ (c .if1 .left))) in
+    tie.close closed
