@@ -7,8 +7,8 @@ use Rattle.sync6862.proofs.latches.Tie as tie
 pub latches-spec : {M : Type 1} → statement M
 unfolding latches
 latches-spec =
-    tie.close
-    (tie.spec
+    let closed = tie.spec
     (λ c κs. tt)
     (λ c. simp (← (c .before .before .before .well-formed .ensures), c .before .before .if1 .taken))
-    (λ c. simp (← (c .before .well-formed .ensures), c .if1 .left)))
+    (λ c. simp (← (c .before .well-formed .ensures), c .if1 .left)) in
+    tie.close closed

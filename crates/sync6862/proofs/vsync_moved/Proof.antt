@@ -7,8 +7,8 @@ use Rattle.sync6862.proofs.vsync_moved.Tie as tie
 pub vsync-moved-spec : {M : Type 1} → statement M
 unfolding vsyncMoved
 vsync-moved-spec =
-    tie.close
-    (tie.spec
+    let closed = tie.spec
     (λ c κs. tt)
     (λ c κs. tt)
-    (λ c. simp (c .on-vsync .ensures, c .before .per-field .ensures)))
+    (λ c. simp (c .on-vsync .ensures, c .before .per-field .ensures)) in
+    tie.close closed

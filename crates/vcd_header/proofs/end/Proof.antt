@@ -5,6 +5,14 @@ use borrow.Author.Needs.{needs}
 use Rattle.vcd_header.proofs.end.Statement.{statement}
 use Rattle.vcd_header.proofs.end.Tie as tie
 
+returns : tie.Need-returns
+unfolding endAs
+returns c = simp (c .stop-at .ensures, c .before .enum-told .given .1)
+
+returns-4 : tie.Need-returns-4
+unfolding endAs
+returns-4 c = simp (c .stop-at2 .ensures, c .before .enum-told4 .given .1)
+
 pub end-spec : {M : Type 1} → statement M
 unfolding endAs
 end-spec =
@@ -38,10 +46,10 @@ end-spec =
     (λ c κs. search needs)
     (λ c. search needs)
     (λ c κs. search needs)
-    (λ c. simp (c .stop-at .ensures, c .before .enum-told .given .1))
+    returns
     (λ c. simp (c .faulty .ensures, c .before .enum-told2 .given .1))
     (λ c. simp (c .faulty2 .ensures, c .before .enum-told3 .given .1))
-    (λ c. simp (c .stop-at2 .ensures, c .before .enum-told4 .given .1))
+    returns-4
     (λ c. simp (c .faulty3 .ensures, c .before .enum-told5 .given .1))
     (λ c. simp (c .faulty4 .ensures, c .before .enum-told6 .given .1))
     (λ c. simp (c .faulty5 .ensures, c .before .enum-told7 .given .1))

@@ -6,7 +6,7 @@ use Rattle.vcd_header.proofs.fresh.Tie as tie
 
 pub fresh-spec : {M : Type 1} → statement M
 fresh-spec =
-    tie.close
-    (tie.spec
+    let closed = tie.spec
     (λ c κs. search needs)
-    (λ c. simp (c .variable-read .ensures)))
+    (λ c. simp (c .variable-read .ensures)) in
+    tie.close closed

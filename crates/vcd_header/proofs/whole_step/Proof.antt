@@ -9,8 +9,7 @@ use Rattle.vcd_header.proofs.whole_step.Tie as tie
 pub whole-step-spec : {M : Type 1} → statement M
 unfolding wholeStep
 whole-step-spec =
-    tie.close
-    (tie.spec
+    let closed = tie.spec
     (λ c κs. search needs)
     (λ c κs. search needs)
     (λ c. simp (c .with-variable .ensures, c .before .variable-read .ensures, eq-eqb _ _ (c .before .before .if1 .taken)))
@@ -18,4 +17,5 @@ whole-step-spec =
     (λ c κs. search needs)
     (λ c. simp (c .with-variable2 .ensures, c .before .variable-read2 .ensures, eq-eqb _ _ (c .before .before .if2 .taken), ne-eqb _ _ (c .before .before .before .before .if1 .left)))
     (λ c κs. search needs)
-    (λ c. simp (c .faulty .ensures, ne-eqb _ _ (c .before .if2 .left), ne-eqb _ _ (c .before .before .before .if1 .left))))
+    (λ c. simp (c .faulty .ensures, ne-eqb _ _ (c .before .if2 .left), ne-eqb _ _ (c .before .before .before .if1 .left))) in
+    tie.close closed
