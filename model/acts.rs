@@ -21,7 +21,7 @@
 //! show DACH0                a read of this register beside the run
 //! ```
 //!
-//! A time has a unit, s, ms, us or ns; a rate is in Hz, kHz or MHz, or given by its period. Bytes are two hex digits.
+//! A time has a unit, s, ms, us or ns; a rate is in Hz, kHz or MHz, or a period. Bytes are two hex digits.
 
 /// Picoseconds.
 pub type Time = u64;

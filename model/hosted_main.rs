@@ -1,5 +1,5 @@
 //! `./nt6861 firmware` with a host, labels or points to stop at: an image run from power up on the proved firmware call, beside a host that
-//! watches the proved lines of the bus. What the host did is told on standard output. At the end the whole run is made again by the
+//! watches the proved lines of the bus. What the host did is reported on standard output. At the end the whole run is made again by the
 //! proved call in one go, with the events that were given, and must answer and end alike.
 
 mod acts;
@@ -48,7 +48,7 @@ fn options(arguments: &[String]) -> Result<Options, Told> {
     let mut rest = Vec::new();
     let mut left = arguments.iter();
     while let Some(argument) = left.next() {
-        let mut value = || left.next().cloned().ok_or(misused(format!("nothing is given behind {argument}")));
+        let mut value = || left.next().cloned().ok_or(misused(format!("nothing follows {argument}")));
         match argument.as_str() {
             "--host" => options.host = Some(value()?),
             "--labels" => options.labels = Some(value()?),
