@@ -65,7 +65,7 @@ fn shown(chip: &Chip) -> [u16; 20] {
 /// The pin that a word gives a level, as the index of its variable, and the level.
 fn given(word: u32) -> Option<(usize, u32)> {
     let (kind, a, b) = (word >> 24, word >> 8 & 0xFFFF, word & 0xFF);
-    (kind == 3 && (24..28).contains(&a) && b < 2).then_some((a as usize - 24, b))
+    (kind == 3 && (24..28).contains(&a) && b < 2).then(|| (a as usize - 24, b))
 }
 
 fn change(out: &mut impl Write, value: u16, variable: usize) -> io::Result<()> {
