@@ -408,8 +408,8 @@ tried 2 '' "*error*nt6861 vcd: the program cannot be built; $tree/target/vcd.log
 # ---- a command whose crate is not listed is none
 tried 2 '' 'nt6861: no command why; the nearest is *; ./nt6861 -h lists the commands' "$tree/nt6861" why "$work/words"
 tried 2 '' 'nt6861: no command firmwre; the nearest is firmware; ./nt6861 -h lists the commands' "$tree/nt6861" firmwre
-# seven of them, and the three that run no program
-[ "$("$tree/nt6861" -h | grep -c '^  ')" = 10 ] || complain "./nt6861 -h lists other commands than those whose crates are there"
+# seven of them, and the four that run no program
+[ "$("$tree/nt6861" -h | grep -c "^  ")" = 11 ] || complain "./nt6861 -h lists other commands than those whose crates are there"
 
 [ "$repository" = "$PWD" ] && [ "$bad" = 0 ] && echo "made: $tried uses behave as said: sources by content, refusals, turns, signals, statuses, trees that cannot be written to, Rust programs"
 exit "$bad"
