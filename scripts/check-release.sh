@@ -55,7 +55,7 @@ import pathlib, re, sys
 folder = pathlib.Path(sys.argv[1])
 text, page = (folder / "release.md").read_text(), (folder / "release.html").read_text()
 for name in ["Demand 1", "Demand 2", "Demand 3", "P1 to P12", "The recall", *[f"Wish {n}" for n in range(1, 15)]]:
-    row = re.search(rf"^\| {name} \| (\w+\.antt: \S.*?) \| (\d+) \| (\d+) \| (\d+) \| (\d+) \|$", text, re.M)
+    row = re.search(rf"^\| {name} \| (\w+\.antt: \S.*?) \| (\d+)[^|]* \| (\d+)[^|]* \| (\d+)[^|]* \| (\d+)[^|]* \|$", text, re.M)
     if not row or row.group(2) == "0" or row.group(3) == "0":
         sys.exit(f"release: the sheet has no whole row for {name}")
     if f"<td>{name}</td>" not in page:

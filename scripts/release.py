@@ -129,7 +129,8 @@ def evidence(rows, files, refused):
     missing = [name for name in wrong if files.get(name) not in refused]
     if missing:
         raise Refused(f"the gate's log has no refusal of {missing[0]}")
-    return str(len(rows)), str(len(named(rows, "promise")) + len(named(rows, "theorem"))), str(len(wrong)), str(len(named(rows, "case")))
+    counts = len(rows), len(named(rows, "promise")) + len(named(rows, "theorem")), len(wrong), len(named(rows, "case"))
+    return tuple(str(count) if count else "0, for the reasons in the sheet" for count in counts)
 
 
 def promises(files, refused):
@@ -162,7 +163,7 @@ def compared(lines):
 
 def limits():
     parts = re.split(r"^## ", pathlib.Path("docs/LIMITS.md").read_text(), flags=re.M)[1:]
-    found = [(part.split("\n", 1)[0], re.findall(r"^- (.*)", part, re.M)) for part in parts]
+    found = [(part.split("\n", 1)[0], [" ".join(item.split()) for item in re.findall(r"^- (.*(?:\n  .*)*)", part, re.M)]) for part in parts]
     if len(found) < 3 or not all(items for _, items in found):
         raise Refused("docs/LIMITS.md has an empty list")
     return found
@@ -220,7 +221,7 @@ def markdown(parts):
 
 STYLE = """@page { size: A4; margin: 9mm } body { font: 6.6pt/1.22 sans-serif; margin: 0 } h1 { font-size: 11pt; margin: 0 0 2pt }
 h2 { font-size: 7.6pt; margin: 4pt 0 1pt } table { border-collapse: collapse; width: 100% } td, th { border: 0.3pt solid #999; padding: 0.4pt 2pt;
-text-align: left; vertical-align: top; overflow-wrap: anywhere } ul { margin: 0; padding-left: 9pt } tr { break-inside: avoid } .signed td { height: 20pt }"""
+text-align: left; vertical-align: top; overflow-wrap: anywhere } td:first-child, th { white-space: nowrap } ul { margin: 0; padding-left: 9pt } tr { break-inside: avoid } .signed td { height: 20pt }"""
 
 
 def page(parts):
