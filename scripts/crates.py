@@ -14,7 +14,7 @@ HEAD = """# The crates
 For whoever wants to know where a thing stands. `ls crates` shows the same: the first word of a crate's name is its subject, `_laws` is a
 crate of theorems without code, `_cases` one of computed runs, `_capi` a part of the C interface, and a program has the name of its
 command. Made by scripts/crates.py from crates.txt, from the first comment of each crate and from its files; the gate holds it. Lines
-are those that are not blank; seconds are those of a run of the gate, six checks at a time on two cores.
+are those that are not blank; seconds are by the clock, of a run of the gate, six checks at a time on two cores, with other work beside the first sixty.
 """
 
 
