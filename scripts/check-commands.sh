@@ -5,6 +5,11 @@
 # Usage: check-commands.sh [COMMAND ..]; without a name all commands are tried.
 set -euo pipefail
 cd "$(dirname "$0")/.."
+# what is built of Rust and of a proved library is there first, so that no command says that it builds it
+source scripts/library.sh
+front vcd vcd_capi
+front addresses addresses_capi
+front hosted firmware_capi chip_capi
 work=$(mktemp -d)
 trap 'rm -rf "$work"' EXIT
 bad=0
