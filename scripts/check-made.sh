@@ -275,10 +275,19 @@ rm -rf "$tree/target"
 mkdir "$tree/target"
 flock -F "$tree/target/turn" sleep 100 &
 holder=$!
-sleep 0.5
+while flock -n "$tree/target/turn" true; do sleep 0.1; done
+: > "$work/err"
+"$tree/nt6861" edid "$work/words" > "$work/out" 2> "$work/err" &
+waiting=$!
+for ((i = 0; i < 300; i++)); do
+    ! grep -q 'waits for another run' "$work/err" || break
+    sleep 0.2
+done
+grep -q 'waits for another run' "$work/err" && kill -0 "$waiting" || complain "one that waits for its turn: $(cat "$work/err")"
 status=0
-timeout 2 "$tree/nt6861" edid "$work/words" > "$work/out" 2> "$work/err" || status=$?
-[ "$status" = 124 ] && grep -q 'waits for another run' "$work/err" || complain "one that waits for its turn: status $status, $(cat "$work/err")"
+kill "$waiting"
+wait "$waiting" 2> /dev/null || status=$?
+[ "$status" = 143 ] || complain "one that waits for its turn and is ended: status $status"
 kill "$holder"
 wait "$holder" 2> /dev/null || true
 rm -f "$work/calls" "$work/busy"
