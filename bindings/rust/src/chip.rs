@@ -41,9 +41,13 @@ impl Default for Chip {
 /// The levels of the bus lines, and which of them the chip pulls.
 #[derive(Clone, Copy, Debug, PartialEq, Eq)]
 pub struct Lines {
+    /// the level of SDA
     pub sda: bool,
+    /// the level of SCL
     pub scl: bool,
+    /// the chip pulls SDA
     pub pulls_sda: bool,
+    /// the chip pulls SCL
     pub pulls_scl: bool,
 }
 
