@@ -1,1 +1,2 @@
 // What a case that passes says: laws alone.
+#![tactic(auto)]

@@ -1,6 +1,7 @@
 // Runs each case that an argument names from a fresh chip, and prints a line for each: that it passed, with the words given; or the first line
 // whose answer is not the expected one, with the event and both answers; or that it has no events. Last it prints how many passed and how
 // many did not. A malformed line, a case that cannot be read and output that cannot be written are told on standard error.
+#![tactic(auto)]
 use case_run::{Progress, Verdict};
 use libc::{STDERR_FILENO, STDOUT_FILENO};
 

@@ -1,1 +1,2 @@
 // What HCNT and VCNT have counted after a list of event words: statements and theorems, no code.
+#![tactic(auto)]

@@ -1,1 +1,2 @@
 // What a register write alters and what it leaves: statements and theorems, no code.
+#![tactic(auto)]

@@ -1,6 +1,7 @@
 // Runs the script on standard input on the counters of either chip. After each line it prints the number given back and the twelve numbers,
 // and behind those of `field` the report. A malformed line is told with its number, on standard error too, and ends the run. A read or a
 // write that fails ends it too, and is told on standard error.
+#![tactic(auto)]
 use counters6862_script::{Event, Progress};
 use libc::{STDERR_FILENO, STDIN_FILENO, STDOUT_FILENO};
 use rates::Rate;

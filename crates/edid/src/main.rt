@@ -1,5 +1,6 @@
 // Checks an EDID base block on standard input and writes a line with the verdict's number and name to standard output, for an
 // accepted block with its edition. Where reading or writing fails, standard error says why.
+#![tactic(auto)]
 use edid_check::{Edition, Verdict};
 use libc::{STDIN_FILENO, STDOUT_FILENO};
 

@@ -1,1 +1,2 @@
 // Events as text, both ways: laws alone.
+#![tactic(auto)]

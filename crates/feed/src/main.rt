@@ -1,6 +1,7 @@
 // Writes the event words that send the EDID base block on standard input through DDC1 to standard output, lowest byte first, as
 // `replay` reads them. Of a block that the check refuses nothing is written, and standard error has its number; where reading
 // or writing fails, standard error says why.
+#![tactic(auto)]
 use libc::{STDERR_FILENO, STDIN_FILENO, STDOUT_FILENO};
 
 // 21 words before the block and 20 for each of 128 bytes.

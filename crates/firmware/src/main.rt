@@ -1,6 +1,7 @@
 // Runs a firmware image from power up: firmware [-t] ROM COUNT [EVENTS]. It prints the answers of the events given and the registers at the
 // end, with -t a line for each event, interrupt and instruction (images/README.md). What cannot be run is told on standard error, and
 // nothing runs. A list is read twice, so that it may have any length: first every line is checked, then the events are given as they are read.
+#![tactic(auto)]
 ghost use Rattle.std.specs.Prelude.{◌<◌};
 
 use firmware_event_lines::Meaning;

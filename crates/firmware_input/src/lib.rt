@@ -1,5 +1,6 @@
 // What the program `firmware` is given: its arguments, the image, and the list of events, which is read in blocks. What is wrong is told on
 // standard error. No contract can say what is read.
+#![tactic(auto)]
 ghost use Rattle.std.specs.Prelude.{◌≡◌, length};
 
 use firmware_event_lines::{Meaning, Reader};

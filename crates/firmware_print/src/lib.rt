@@ -1,6 +1,7 @@
 // A firmware run with its lines on standard output: the answers of the events given and the registers at the end, or a line for each event,
 // interrupt and instruction (images/README.md). No contract can say what is written, nor whether that went well; what a line is comes from
 // `firmware_lines`.
+#![tactic(auto)]
 ghost use Rattle.std.specs.Prelude.{◌≡◌, false};
 ghost use Rattle.firmware_trace.specs.Trace.{goes_on, given_to};
 ghost use Rattle.firmware_print.specs.Marked.{marked};

@@ -1,4 +1,5 @@
 // A word as a line of text: hex digits and a newline (document 01, "Replay program and cases").
+#![tactic(auto)]
 ghost use Rattle.std.specs.Prelude.{◌≡◌, ◌<◌};
 ghost use Rattle.hex.specs.Hex.{hex_digit, hex_line};
 

@@ -1,4 +1,5 @@
 // Reading standard input in full blocks, with the end told from a failure.
+#![tactic(auto)]
 ghost use Rattle.io.specs.Counts.{IsPrefixLen};
 
 // The bytes read, and whether a read failed.

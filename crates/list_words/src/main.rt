@@ -1,5 +1,6 @@
 // Gives the words on standard input, lowest byte first, to a fresh chip, and writes a line for each to standard output: the word as text, `=>`,
 // and its answer, so that what is written is a case. Bytes left over, a read or a write that fails are told on standard error.
+#![tactic(auto)]
 ghost use Rattle.std.specs.Prelude.{◌≡◌, ◌+◌, ◌*◌, ◌/◌, ◌≤◌, length};
 
 use chip::Chip;

@@ -1,5 +1,6 @@
 // Writes the words on standard input, lowest byte first, to standard output as a recording: blocks of 126 words and one with the
 // rest. What goes wrong is told on standard error.
+#![tactic(auto)]
 ghost use Rattle.std.specs.Prelude.{◌≡◌, length};
 
 use libc::{STDERR_FILENO, STDIN_FILENO, STDOUT_FILENO};

@@ -1,5 +1,6 @@
 // Gives the recording on standard input to a fresh chip, and writes a line of eight hex digits for each answer to standard
 // output; where a bad block ends it, a last line with its number. What goes wrong is told on standard error.
+#![tactic(auto)]
 ghost use Rattle.std.specs.Prelude.{◌≡◌, ◌≤◌, length};
 
 use chip::Chip;

@@ -1,6 +1,7 @@
 // Gives the words on standard input, lowest byte first, to a fresh chip, and writes a line of eight hex digits for each
 // answer to standard output. Words are answered as they come: a read that brings less than the buffer holds is answered at
 // once. A read or a write that fails is told on standard error, and ends the program.
+#![tactic(auto)]
 ghost use Rattle.std.specs.Prelude.{◌≡◌, ◌≤◌, length};
 
 use chip::Chip;

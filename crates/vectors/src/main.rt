@@ -1,6 +1,7 @@
 // Runs each listing that an argument names from a fresh chip, and prints a line for each: how many words were answered as
 // expected, or where the first difference is, or which line is malformed, or that it has no words. A listing that cannot be read
 // and output that cannot be written are told on standard error.
+#![tactic(auto)]
 use libc::{STDERR_FILENO, STDOUT_FILENO};
 use listing::{Progress, Verdict};
 

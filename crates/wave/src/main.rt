@@ -1,6 +1,7 @@
 // Gives the words on standard input, lowest byte first, to a fresh chip, and writes the run to standard output as a value change dump. Bytes
 // left over at the end are reported on standard error, past a dump of the whole words. A read or a write that fails is reported there, and
 // ends the program.
+#![tactic(auto)]
 ghost use Rattle.std.specs.Prelude.{◌≡◌, length};
 
 use chip::Chip;

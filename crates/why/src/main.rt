@@ -1,5 +1,6 @@
 // Gives the words on standard input, lowest byte first, to a fresh chip, and then tells of each source why its request line is up: a line
 // for each of V, E, R, A, D and S. Bytes left over make no word. A read or a write that fails is told on standard error.
+#![tactic(auto)]
 ghost use Rattle.std.specs.Prelude.{◌≡◌, length};
 
 use bus::OwnAddress;

@@ -1,6 +1,7 @@
 // Writes the event words of a listing on standard input to standard output, lowest byte first: a line is an event by name or as eight digits,
 // behind `N *` where it is given N times; answers are passed over. The first line that is none is told on standard error, with the place of
 // its first bad token, and ends the program; the words before it are written. A read or a write that fails is told there too.
+#![tactic(auto)]
 use case_words::{Case, Found};
 use libc::{STDERR_FILENO, STDIN_FILENO, STDOUT_FILENO};
 use line_tokens::{Scanner, Token};
