@@ -70,8 +70,8 @@ for crate in bits hex $2; do
     [ -z "${HOOK:-}" ] || eval "$HOOK"
     case ${REFUSED:-} in
     "$crate")
-        echo "crates/hex/proofs/hex_line/Proof.antt:9:1: error: the goal does not follow"
-        echo "crates/hex/proofs/hex_line/Proof.antt:12:1: error: another"
+        echo "crates/hex_digits/proofs/hex_line/Proof.antt:9:1: error: the goal does not follow"
+        echo "crates/hex_digits/proofs/hex_line/Proof.antt:12:1: error: another"
         echo "rt: $crate NOT PROVED (exit 1, 3 s)"
         exit 1
         ;;
@@ -128,7 +128,7 @@ nt6861 replay: proving 3 of 3: replay' "$tree/nt6861" replay "$work/words"
 runs "a second run" env
 
 # ---- what is proved is known by content
-source=$tree/crates/hex/src/lib.rt
+source=$tree/crates/hex_digits/src/lib.rt
 touch "$source" "$tree/crates.txt"
 runs "a newer time" env
 cp -p "$source" "$work/kept"
@@ -136,10 +136,10 @@ echo "// changed" >> "$source"
 touch -d 2001-01-01 "$source"
 proves "a change with an old time"
 rm "$source"
-echo "// more" > "$tree/crates/hex/src/more.rt"
+echo "// more" > "$tree/crates/hex_digits/src/more.rt"
 proves "a source that is deleted"
 cp -p "$work/kept" "$source"
-rm "$tree/crates/hex/src/more.rt"
+rm "$tree/crates/hex_digits/src/more.rt"
 proves "a source that comes back"
 mkdir "$tree/crates/replay/data"
 echo x > "$tree/crates/replay/data/x"

@@ -6,7 +6,7 @@ ghost use Rattle.answer_text.specs.Answer.{weight_of, bare as bare_of, at_start,
 use line_tokens::Token;
 
 // What the tokens of an answer so far are; a bad one by its place. A head has the number and the byte, requests have their bits too.
-#[derive(Drop)]
+#[derive(Clone, Copy)]
 pub enum Answer {
     Start,
     Done,
@@ -20,7 +20,7 @@ pub enum Answer {
 }
 
 // At the end of the line: the word, or the place of a bad or missing token.
-#[derive(Drop)]
+#[derive(Clone, Copy)]
 pub enum Ended {
     Whole(u32),
     Stopped(u64),

@@ -4,7 +4,7 @@ ghost use Rattle.std.specs.Prelude.{◌≡◌};
 ghost use Rattle.answers.specs.Answer.{answer_word, answer_fields};
 
 // The parts of an answer word.
-#[derive(Drop)]
+#[derive(Clone, Copy)]
 pub struct AnswerFields {
     pub number: u8,
     pub watchdog: bool,

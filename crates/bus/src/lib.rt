@@ -7,7 +7,7 @@ ghost use Rattle.bus.specs.Ddc1.{loads_at_rise, shifter_at_rise};
 use registers::{ENDDC, MD12};
 
 // DDC off, or on in one of its two modes.
-#[derive(Drop)]
+#[derive(Clone, Copy)]
 pub enum Mode {
     Off,
     Ddc1,
@@ -15,7 +15,7 @@ pub enum Mode {
 }
 
 // What a change of level is.
-#[derive(Drop)]
+#[derive(Clone, Copy)]
 pub enum Edge {
     Flat,
     Rise,
@@ -23,7 +23,7 @@ pub enum Edge {
 }
 
 // Which of the chip's two addresses a matched one was: A0H, that of II ADR, or both where the two are the same.
-#[derive(Drop)]
+#[derive(Clone, Copy)]
 pub enum OwnAddress {
     A0,
     IiAdr,
@@ -31,7 +31,7 @@ pub enum OwnAddress {
 }
 
 // What comparing an address with the chip's two gives (document 02, Wish 12).
-#[derive(Drop)]
+#[derive(Clone, Copy)]
 pub enum Comparison {
     None,
     Own(OwnAddress),
@@ -43,7 +43,7 @@ pub enum Comparison {
 // transmit counts the bits put out, 1 to 8; at 9 the acknowledge is awaited and at 10 it has been taken. `Held`: the chip holds SCL
 // low (clock stretching), for so many clocks of 8 µs. The phases of a transfer with the chip, and no others, keep which of its
 // addresses it was called by; it stands first, so that all have it in one place.
-#[derive(Drop)]
+#[derive(Clone, Copy)]
 pub enum Phase {
     Idle,
     Address {
@@ -73,7 +73,7 @@ pub enum Phase {
 }
 
 // The shift register of DDC1, and the rises of VSYNCI left before the next load.
-#[derive(Drop)]
+#[derive(Clone, Copy)]
 pub struct Shifter {
     pub register: u8,
     pub edges: u8,

@@ -12,7 +12,7 @@ use bus::{Comparison, OwnAddress, Phase};
 use registers::{INTA, INTD, INTS, RXAK, TXAK};
 
 // All that a rise of the SCL line moves: II STS, II DAT, the phase, and the flags that are set.
-#[derive(Drop)]
+#[derive(Clone, Copy)]
 pub struct Risen {
     pub phase: Phase,
     pub iists: u8,
@@ -21,7 +21,7 @@ pub struct Risen {
 }
 
 // All that a fall of the SCL line moves: the phase, and the flags that are set.
-#[derive(Drop)]
+#[derive(Clone, Copy)]
 pub struct Fallen {
     pub phase: Phase,
     pub flags: u8,

@@ -9,7 +9,7 @@ use event_text_read::Event;
 use line_tokens::{Scanner, Token};
 
 // The tokens of a line so far: the event, the answer, and whether the rest is a comment.
-#[derive(Drop)]
+#[derive(Clone, Copy)]
 pub struct Tokens {
     pub case: Case,
     pub answer: Answer,
@@ -17,7 +17,7 @@ pub struct Tokens {
 }
 
 // A line in reading.
-#[derive(Drop)]
+#[derive(Clone, Copy)]
 pub struct Reader {
     pub scanner: Scanner,
     pub tokens: Tokens,
@@ -25,7 +25,7 @@ pub struct Reader {
 
 // A line: nothing; how often a word is given, the word, whether its answer is looked at, and the answer that it must get; or the place of
 // a bad or missing token.
-#[derive(Drop)]
+#[derive(Clone, Copy)]
 pub enum Entry {
     Nothing,
     Given(u64, u32, bool, u32),

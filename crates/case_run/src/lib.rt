@@ -8,7 +8,7 @@ use chip::Chip;
 
 // What is known of a case so far. A malformed line has the place of its bad or missing token, a difference the word, the expected answer and
 // the one given. A case that has ended without an event is empty.
-#[derive(Drop)]
+#[derive(Clone, Copy)]
 pub enum Verdict {
     Agrees,
     Malformed(u64),
@@ -17,7 +17,7 @@ pub enum Verdict {
 }
 
 // The chip, the line in reading, its number, the words that were answered as expected, and the verdict.
-#[derive(Drop)]
+#[derive(Clone, Copy)]
 pub struct Progress {
     pub chip: Chip,
     pub reader: Reader,

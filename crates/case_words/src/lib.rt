@@ -8,7 +8,7 @@ use line_tokens::Token;
 
 // A line so far: whether no token has come; the number that its one token may be as a count; the count; the event; and whether the answer
 // has begun.
-#[derive(Drop)]
+#[derive(Clone, Copy)]
 pub struct Case {
     pub fresh: bool,
     pub count: u64,
@@ -18,7 +18,7 @@ pub struct Case {
 }
 
 // A line: nothing, a word and how often it is given, or the place of a bad or missing token.
-#[derive(Drop)]
+#[derive(Clone, Copy)]
 pub enum Found {
     Nothing,
     Entry(u64, u32),

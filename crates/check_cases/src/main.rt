@@ -6,7 +6,7 @@ use case_run::{Progress, Verdict};
 use libc::{STDERR_FILENO, STDOUT_FILENO};
 
 // A case so far, whether more of it is to be read, and whether a read failed.
-#[derive(Drop)]
+#[derive(Clone, Copy)]
 struct Turn {
     progress: Progress,
     more: bool,
@@ -14,7 +14,7 @@ struct Turn {
 }
 
 // How many cases passed and how many did not, and whether another is worth running.
-#[derive(Drop)]
+#[derive(Clone, Copy)]
 struct Counts {
     passed: u64,
     failed: u64,

@@ -9,7 +9,7 @@ use sync::Sync;
 
 // The registers of the bus, the phase of a transfer, and the shift register of DDC1. II ADR, which no edge moves, stands first, and
 // what edges move stands together behind it.
-#[derive(Drop)]
+#[derive(Clone, Copy)]
 pub struct Bus {
     pub iiadr: u8,
     pub iists: u8,
@@ -20,7 +20,7 @@ pub struct Bus {
 
 // Outside levels of the ports, a bit a pin, and of the sync inputs. The order is for the compiler: with
 // port 0 first a word of the list call takes 7 machine instructions more.
-#[derive(Drop)]
+#[derive(Clone, Copy)]
 pub struct Pins {
     pub port1: u8,
     pub port2: u8,
@@ -33,7 +33,7 @@ pub struct Pins {
 // bits of HVCON and BT stand here, since the chip itself moves them. `sda`, `scl` and `reset` are outside levels; they stand
 // apart from `chip_pins` since the bus looks at SDA and SCL and everything at RESET, and since of two states that differ in SDA
 // alone all of `chip_pins` is then the same.
-#[derive(Drop)]
+#[derive(Clone, Copy)]
 pub struct Core {
     pub irqx: u8,
     pub mdcon: u8,
@@ -50,14 +50,14 @@ pub struct Core {
 
 // The whole state. `registers` holds what writes store and only reads, writes and resets look at; its places for registers that
 // stand in the core are not used.
-#[derive(Drop)]
+#[derive(Clone, Copy)]
 pub struct Chip {
     pub registers: [u8; 38],
     pub core: Core,
 }
 
 // What an event leaves in the array of stored registers: all as it was, one register stored, or every one at its reset value.
-#[derive(Drop)]
+#[derive(Clone, Copy)]
 pub enum Kept {
     Same,
     Stored(u8, u8),

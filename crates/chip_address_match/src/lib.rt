@@ -7,7 +7,7 @@ use bus::{Comparison, OwnAddress};
 use chip::Chip;
 
 // What is told of a state: that it is ill formed, that no transfer with the chip is under way, or by which address it was called.
-#[derive(Drop)]
+#[derive(Clone, Copy)]
 pub enum AddressOutcome {
     IllFormed,
     None,

@@ -11,7 +11,7 @@ use registers::BTCON;
 
 // What an event did: the core after it, what it left in the array of stored registers, the number given back, whether the
 // watchdog reset the chip, and the byte read.
-#[derive(Drop)]
+#[derive(Clone, Copy)]
 pub struct Outcome {
     pub core: Core,
     pub kept: Kept,

@@ -7,7 +7,7 @@ use bus::Phase;
 use chip::Chip;
 
 // What is told of a state: that it is ill formed, that SCL is not held, or for how many clocks of 8 µs it has been.
-#[derive(Drop)]
+#[derive(Clone, Copy)]
 pub enum Hold {
     IllFormed,
     NotHeld,

@@ -7,7 +7,7 @@ use chip::{Chip, Core};
 use registers::{ENDDC, PT3};
 
 // What is reported of a state: that it is ill formed, or the level of each line and whether the chip pulls it.
-#[derive(Drop)]
+#[derive(Clone, Copy)]
 pub enum Lines {
     IllFormed,
     Levels {

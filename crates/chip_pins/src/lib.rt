@@ -9,7 +9,7 @@ use events::{HSYNCI, P16, RESET, SCL, SDA, VSYNCI};
 use registers::{INTD, INTE, INTV};
 
 // What a pin is.
-#[derive(Drop)]
+#[derive(Clone, Copy)]
 pub enum PinKind {
     Port0,
     Port1,

@@ -7,7 +7,7 @@ use chip::Chip;
 use rates::Rate;
 
 // Which rate is asked for: fields in a second, or lines.
-#[derive(Drop)]
+#[derive(Clone, Copy)]
 pub enum Scan {
     Field,
     Line,

@@ -11,7 +11,7 @@ use registers::{
 };
 
 // What a read gives: its number, and the byte where that is 0.
-#[derive(Drop)]
+#[derive(Clone, Copy)]
 pub struct Reading {
     pub number: u8,
     pub byte: u8,

@@ -4,7 +4,7 @@ use mathlib.Core.List.{List, [], ◌∷◌, ◌++◌}
 use Prim.Native.Nat.{ℕ}
 use Rattle.chip.specs.State.{fresh}
 use Rattle.recording_blocks.specs.Bytes.{words_of}
-use Rattle.hex.specs.Hex.{hex_line}
+use Rattle.hex_digits.specs.Hex.{hex_line}
 use Rattle.replay_text.specs.Text.{hex_lines, left_over, replay_text}
 use Rattle.chip_cases.proofs.Opened.{opened}
 use Rattle.chip_rule_cases.specs.Replay.{requesting, answered, left_over_requested, left_over_alone}

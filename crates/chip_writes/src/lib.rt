@@ -7,7 +7,7 @@ use chip::{Core, Kept};
 use registers::{BT, CLRFLG, CLRHOV, CLRVOV, CLRWDT, HVCON, IIADR, IIDAT, IISTS, MDCON};
 
 // What a register's write does beside or instead of storing under the mask.
-#[derive(Drop)]
+#[derive(Clone, Copy)]
 pub enum Target {
     Stored,
     Mdcon,

@@ -7,14 +7,14 @@ use libc::{STDERR_FILENO, STDIN_FILENO, STDOUT_FILENO};
 use rates::Rate;
 
 // The progress after some bytes, and whether all that is due was written.
-#[derive(Drop)]
+#[derive(Clone, Copy)]
 struct Taken {
     progress: Progress,
     written: bool,
 }
 
 // The same after a block, with whether another may follow and whether a read failed.
-#[derive(Drop)]
+#[derive(Clone, Copy)]
 struct Turn {
     progress: Progress,
     more: bool,
@@ -35,7 +35,7 @@ fn print_answer(number: u8, n: [u16; 12]) -> bool {
 }
 
 fn print_half(w: u32) -> bool {
-    let line = hex::hex_line(w);
+    let line = hex_digits::hex_line(w);
     io::write_all(STDOUT_FILENO, &line[..8])
 }
 

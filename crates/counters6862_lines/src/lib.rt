@@ -4,7 +4,7 @@ ghost use Rattle.std.specs.Prelude.{◌≡◌, ◌≤◌, length};
 ghost use Rattle.counters6862_lines.specs.Text.{empty as empty_of, pushed, digits_to, number_to, line_to};
 
 // Bytes so far, and how many.
-#[derive(Drop)]
+#[derive(Clone, Copy)]
 pub struct Text {
     pub bytes: [u8; 96],
     pub count: usize,

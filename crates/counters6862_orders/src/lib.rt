@@ -5,7 +5,7 @@ ghost use Rattle.counters6862_orders.specs.Line.{letter_of, symbol_of, reader_at
 ghost use Rattle.counters6862_orders.specs.Orders.{with_number, bare as bare_of, report_order, put_order, order_of};
 
 // What a byte is to the reader of a line.
-#[derive(Drop)]
+#[derive(Clone, Copy)]
 pub enum Symbol {
     Newline,
     Blank,
@@ -18,7 +18,7 @@ pub enum Symbol {
 }
 
 // Where in a line the reader stands.
-#[derive(Drop)]
+#[derive(Clone, Copy)]
 pub enum Place {
     // before its first byte
     Start,
@@ -32,7 +32,7 @@ pub enum Place {
 }
 
 // The place, the word so far, how many numbers were begun, the number before the one in reading, and that one.
-#[derive(Drop)]
+#[derive(Clone, Copy)]
 pub struct Reader {
     pub place: Place,
     pub word: u32,
@@ -42,7 +42,7 @@ pub struct Reader {
 }
 
 // What a byte brings: the reader goes on, the line is malformed, or it ends: its word, how many numbers it has, and its last two.
-#[derive(Drop)]
+#[derive(Clone, Copy)]
 pub enum Found {
     Within(Reader),
     Refused,
@@ -50,7 +50,7 @@ pub enum Found {
 }
 
 // What a line asks for: a call and its value, the field rate, a number to be put at a place, or nothing that is known.
-#[derive(Drop)]
+#[derive(Clone, Copy)]
 pub enum Order {
     Call(u32, u32),
     Field,

@@ -9,7 +9,7 @@ use rates::Rate;
 
 // What a byte of a script brings to print: nothing, the number of a line, that with the report on the field rate, or that the line is
 // malformed.
-#[derive(Drop)]
+#[derive(Clone, Copy)]
 pub enum Event {
     Nothing,
     Answer(u8),
@@ -18,7 +18,7 @@ pub enum Event {
 }
 
 // The twelve numbers, the reader, the number of the line, and whether a malformed line has ended the script.
-#[derive(Drop)]
+#[derive(Clone, Copy)]
 pub struct Progress {
     pub numbers: [u16; 12],
     pub reader: Reader,
@@ -26,7 +26,7 @@ pub struct Progress {
     pub ended: bool,
 }
 
-#[derive(Drop)]
+#[derive(Clone, Copy)]
 pub struct Step {
     pub progress: Progress,
     pub event: Event,

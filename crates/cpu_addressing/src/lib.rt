@@ -10,21 +10,21 @@ use cpu_opcodes::Mode;
 use cpu_operations::Cpu;
 
 // An effective address, and whether a page was crossed on the way to it.
-#[derive(Drop)]
+#[derive(Clone, Copy)]
 pub struct Effective {
     pub address: u16,
     pub crossed: bool,
 }
 
 // Two bytes read as an address, or the number of the read that failed.
-#[derive(Drop)]
+#[derive(Clone, Copy)]
 pub enum Word {
     Value(u16),
     Refused(u8),
 }
 
 // An effective address, or the number of the read that failed.
-#[derive(Drop)]
+#[derive(Clone, Copy)]
 pub enum Located {
     At(Effective),
     Refused(u8),

@@ -6,7 +6,7 @@ ghost use Rattle.cpu_arithmetic.specs.Arithmetic.{computed, nz as nz_of, nzc as 
 
 // The flags of P. Bits 5 and 4 exist only in a pushed P. Z stands between D and I, so that the compiler does not join these two in one
 // number of 16 bits, to be taken apart again at each instruction.
-#[derive(Drop)]
+#[derive(Clone, Copy)]
 pub struct Flags {
     pub n: bool,
     pub v: bool,
@@ -17,14 +17,14 @@ pub struct Flags {
 }
 
 // A decimal digit, or two, with its carry.
-#[derive(Drop)]
+#[derive(Clone, Copy)]
 pub struct Digit {
     pub value: u8,
     pub carry: bool,
 }
 
 // A byte and the flags with it.
-#[derive(Drop)]
+#[derive(Clone, Copy)]
 pub struct Computed {
     pub value: u8,
     pub flags: Flags,

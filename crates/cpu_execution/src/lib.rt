@@ -14,7 +14,7 @@ use cpu_opcodes::{BranchOperation, ModifyOperation, Operation, ReadOperation};
 use cpu_operations::Cpu;
 
 // Where a store goes: it is done in RAM, it writes a byte to a register, which is the chip's, or it is refused.
-#[derive(Drop)]
+#[derive(Clone, Copy)]
 pub enum Destination {
     Ram,
     Register(u8, u8),
@@ -22,7 +22,7 @@ pub enum Destination {
 }
 
 // What became of an instruction and its store: done, with the CPU and the cycles; a register to be written; refused.
-#[derive(Drop)]
+#[derive(Clone, Copy)]
 pub enum Executed {
     Done(Cpu, u8),
     Write(Cpu, u8, u8, u8),

@@ -10,7 +10,7 @@ use cpu_memory::Store;
 use cpu_operations::Cpu;
 
 // What an instruction leaves: CPU, cycles, store.
-#[derive(Drop)]
+#[derive(Clone, Copy)]
 pub struct Effect {
     pub cpu: Cpu,
     pub cycles: u8,

@@ -4,14 +4,14 @@ ghost use Rattle.std.specs.Prelude.{◌≡◌, ◌+◌, ◌<◌, get_or};
 ghost use Rattle.cpu_memory.specs.Memory.{place, known as known_of, memory, stack as stack_of, stack_place, below as below_of, above as above_of, is_stack_place, after_push, rom_word, Reaches, LoadedCase, number_at, byte_at, number_pushed, byte_pushed};
 
 // What a read gives: a byte, or the number of its refusal.
-#[derive(Drop)]
+#[derive(Clone, Copy)]
 pub enum Loaded {
     Byte(u8),
     Refused(u8),
 }
 
 // Where an address leads.
-#[derive(Drop)]
+#[derive(Clone, Copy)]
 pub enum Place {
     Register(usize),
     Ram(usize),
@@ -20,7 +20,7 @@ pub enum Place {
 }
 
 // What an instruction stores: nothing, a byte at an address, or one to three bytes pushed from S down.
-#[derive(Drop)]
+#[derive(Clone, Copy)]
 pub enum Store {
     Nothing,
     Byte(u16, u8),

@@ -5,7 +5,7 @@ ghost use Rattle.cpu_opcodes.specs.Table.{opcodes};
 ghost use Rattle.cpu_opcodes.specs.Opcodes.{operation_numbered, mode_numbered, operation_of, mode_of, length_of, cycles_of, is_jsr};
 
 // The operations that read a byte and change registers and flags.
-#[derive(Drop)]
+#[derive(Clone, Copy)]
 pub enum ReadOperation {
     Lda,
     Ldx,
@@ -22,7 +22,7 @@ pub enum ReadOperation {
 }
 
 // The operations that store a register.
-#[derive(Drop)]
+#[derive(Clone, Copy)]
 pub enum StoreOperation {
     Sta,
     Stx,
@@ -30,7 +30,7 @@ pub enum StoreOperation {
 }
 
 // The operations that change a byte, in memory or in A.
-#[derive(Drop)]
+#[derive(Clone, Copy)]
 pub enum ModifyOperation {
     Asl,
     Lsr,
@@ -41,7 +41,7 @@ pub enum ModifyOperation {
 }
 
 // The operations on registers and flags alone.
-#[derive(Drop)]
+#[derive(Clone, Copy)]
 pub enum ImpliedOperation {
     Clc,
     Sec,
@@ -64,7 +64,7 @@ pub enum ImpliedOperation {
 }
 
 // The branches, each on one flag.
-#[derive(Drop)]
+#[derive(Clone, Copy)]
 pub enum BranchOperation {
     Bpl,
     Bmi,
@@ -77,7 +77,7 @@ pub enum BranchOperation {
 }
 
 // What an opcode does, by the data sheet's mnemonics. ModifyA is a shift or rotation of A.
-#[derive(Drop)]
+#[derive(Clone, Copy)]
 pub enum Operation {
     Read(ReadOperation),
     Store(StoreOperation),
@@ -98,7 +98,7 @@ pub enum Operation {
 }
 
 // The addressing modes by the data sheet's names, and one of their own for opcodes that are not documented.
-#[derive(Drop)]
+#[derive(Clone, Copy)]
 pub enum Mode {
     Implied,
     Accumulator,

@@ -9,7 +9,7 @@ use cpu_opcodes::{
 };
 
 // The registers of the CPU. `over` counts the cycles since the last 8 µs clock that cycles gave, 0 to 31.
-#[derive(Drop)]
+#[derive(Clone, Copy)]
 pub struct Cpu {
     pub a: u8,
     pub x: u8,

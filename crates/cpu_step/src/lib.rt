@@ -11,7 +11,7 @@ use cpu_operations::Cpu;
 
 // What became of an instruction: done; done, and an 8 µs clock is due; an interrupt comes first; it writes a register, with the CPU
 // that it leaves, its cycles, the register and the byte; refused, with its number; it reads a register of which nothing is known.
-#[derive(Drop)]
+#[derive(Clone, Copy)]
 pub enum Turn {
     On(Cpu),
     Clock(Cpu),

@@ -5,14 +5,14 @@ ghost use Rattle.edid_check.specs.Block.{header_fits, sum_of, sum_fits};
 ghost use Rattle.edid_check.specs.Edid.{version_fits, digital_fits, depth_fits, interface_fits, input_by3, input_by4, input_verdict, contents as contents_of, Judged, number_of};
 
 // The edition of an accepted block, by its revision: 1.3 or 1.4.
-#[derive(Drop)]
+#[derive(Clone, Copy)]
 pub enum Edition {
     Revision3,
     Revision4,
 }
 
 // Accepted, or the first rule that the block breaks.
-#[derive(Drop)]
+#[derive(Clone, Copy)]
 pub enum Verdict {
     Accepted(Edition),
     Length,

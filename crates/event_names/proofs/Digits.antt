@@ -9,7 +9,7 @@ use borrow.Author.Tests.{eqb-true, ltb-true, ltb-false, lt-ltb, le-ltb, ne_eqb}
 use Rattle.bits.specs.Byte.{pick}
 use Rattle.bits.proofs.Level.{pick_by}
 use Rattle.bits.proofs.Finite.{at_each, T_true}
-use Rattle.hex.specs.Hex.{hex_digit}
+use Rattle.hex_digits.specs.Hex.{hex_digit}
 use Rattle.event_names.specs.Digits.{digit_of, hex, joined, unhex}
 
 same_digit : ℕ → Bool

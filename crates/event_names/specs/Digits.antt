@@ -1,7 +1,7 @@
 -- Hex digits as a token: so many digits in upper case, the highest first, as bytes in base 256.
 use Rattle.std.specs.Prelude.{ℕ, zero, suc, ◌+◌, ◌-◌, ◌*◌, ◌/◌, ◌%◌, eqb, ltb}
 use Rattle.bits.specs.Byte.{pick}
-use Rattle.hex.specs.Hex.{hex_digit}
+use Rattle.hex_digits.specs.Hex.{hex_digit}
 
 -- the digit with this code, or 16
 unfoldable pub digit_of : ℕ → ℕ

@@ -2,7 +2,7 @@
 // 256, the first one highest, letters in upper case.
 #![tactic(auto)]
 ghost use Rattle.std.specs.Prelude.{◌≡◌, ◌≤◌, ◌<◌};
-ghost use Rattle.hex.specs.Hex.{hex_digit};
+ghost use Rattle.hex_digits.specs.Hex.{hex_digit};
 ghost use Rattle.event_names.specs.Digits.{digit_of, joined as joined_of, hex as hex_of, unhex as unhex_of};
 ghost use Rattle.event_names.specs.Names.{registers, pins, clocks, polarities, names, kind_of, named, name_in, unnamed as unnamed_of, field_of, token_of, lower, kind_shown, shown_of};
 

@@ -12,7 +12,7 @@ use Rattle.bits.specs.Byte.{pick}
 use Rattle.bits.proofs.Finite.{at_each, T_true, both, and_left, and_right}
 use Rattle.bits.proofs.Level.{pick_by}
 use Rattle.events.specs.Word.{kind, reserved, field_a, field_b, event_word}
-use Rattle.hex.specs.Hex.{hex_digit}
+use Rattle.hex_digits.specs.Hex.{hex_digit}
 use Rattle.event_names.specs.Digits.{digit_of, hex, joined, unhex}
 use Rattle.event_names.specs.Names.{registers, pins, clocks, polarities, names, kind_of, kind_name, find, named, name_in, unnamed, field_in, field_of, token_in, token_of, lowered, lower, kind_shown, shown_of}
 use Rattle.event_names.proofs.Digits.{hex_high, hex_low, hex_some, hex_positive, hex_fits, unhex_hex}

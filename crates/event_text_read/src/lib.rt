@@ -8,7 +8,7 @@ ghost use Rattle.event_text_read.specs.Event.{takes_b, digits_b, limit_b, bound_
 use line_tokens::{Scanner, Token};
 
 // What the tokens of a line so far are: none; a kind; a kind and a field A; `word`; a whole word; or a bad token, by its place.
-#[derive(Drop)]
+#[derive(Clone, Copy)]
 pub enum Event {
     Start,
     Kind(u8),
@@ -19,7 +19,7 @@ pub enum Event {
 }
 
 // A line: its word, or the place of its first bad token; the line's end where a token is missing.
-#[derive(Drop)]
+#[derive(Clone, Copy)]
 pub enum Line {
     Whole(u32),
     Refused(u64),

@@ -46,7 +46,7 @@ const VSYNCI_HIGH: u32 = 0x0300_1b01;
 const PERIOD_CLOCK: u32 = 0x0400_0000;
 
 // An event, or the number with which a word is refused.
-#[derive(Drop)]
+#[derive(Clone, Copy)]
 pub enum Decoded {
     // a register
     Read(u8),

@@ -4,7 +4,7 @@ ghost use Rattle.std.specs.Prelude.{◌≡◌};
 ghost use Rattle.firmware_event_lines.specs.Lines.{symbol_of, letter_of, number_grown, at_start, at_number, word_begun, at_gap, word_grown, event_of, word_ended, at_word, at_end, after, line_start, next as next_of, meaning_of};
 
 // What a byte is to the reader of a line.
-#[derive(Drop)]
+#[derive(Clone, Copy)]
 pub enum Symbol {
     Blank,
     // a decimal digit's value
@@ -15,7 +15,7 @@ pub enum Symbol {
 }
 
 // What the bytes so far are, a comment left out.
-#[derive(Drop)]
+#[derive(Clone, Copy)]
 pub enum Line {
     // blanks alone
     Start,
@@ -30,14 +30,14 @@ pub enum Line {
 }
 
 // The line so far, and whether its comment has begun.
-#[derive(Drop)]
+#[derive(Clone, Copy)]
 pub struct Reader {
     pub line: Line,
     pub comment: bool,
 }
 
 // What a line means. An event has the number of its instruction in bits 63..32 and its word below.
-#[derive(Drop)]
+#[derive(Clone, Copy)]
 pub enum Meaning {
     Nothing,
     Event(u64),

@@ -6,7 +6,7 @@ ghost use Rattle.firmware_event_list.specs.Lists.{is_malformed, is_something, on
 use firmware_event_lines::{Line, Meaning, Reader};
 
 // The line that is being read, its number from 1, and whether it has ended and is malformed.
-#[derive(Drop)]
+#[derive(Clone, Copy)]
 pub struct Checked {
     pub reader: Reader,
     pub line: u64,
@@ -14,7 +14,7 @@ pub struct Checked {
 }
 
 // The reader behind the end of a line or of a block, the place of the byte behind, and what the line means; nothing where the block ended first.
-#[derive(Drop)]
+#[derive(Clone, Copy)]
 pub struct Found {
     pub reader: Reader,
     pub at: usize,

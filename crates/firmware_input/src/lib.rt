@@ -10,7 +10,7 @@ use vcd_text::Number;
 
 // A place in a list: the line that is being read, the byte of the block to be read next, how many bytes the block has, whether it is the last
 // one, and whether the read of it failed.
-#[derive(Drop)]
+#[derive(Clone, Copy)]
 pub struct Place {
     pub reader: Reader,
     pub at: usize,
@@ -20,7 +20,7 @@ pub struct Place {
 }
 
 // What is found in a list, the place behind it, and whether it was the end.
-#[derive(Drop)]
+#[derive(Clone, Copy)]
 pub struct Finding {
     pub meaning: Meaning,
     pub place: Place,
@@ -28,7 +28,7 @@ pub struct Finding {
 }
 
 // A block checked, and whether another may follow or a read failed.
-#[derive(Drop)]
+#[derive(Clone, Copy)]
 struct Turn {
     checked: Checked,
     more: bool,
@@ -36,7 +36,7 @@ struct Turn {
 }
 
 // A number of bytes, and whether a read failed.
-#[derive(Drop)]
+#[derive(Clone, Copy)]
 struct Rest {
     count: u64,
     failed: bool,

@@ -2,7 +2,7 @@
 -- Assumes nothing.
 use mathlib.Core.Bool.{false}
 use mathlib.Core.Path.{◌≡◌, refl}
-use Rattle.hex.specs.Hex.{hex_line}
+use Rattle.hex_digits.specs.Hex.{hex_line}
 use Rattle.cpu_arithmetic.specs.declared.Flags.{Flags}
 use Rattle.cpu_operations.specs.declared.Cpu.{Cpu}
 use Rattle.cpu_operations.specs.Operations.{pushed_p}

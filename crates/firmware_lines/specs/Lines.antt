@@ -1,6 +1,6 @@
 -- What is printed of a firmware run, as bytes; hex digits are in upper case.
 use Rattle.std.specs.Prelude.{ℕ, ◌-◌, ◌/◌, ◌%◌, false, List, [], ◌∷◌, ◌++◌, take}
-use Rattle.hex.specs.Hex.{hex_digit, hex_line}
+use Rattle.hex_digits.specs.Hex.{hex_digit, hex_line}
 use Rattle.cpu_arithmetic.specs.declared.Flags.{Flags}
 use Rattle.cpu_operations.specs.declared.Cpu.{Cpu}
 use Rattle.cpu_operations.specs.Operations.{pushed_p}

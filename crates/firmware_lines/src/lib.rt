@@ -1,7 +1,7 @@
 // What is printed of a firmware run: registers, instructions and events as text (document 02, Wish 5; images/README.md).
 #![tactic(auto)]
 ghost use Rattle.std.specs.Prelude.{◌≡◌, ◌/◌, ◌%◌};
-ghost use Rattle.hex.specs.Hex.{hex_digit};
+ghost use Rattle.hex_digits.specs.Hex.{hex_digit};
 ghost use Rattle.firmware_lines.specs.Lines.{shown_p, register_line, instruction_text, idle_text, event_text};
 
 use cpu_arithmetic::Flags;
@@ -123,8 +123,8 @@ pub fn idle_text(pc: u16) -> [u8; 9]
 pub fn event_text(word: u32, answer: u32) -> [u8; 25]
     ensures { result ≡ event_text word answer }
 {
-    let w = hex::hex_line(word);
-    let a = hex::hex_line(answer);
+    let w = hex_digits::hex_line(word);
+    let a = hex_digits::hex_line(answer);
     [
         32, 101, 118, 101, 110, 116, 32, w[0], w[1], w[2], w[3], w[4], w[5], w[6], w[7], 32, a[0],
         a[1], a[2], a[3], a[4], a[5], a[6], a[7], a[8],

@@ -13,14 +13,14 @@ use firmware_trace::{Fetched, Run};
 use libc::STDOUT_FILENO;
 
 // What is asked of a run: how many instructions, and whether a trace.
-#[derive(Drop)]
+#[derive(Clone, Copy)]
 pub struct Asked {
     pub count: u32,
     pub traced: bool,
 }
 
 // What a list has next: an event, with the number of its instruction in bits 63..32 and its word below, or its end.
-#[derive(Drop)]
+#[derive(Clone, Copy)]
 pub enum Item {
     Event(u64),
     End,
@@ -87,7 +87,7 @@ fn print_given(traced: bool, next: u32, word: u32, answer: u32) -> bool {
     if traced {
         print_event(next, word, answer)
     } else {
-        let line = hex::hex_line(answer);
+        let line = hex_digits::hex_line(answer);
         print(&line)
     }
 }

@@ -24,7 +24,7 @@ use registers::{CLRWDT, IEX};
 
 // What a firmware call gives back: 0 or the number of the refusal, CPU and chip, how many instructions were counted, and how many of the
 // listed events were given.
-#[derive(Drop)]
+#[derive(Clone, Copy)]
 pub struct FirmwareResult {
     pub number: u8,
     pub cpu: Cpu,
@@ -34,7 +34,7 @@ pub struct FirmwareResult {
 }
 
 // CPU, core and answer after a word.
-#[derive(Drop)]
+#[derive(Clone, Copy)]
 pub struct Occurred {
     pub cpu: Cpu,
     pub core: Core,
@@ -42,14 +42,14 @@ pub struct Occurred {
 }
 
 // CPU and core after an interrupt.
-#[derive(Drop)]
+#[derive(Clone, Copy)]
 pub struct Interrupted {
     pub cpu: Cpu,
     pub core: Core,
 }
 
 // CPU and core where instructions end, the number of the next one, and 0 or the number of a refusal.
-#[derive(Drop)]
+#[derive(Clone, Copy)]
 pub struct Settled {
     pub cpu: Cpu,
     pub core: Core,

@@ -18,7 +18,7 @@ use events::{Decoded, PERIOD};
 use firmware_run::FirmwareResult;
 
 // CPU and chip after an event, and its answer.
-#[derive(Drop)]
+#[derive(Clone, Copy)]
 pub struct Given {
     pub cpu: Cpu,
     pub chip: Chip,
@@ -26,7 +26,7 @@ pub struct Given {
 }
 
 // CPU and chip before an instruction, and whether an interrupt was taken.
-#[derive(Drop)]
+#[derive(Clone, Copy)]
 pub struct Interrupted {
     pub cpu: Cpu,
     pub chip: Chip,

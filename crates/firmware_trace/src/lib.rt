@@ -10,7 +10,7 @@ use cpu_operations::Cpu;
 
 // CPU and chip, the number of the next instruction, 0 or the number of a refusal, how many events were given, the answer of the last one, and
 // whether all was printed, which is for the caller to say.
-#[derive(Drop)]
+#[derive(Clone, Copy)]
 pub struct Run {
     pub cpu: Cpu,
     pub chip: Chip,
@@ -22,7 +22,7 @@ pub struct Run {
 }
 
 // Before an instruction: the CPU behind the interrupt, whether one is taken, whether RESET is high, and the opcode.
-#[derive(Drop)]
+#[derive(Clone, Copy)]
 pub struct Fetched {
     pub cpu: Cpu,
     pub taken: bool,

@@ -5,7 +5,7 @@ ghost use Rattle.std.specs.Prelude.{◌≡◌, ◌<◌};
 ghost use Rattle.line_tokens.specs.Scan.{one_more, blank as is_blank, fold as fold_of, grown as grown_by, counted as counted_by, no_token, longer as longer_by, start as start_of, passed as passed_of, ended as ended_of, begun as begun_of, within as within_of, scanned as scanned_of, scan as scan_of};
 
 // A token: its number, 0 where there is none; what it is as a decimal number, 2^64 - 1 where it is none; and the place where it begins.
-#[derive(Drop)]
+#[derive(Clone, Copy)]
 pub struct Token {
     pub value: u64,
     pub count: u64,
@@ -13,7 +13,7 @@ pub struct Token {
 }
 
 // A line in reading: the token that goes on, the one that the last byte ended, the bytes so far, and whether a comment has begun.
-#[derive(Drop)]
+#[derive(Clone, Copy)]
 pub struct Scanner {
     pub pending: Token,
     pub done: Token,

@@ -6,7 +6,7 @@ ghost use Rattle.list_call.specs.Run.{advanced, advanced_answers, advance_all, a
 use chip::Chip;
 
 // What a list call gives back: the chip after the words, and 0, 7 or 8.
-#[derive(Drop)]
+#[derive(Clone, Copy)]
 pub struct RunResult {
     pub chip: Chip,
     pub number: u8,

@@ -7,7 +7,7 @@ use chip::Chip;
 use libc::{STDERR_FILENO, STDIN_FILENO, STDOUT_FILENO};
 
 // The chip after some words, and whether more of them may be listed.
-#[derive(Drop)]
+#[derive(Clone, Copy)]
 struct Turn {
     chip: Chip,
     goes_on: bool,

@@ -8,7 +8,7 @@ use listing_lines::{Found, Reader};
 
 // What is known of a listing so far. A difference has the word, the expected answer and the one given; a listing that has ended
 // without a word is empty.
-#[derive(Drop)]
+#[derive(Clone, Copy)]
 pub enum Verdict {
     Agrees,
     Malformed,
@@ -17,7 +17,7 @@ pub enum Verdict {
 }
 
 // The chip, the reader, the number of the line, the words that were answered as expected, and the verdict.
-#[derive(Drop)]
+#[derive(Clone, Copy)]
 pub struct Progress {
     pub chip: Chip,
     pub reader: Reader,

@@ -4,7 +4,7 @@ ghost use Rattle.std.specs.Prelude.{◌≡◌};
 ghost use Rattle.listing_lines.specs.Line.{digit_of, symbol_of, reader_at, counted as counted_of, begun as begun_of, grown as grown_of, count_end, word_end, answer_end, entry_end, commented as commented_of, at_start, at_remark, at_first, at_repeated, at_word, at_gap, at_answer, at_rest, next_at, line_start, next as next_of};
 
 // What a byte is to the reader of a line.
-#[derive(Drop)]
+#[derive(Clone, Copy)]
 pub enum Symbol {
     Newline,
     // white space within a line: a blank, a tab, or the carriage return of a line that ends in CR LF
@@ -17,7 +17,7 @@ pub enum Symbol {
 }
 
 // Where in a line the reader stands.
-#[derive(Drop)]
+#[derive(Clone, Copy)]
 pub enum Place {
     // before its first field
     Start,
@@ -37,7 +37,7 @@ pub enum Place {
 }
 
 // The place, the field in reading (its digits, its value, and its value as a count), the count and the word read before it.
-#[derive(Drop)]
+#[derive(Clone, Copy)]
 pub struct Reader {
     pub place: Place,
     pub digits: u8,
@@ -48,7 +48,7 @@ pub struct Reader {
 }
 
 // What a byte brings: the reader goes on, the line is malformed, or it ends with an entry of count, word and expected answer.
-#[derive(Drop)]
+#[derive(Clone, Copy)]
 pub enum Found {
     Within(Reader),
     Refused,

@@ -11,21 +11,21 @@ use sync::{LatchedLines, LatchedPeriods, LineCounter, Lines, PeriodCounter, Peri
 use sync6862::{Call, Counters, Part, Start};
 
 // The chip that the first and the last number name, if they name one.
-#[derive(Drop)]
+#[derive(Clone, Copy)]
 pub enum Named {
     Chip(Part),
     Neither,
 }
 
 // What twelve numbers are: a well formed state, or none.
-#[derive(Drop)]
+#[derive(Clone, Copy)]
 pub enum Offered {
     Well(Counters),
     IllFormed,
 }
 
 // What a call and its value ask for: a call of the unit, that many clocks, or nothing, by a number.
-#[derive(Drop)]
+#[derive(Clone, Copy)]
 pub enum Asked {
     Do(Call),
     Clocks(u32),
@@ -33,7 +33,7 @@ pub enum Asked {
 }
 
 // The number given back and the twelve numbers left.
-#[derive(Drop)]
+#[derive(Clone, Copy)]
 pub struct Called {
     pub number: u8,
     pub numbers: [u16; 12],

@@ -15,7 +15,7 @@ const SDA: u16 = 24;
 const SCL: u16 = 25;
 
 // What is wrong with a change.
-#[derive(Drop)]
+#[derive(Clone, Copy)]
 pub enum Fault {
     NoFault,
     OtherLine,
@@ -23,7 +23,7 @@ pub enum Fault {
 }
 
 // What the reading gives: how many addresses it listed, or why it is refused.
-#[derive(Drop)]
+#[derive(Clone, Copy)]
 pub enum Reading {
     Listed(usize),
     BadLine,
@@ -32,7 +32,7 @@ pub enum Reading {
 }
 
 // The rises of SCL since a START, counted up to nine, and the byte of the first eight.
-#[derive(Drop)]
+#[derive(Clone, Copy)]
 pub struct Transfer {
     pub rises: u8,
     pub byte: u8,

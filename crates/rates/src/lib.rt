@@ -6,7 +6,7 @@ ghost use Rattle.rates.specs.Report.{rate_number, by_periods, by_interval, by_fi
 
 use sync::{LatchedLines, LatchedPeriods, LineCounter, PeriodCounter, Sync};
 
-#[derive(Drop)]
+#[derive(Clone, Copy)]
 pub enum Rate {
     IllFormed,
     NothingLatched,

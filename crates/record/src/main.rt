@@ -6,7 +6,7 @@ ghost use Rattle.std.specs.Prelude.{◌≡◌, length};
 use libc::{STDERR_FILENO, STDIN_FILENO, STDOUT_FILENO};
 
 // The number of the next block, and whether another may follow.
-#[derive(Drop)]
+#[derive(Clone, Copy)]
 struct Recorded {
     next: u32,
     more: bool,

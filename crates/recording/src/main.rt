@@ -7,7 +7,7 @@ use chip::Chip;
 use libc::{STDERR_FILENO, STDIN_FILENO, STDOUT_FILENO};
 
 // The chip and the number that is due after some blocks, and whether another may follow.
-#[derive(Drop)]
+#[derive(Clone, Copy)]
 struct Turn {
     chip: Chip,
     next: u32,

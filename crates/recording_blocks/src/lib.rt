@@ -5,7 +5,7 @@ ghost use Rattle.recording_blocks.specs.Bytes.{four_bytes, from_two, from_four, 
 ghost use Rattle.recording_blocks.specs.Block.{padded, front, all_words, write_number, area_left, refusal as refusal_of, block_read, places_left, BlockCase};
 
 // What the reader of a block gives: the count of its words, or a number.
-#[derive(Drop)]
+#[derive(Clone, Copy)]
 pub enum BlockRead {
     Words(usize),
     Refused(u8),

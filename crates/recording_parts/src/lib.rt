@@ -6,7 +6,7 @@ ghost use Rattle.recording_parts.specs.Recording.{blocks_of, read_words, read_nu
 use recording_blocks::BlockRead;
 
 // What the reader of blocks gives: how many words it read, the number that is due next, and 0 or what is wrong.
-#[derive(Drop)]
+#[derive(Clone, Copy)]
 pub struct BlocksRead {
     pub count: usize,
     pub next: u32,

@@ -7,8 +7,8 @@ use native.Mathlib.Omega.{arith}
 use native.Mathlib.Numerals.{add-one}
 use lib.ListN.{length, take, drop, get_or, length-append, take-append-drop}
 use lib.Seq.{take-suc, take_all}
-use Rattle.hex.specs.Hex.{hex_line}
-use Rattle.hex.proofs.Line.{length_line}
+use Rattle.hex_digits.specs.Hex.{hex_line}
+use Rattle.hex_digits.proofs.Line.{length_line}
 use Rattle.recording_replay.specs.Replay.{hex_lines}
 use Rattle.list_laws.proofs.Place.{put, put-take, put-drop, put-length, drop_later}
 

@@ -10,7 +10,7 @@ use lib.Dec.{ltb}
 use lib.ListN.{length, take, drop, length-append}
 use lib.Seq.{take_at}
 use Rattle.bits.specs.Byte.{pick}
-use Rattle.hex.specs.Hex.{hex_line}
+use Rattle.hex_digits.specs.Hex.{hex_line}
 use Rattle.answers.specs.Answer.{answer_word}
 use Rattle.chip.specs.declared.Chip.{Chip}
 use Rattle.chip_well_formed.specs.WellFormed.{well_formed}

@@ -1,7 +1,7 @@
 -- A recording replayed: the answers to its blocks, and their text (document 02, Wish 1).
 use Rattle.std.specs.Prelude.{ℕ, ◌/◌, false, List, [], ◌∷◌, ◌++◌, eqb, ltb, length, drop}
 use Rattle.bits.specs.Byte.{pick}
-use Rattle.hex.specs.Hex.{hex_line}
+use Rattle.hex_digits.specs.Hex.{hex_line}
 use Rattle.answers.specs.Answer.{answer_word}
 use Rattle.chip.specs.declared.Chip.{Chip}
 use Rattle.chip_well_formed.specs.WellFormed.{well_formed}

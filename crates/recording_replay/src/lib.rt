@@ -3,13 +3,13 @@
 ghost use Rattle.std.specs.Prelude.{◌≡◌, true, ◌+◌, ◌*◌, ◌≤◌, ◌++◌, length, take, drop};
 ghost use Rattle.chip_well_formed.specs.WellFormed.{well_formed};
 ghost use Rattle.list_call.specs.Run.{advanced, advanced_answers};
-ghost use Rattle.hex.specs.Hex.{hex_line};
+ghost use Rattle.hex_digits.specs.Hex.{hex_line};
 ghost use Rattle.recording_replay.specs.Replay.{hex_lines, last_answer, replayed, text_left};
 
 use chip::Chip;
 
 // What a replay gives: the chip after the words, the number that is due next, the bytes of text written, and 0 or a number.
-#[derive(Drop)]
+#[derive(Clone, Copy)]
 pub struct Replayed {
     pub chip: Chip,
     pub next: u32,
@@ -22,7 +22,7 @@ fn put_line(text: &mut [u8], at: usize, a: u32)
     requires { at + 9 ≤ length text.old }
     ensures { text.new ≡ take at text.old ++ (hex_line a ++ drop (at + 9) text.old) }
 {
-    let line = hex::hex_line(a);
+    let line = hex_digits::hex_line(a);
     bytes::copy(&line, &mut text[at..]);
 }
 

@@ -5,7 +5,7 @@ ghost use Rattle.recording_blocks.specs.Bytes.{words_of};
 ghost use Rattle.recording_writer.specs.Written.{words_given, words_put, block_count, blocks_bytes, blocks_written, blocks_put};
 
 // What the writer of blocks gives: how many bytes it wrote, the number that is next, and 0 or what is wrong.
-#[derive(Drop)]
+#[derive(Clone, Copy)]
 pub struct BlocksWritten {
     pub count: usize,
     pub next: u32,

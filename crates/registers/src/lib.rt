@@ -112,7 +112,7 @@ pub const ENBT: u8 = 0;
 
 // What a register is at reset, the bits that a write changes and those that a read shows, and which of the two it takes.
 // A write mask of 00 does not mean that a write is refused.
-#[derive(Drop)]
+#[derive(Clone, Copy)]
 pub struct Row {
     pub reset: u8,
     pub write: u8,

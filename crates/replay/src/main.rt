@@ -8,7 +8,7 @@ use chip::Chip;
 use libc::{STDIN_FILENO, STDOUT_FILENO};
 
 // The chip after a part, the bytes of a cut word, which stand at the start of the input, and whether another part may follow.
-#[derive(Drop)]
+#[derive(Clone, Copy)]
 struct Turn {
     chip: Chip,
     carried: usize,

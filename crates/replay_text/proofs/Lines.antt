@@ -10,8 +10,8 @@ use lib.Seq.{length-take-le, take-suc, take-add, take_all}
 use Rattle.chip.specs.declared.Chip.{Chip}
 use Rattle.list_call.specs.Run.{advanced, advanced_answers}
 use Rattle.list_call.proofs.Runs.{advanced_append, advanced_answers_append, length_advanced_answers}
-use Rattle.hex.specs.Hex.{hex_line}
-use Rattle.hex.proofs.Line.{length_line}
+use Rattle.hex_digits.specs.Hex.{hex_line}
+use Rattle.hex_digits.proofs.Line.{length_line}
 use Rattle.replay_text.specs.Text.{hex_lines}
 use Rattle.list_laws.proofs.Place.{put, put-take, put-drop, put-length, drop_later}
 

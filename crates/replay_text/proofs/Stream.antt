@@ -14,8 +14,8 @@ use Rattle.chip.specs.declared.Chip.{Chip}
 use Rattle.list_call.specs.Run.{advanced, advanced_answers}
 use Rattle.list_call.proofs.Runs.{advanced_append, advanced_answers_append, length_advanced_answers}
 use Rattle.replay_text.specs.declared.Answered.{Answered}
-use Rattle.hex.specs.Hex.{hex_line}
-use Rattle.hex.proofs.Line.{length_line}
+use Rattle.hex_digits.specs.Hex.{hex_line}
+use Rattle.hex_digits.proofs.Line.{length_line}
 use Rattle.recording_blocks.specs.Bytes.{words_of}
 use Rattle.replay_text.specs.Text.{hex_lines, left_over, left_over_answer, replay_text, answered, answered_text}
 use Rattle.recording_blocks.proofs.Words.{length_words}

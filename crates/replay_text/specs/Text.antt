@@ -2,7 +2,7 @@
 use Rattle.std.specs.Prelude.{ℕ, ◌+◌, ◌*◌, ◌/◌, ◌%◌, false, List, [], ◌∷◌, ◌++◌, eqb, ltb, length, drop}
 use Rattle.bits.specs.Byte.{pick}
 use Rattle.recording_blocks.specs.Bytes.{words_of}
-use Rattle.hex.specs.Hex.{hex_line}
+use Rattle.hex_digits.specs.Hex.{hex_line}
 use Rattle.answers.specs.Answer.{answer_word}
 use Rattle.chip.specs.declared.Chip.{Chip}
 use Rattle.chip.specs.State.{requests}

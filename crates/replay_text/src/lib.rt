@@ -2,21 +2,21 @@
 #![tactic(auto)]
 ghost use Rattle.std.specs.Prelude.{◌≡◌, ◌+◌, ◌-◌, ◌*◌, ◌/◌, ◌≤◌, ◌<◌, ◌++◌, length, take, drop, get_or};
 ghost use Rattle.list_call.specs.Run.{advanced, advanced_answers};
-ghost use Rattle.hex.specs.Hex.{hex_line};
+ghost use Rattle.hex_digits.specs.Hex.{hex_line};
 ghost use Rattle.recording_blocks.specs.Bytes.{words_of};
 ghost use Rattle.replay_text.specs.Text.{hex_lines, left_over_answer, answered, answered_text, part_answered, part_text, part_bytes};
 
 use chip::Chip;
 
 // What a block gives: the chip after its words, and the bytes of text written.
-#[derive(Drop)]
+#[derive(Clone, Copy)]
 pub struct Answered {
     pub chip: Chip,
     pub count: usize,
 }
 
 // What a part gives: the chip after its whole words, the bytes of text written, and how many bytes are carried over to the next.
-#[derive(Drop)]
+#[derive(Clone, Copy)]
 pub struct Part {
     pub chip: Chip,
     pub count: usize,
@@ -28,7 +28,7 @@ fn put_line(text: &mut [u8], at: usize, a: u32)
     requires { at + 9 ≤ length text.old }
     ensures { text.new ≡ take at text.old ++ (hex_line a ++ drop (at + 9) text.old) }
 {
-    let line = hex::hex_line(a);
+    let line = hex_digits::hex_line(a);
     bytes::copy(&line, &mut text[at..]);
 }
 

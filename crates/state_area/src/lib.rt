@@ -7,7 +7,7 @@ ghost use Rattle.state_area.specs.Area.{same_bytes, refused as refused_by, read_
 use chip::Chip;
 
 // What an area is read as: 0 and a well formed state; or the number of the refusal, 15 or 8, and a fresh state.
-#[derive(Drop)]
+#[derive(Clone, Copy)]
 pub struct Loaded {
     pub number: u8,
     pub state: Chip,

@@ -8,7 +8,7 @@ use chip::{Bus, Chip, Core, Pins};
 use sync::{LatchedLines, LatchedPeriods, LineCounter, Lines, PeriodCounter, Periods, Sync};
 
 // A phase as numbers: its own, and what goes with it, 0 where that phase has none.
-#[derive(Drop)]
+#[derive(Clone, Copy)]
 pub struct PhaseFields {
     pub number: u8,
     pub matched: u8,

@@ -11,14 +11,14 @@ use events::{Decoded, HSYNCI, PERIOD};
 use registers::{BTCON, IEX};
 
 // The chip after a word, and the answer word.
-#[derive(Drop)]
+#[derive(Clone, Copy)]
 pub struct Stepped {
     pub chip: Chip,
     pub answer: u32,
 }
 
 // The same without the array of stored registers.
-#[derive(Drop)]
+#[derive(Clone, Copy)]
 pub struct CoreStepped {
     pub core: Core,
     pub answer: u32,
@@ -52,7 +52,7 @@ pub fn advance_core(registers: &mut [u8; 38], c: Core, event: Decoded) -> CoreSt
 }
 
 // The commonest events, which move the core alone: the levels of HSYNCI, and the clock of 8 µs.
-#[derive(Drop)]
+#[derive(Clone, Copy)]
 enum Common {
     Hsynci(bool),
     Period,

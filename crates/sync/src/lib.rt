@@ -4,24 +4,24 @@ ghost use Rattle.std.specs.Prelude.{◌≡◌};
 ghost use Rattle.sync.specs.Sync.{step_lines, latch_lines, clear_lines, zero_lines, step_periods, latch_periods, clear_periods, on_hsync, lines_on_vsync, on_vsync, interval_next, lines_on_period, on_period, hsel_cleared, clear_overflow, zero_sync, well_sync};
 
 // Lines counted. Counts and latches are four types, so that one put for another is refused.
-#[derive(Drop)]
+#[derive(Clone, Copy)]
 pub struct Lines(pub u16);
 
 // Periods of 8 µs counted.
-#[derive(Drop)]
+#[derive(Clone, Copy)]
 pub struct Periods(pub u16);
 
 // The lines that HCNT's latch holds.
-#[derive(Drop)]
+#[derive(Clone, Copy)]
 pub struct LatchedLines(pub u16);
 
 // The periods of 8 µs that VCNT's latch holds.
-#[derive(Drop)]
+#[derive(Clone, Copy)]
 pub struct LatchedPeriods(pub u16);
 
 // HCNT, its latch, and HCNTOV, which stands between the two so that the compiler does not join them in one number of 32 bits, to be
 // taken apart again at each event.
-#[derive(Drop)]
+#[derive(Clone, Copy)]
 pub struct LineCounter {
     pub count: Lines,
     pub overflow: bool,
@@ -29,14 +29,14 @@ pub struct LineCounter {
 }
 
 // VCNT, its latch, and VCNTOV, in the same order.
-#[derive(Drop)]
+#[derive(Clone, Copy)]
 pub struct PeriodCounter {
     pub count: Periods,
     pub overflow: bool,
     pub latch: LatchedPeriods,
 }
 
-#[derive(Drop)]
+#[derive(Clone, Copy)]
 pub struct Sync {
     pub lines: LineCounter,
     pub periods: PeriodCounter,

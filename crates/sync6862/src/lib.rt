@@ -6,14 +6,14 @@ ghost use Rattle.sync6862.specs.Unit.{periods_last, interval_last, per_field, di
 use sync::{LatchedLines, LatchedPeriods, LineCounter, PeriodCounter, Periods, Sync};
 
 // The chip that the counters are of. ENHSEL stands with the NT6862, which alone has it.
-#[derive(Drop)]
+#[derive(Clone, Copy)]
 pub enum Part {
     Nt6861,
     Nt6862(bool),
 }
 
 // Levels, bit HSEL, and both counters with the interval.
-#[derive(Drop)]
+#[derive(Clone, Copy)]
 pub struct Counters {
     pub part: Part,
     pub hsynci: bool,
@@ -23,7 +23,7 @@ pub struct Counters {
 }
 
 // What a state is offered for. A level or a bit comes with its new value.
-#[derive(Drop)]
+#[derive(Clone, Copy)]
 pub enum Call {
     Hsynci(bool),
     Vsynci(bool),
@@ -35,21 +35,21 @@ pub enum Call {
 }
 
 // The number given back and the state left.
-#[derive(Drop)]
+#[derive(Clone, Copy)]
 pub struct Outcome {
     pub number: u8,
     pub state: Counters,
 }
 
 // A fresh state, or number 23.
-#[derive(Drop)]
+#[derive(Clone, Copy)]
 pub enum Start {
     Made(Counters),
     NoSuchChip,
 }
 
 // Both latches and both overflow bits, or number 8.
-#[derive(Drop)]
+#[derive(Clone, Copy)]
 pub enum LatchReport {
     IllFormed,
     Shown {

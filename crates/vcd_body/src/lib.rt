@@ -16,7 +16,7 @@ use vcd_output::Put;
 use vcd_steps::{Mode, State, Step};
 
 // Where a call goes on: at a place of the file, where so many words of the token there are written.
-#[derive(Drop)]
+#[derive(Clone, Copy)]
 pub struct Cursor {
     pub at: usize,
     pub done: u64,
@@ -24,7 +24,7 @@ pub struct Cursor {
 }
 
 // What a call tells: how many words were written; the refusal, or number 0, and its place; where to go on after 43.
-#[derive(Drop)]
+#[derive(Clone, Copy)]
 pub struct Piece {
     pub count: usize,
     pub place: usize,
@@ -33,7 +33,7 @@ pub struct Piece {
 }
 
 // What is to do after a token.
-#[derive(Drop)]
+#[derive(Clone, Copy)]
 pub enum Turn {
     // the token is refused, with number and place
     Stop(u8, usize),
@@ -242,7 +242,7 @@ fn token(
 // reader of any token.
 
 // Where a run stands: at a place of the file, after so many words, at a time with so many clocks due up to it.
-#[derive(Drop)]
+#[derive(Clone, Copy)]
 pub struct Run {
     pub at: usize,
     pub count: usize,
@@ -251,7 +251,7 @@ pub struct Run {
 }
 
 // A number and where it ends; it ends where it begins if it is none, or is not clearly below 2^64.
-#[derive(Drop)]
+#[derive(Clone, Copy)]
 pub struct Digits {
     pub end: usize,
     pub value: u64,
@@ -533,7 +533,7 @@ fn run_tokens(
 }
 
 // Where the reader stands before a token: at a place of the file, after so many words, in a state.
-#[derive(Drop)]
+#[derive(Clone, Copy)]
 pub struct Position {
     pub at: usize,
     pub count: usize,

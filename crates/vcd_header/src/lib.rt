@@ -12,7 +12,7 @@ use vcd_keywords::{
 use vcd_text::{Number, is_end};
 
 // What the reader of the header waits for.
-#[derive(Drop)]
+#[derive(Clone, Copy)]
 pub enum Section {
     // a keyword
     Outside,
@@ -37,7 +37,7 @@ pub enum Section {
 }
 
 // The unit that is read: the place of its number and its ps; and the unit that holds, 0 for none.
-#[derive(Drop)]
+#[derive(Clone, Copy)]
 pub struct Unit {
     pub first: usize,
     pub scale: u64,
@@ -46,7 +46,7 @@ pub struct Unit {
 
 // The variable that is read: the places of its code, how far its index is read, the pin of its name, whether it is a scalar,
 // and whether it is read to its end.
-#[derive(Drop)]
+#[derive(Clone, Copy)]
 pub struct Pending {
     pub from: usize,
     pub to: usize,
@@ -57,7 +57,7 @@ pub struct Pending {
 }
 
 // Whether the header is read to its end; the refusal, or number 0; the place of the refusal, or where the body begins.
-#[derive(Drop)]
+#[derive(Clone, Copy)]
 pub struct Close {
     pub place: usize,
     pub number: u8,
@@ -65,7 +65,7 @@ pub struct Close {
 }
 
 // Where the reader of the header stands: the place of the section's keyword, the number of variables declared, and so on.
-#[derive(Drop)]
+#[derive(Clone, Copy)]
 pub struct Head {
     pub mark: usize,
     pub entries: usize,

@@ -6,7 +6,7 @@ ghost use Rattle.vcd_items.specs.Items.{four_state, all_states, is_vector, lette
 use vcd_text::{Number, same};
 
 // What a token is by its first byte.
-#[derive(Drop)]
+#[derive(Clone, Copy)]
 pub enum Kind {
     Low,
     High,
@@ -18,7 +18,7 @@ pub enum Kind {
 }
 
 // What a token is.
-#[derive(Drop)]
+#[derive(Clone, Copy)]
 pub enum Item {
     // a change of a variable of one bit: whether to 1, x or z
     Scalar(bool),

@@ -6,7 +6,7 @@ ghost use Rattle.vcd_keywords.specs.Words.{is_text, keyword_of, count_of, letter
 use vcd_text::same;
 
 // A keyword of the header.
-#[derive(Drop)]
+#[derive(Clone, Copy)]
 pub enum Keyword {
     Text,
     Timescale,
@@ -18,7 +18,7 @@ pub enum Keyword {
 }
 
 // A type of variables.
-#[derive(Drop)]
+#[derive(Clone, Copy)]
 pub enum Sort {
     Digital,
     Real,

@@ -6,7 +6,7 @@ ghost use Rattle.vcd_output.specs.Room.{wrote, put, clock_word, pin_word, pin_wo
 pub const CLOCK: u32 = 0x04000000;
 
 // How many words stand in the places; whether one found no place; and then how many words of its token are written.
-#[derive(Drop)]
+#[derive(Clone, Copy)]
 pub struct Put {
     pub count: usize,
     pub done: u64,

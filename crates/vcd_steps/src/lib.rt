@@ -8,7 +8,7 @@ use vcd_items::Item;
 use vcd_text::Number;
 
 // What the reader waits for.
-#[derive(Drop)]
+#[derive(Clone, Copy)]
 pub enum Mode {
     // a time, a change or a keyword
     Plain,
@@ -20,7 +20,7 @@ pub enum Mode {
 
 // Where the reader of the body stands: the place of the comment or change that it waits in, the place of the dump that it is
 // inside of, the time in units, and how many clocks were due up to that time.
-#[derive(Drop)]
+#[derive(Clone, Copy)]
 pub struct State {
     pub mark: usize,
     pub opened: usize,
@@ -31,7 +31,7 @@ pub struct State {
 }
 
 // What a token does.
-#[derive(Drop)]
+#[derive(Clone, Copy)]
 pub enum Step {
     // number and place
     Refused(u8, usize),
@@ -43,7 +43,7 @@ pub enum Step {
 }
 
 // The refusal at the end of the file, or number 0.
-#[derive(Drop)]
+#[derive(Clone, Copy)]
 pub struct Ending {
     pub place: usize,
     pub number: u8,

@@ -99,7 +99,7 @@ pub fn all_graphic(t: &[u8]) -> bool
 }
 
 // A decimal number of any length, or none.
-#[derive(Drop)]
+#[derive(Clone, Copy)]
 pub enum Number {
     Bad,
     // 2^64 or more

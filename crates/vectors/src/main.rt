@@ -6,7 +6,7 @@ use libc::{STDERR_FILENO, STDOUT_FILENO};
 use listing::{Progress, Verdict};
 
 // A listing so far, whether more of it may come, and whether a read failed.
-#[derive(Drop)]
+#[derive(Clone, Copy)]
 struct Turn {
     progress: Progress,
     more: bool,
@@ -62,7 +62,7 @@ fn print_number(n: u64) -> bool {
 }
 
 fn print_word(w: u32) -> bool {
-    let line = hex::hex_line(w);
+    let line = hex_digits::hex_line(w);
     print(&line[..8])
 }
 

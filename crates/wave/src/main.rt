@@ -10,7 +10,7 @@ use wave_run::Run;
 use wave_write::Writer;
 
 // Where the run stands, and whether another block may follow.
-#[derive(Drop)]
+#[derive(Clone, Copy)]
 struct Turn {
     run: Run,
     more: bool,

@@ -10,14 +10,14 @@ use chip::Chip;
 use wave_write::Writer;
 
 // Where a run stands: the chip after the words so far, and the writer of its dump.
-#[derive(Drop)]
+#[derive(Clone, Copy)]
 pub struct Run {
     pub chip: Chip,
     pub writer: Writer,
 }
 
 // Where a run stands after a block, and the place past what was written.
-#[derive(Drop)]
+#[derive(Clone, Copy)]
 pub struct BlockWritten {
     pub run: Run,
     pub next: usize,

@@ -11,14 +11,14 @@ ghost use Rattle.wave_write.specs.Wrote.{Wrote, fits as fits_in, event_bytes, mo
 
 // What is watched of a chip. Lines, a bit each from the lowest: RESET, P16, the SCL line, the SDA line, the requests V, E, R, A, D, S. Vectors, twelve
 // bits each from the lowest: IRQX, II STS, II DAT, HCNT, VCNT, the phase of the bus.
-#[derive(Drop)]
+#[derive(Clone, Copy)]
 pub struct Watch {
     pub levels: u16,
     pub vectors: u64,
 }
 
 // Where the writer stands: the 8 µs clocks so far, the events since the last one, and the lines and vectors that the dump tells.
-#[derive(Drop)]
+#[derive(Clone, Copy)]
 pub struct Writer {
     pub clocks: u64,
     pub since: u64,
@@ -26,7 +26,7 @@ pub struct Writer {
 }
 
 // Where the writer stands after a word, and the place past what it wrote.
-#[derive(Drop)]
+#[derive(Clone, Copy)]
 pub struct Written {
     pub writer: Writer,
     pub next: usize,

@@ -9,7 +9,7 @@ use why_last_set::Sort;
 use why_reasons::{Followed, Reason, Reasons};
 
 // What a block leaves, whether another may follow, and whether a read failed.
-#[derive(Drop)]
+#[derive(Clone, Copy)]
 struct Turn {
     followed: Followed,
     more: bool,

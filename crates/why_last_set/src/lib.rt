@@ -8,7 +8,7 @@ use chip::Core;
 use registers::{INTA, INTD, INTE, INTR, INTS, INTV};
 
 // The sorts of events that set a flag. That of a matched address tells which of the chip's addresses it was (Wish 12).
-#[derive(Drop)]
+#[derive(Clone, Copy)]
 pub enum Sort {
     VsyncRise,
     P16Rise,
@@ -20,14 +20,14 @@ pub enum Sort {
 }
 
 // The last change of a flag from 0 to 1: there was none, or the place of the word and the sort of its event.
-#[derive(Drop)]
+#[derive(Clone, Copy)]
 pub enum Last {
     Never,
     At(u64, Sort),
 }
 
 // The last change of each flag, a field for each source.
-#[derive(Drop)]
+#[derive(Clone, Copy)]
 pub struct LastSet {
     pub v: Last,
     pub e: Last,

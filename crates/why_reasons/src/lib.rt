@@ -9,7 +9,7 @@ use why_last_set::{Last, LastSet, Sort};
 
 // Why a source's line is as it is: it is not up; its flag stands since the start; or which event last set the flag, by its place and
 // its sort.
-#[derive(Drop)]
+#[derive(Clone, Copy)]
 pub enum Reason {
     NotRequested,
     AlreadySet,
@@ -17,7 +17,7 @@ pub enum Reason {
 }
 
 // A reason for each source.
-#[derive(Drop)]
+#[derive(Clone, Copy)]
 pub struct Reasons {
     pub v: Reason,
     pub e: Reason,
@@ -28,14 +28,14 @@ pub struct Reasons {
 }
 
 // What is told of a state and a list: that the state is ill formed, or the six reasons.
-#[derive(Drop)]
+#[derive(Clone, Copy)]
 pub enum Explanation {
     IllFormed,
     Told(Reasons),
 }
 
 // What is kept on the way through the words: the chip, the place of the next word, and the last change of each flag.
-#[derive(Drop)]
+#[derive(Clone, Copy)]
 pub struct Followed {
     pub chip: Chip,
     pub place: u64,

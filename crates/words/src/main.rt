@@ -7,7 +7,7 @@ use libc::{STDERR_FILENO, STDIN_FILENO, STDOUT_FILENO};
 use line_tokens::{Scanner, Token};
 
 // The line that is being read, its number, and whether another byte is worth reading.
-#[derive(Drop)]
+#[derive(Clone, Copy)]
 struct Turn {
     scanner: Scanner,
     case: Case,

@@ -4,7 +4,7 @@ use mathlib.Core.Path.{sym, ap}
 use native.Mathlib.Omega.{arith}
 use lib.ListN.{length}
 use lib.Seq.{length-take-le}
-use Rattle.hex.proofs.Line.{length_line}
+use Rattle.hex_digits.proofs.Line.{length_line}
 use borrow.Author.Rules.{rules}
 use Rattle.counters6862.proofs.print_half.Statement.{statement}
 use Rattle.counters6862.proofs.print_half.Tie as tie

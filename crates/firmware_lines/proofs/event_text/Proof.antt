@@ -1,6 +1,6 @@
 -- `firmware_lines::event_text` meets its contract.
 -- Assumes nothing.
-use Rattle.hex.specs.Hex.{hex_line}
+use Rattle.hex_digits.specs.Hex.{hex_line}
 use Rattle.firmware_lines.specs.Lines.{event_text}
 use borrow.Author.Rules.{rules}
 use Rattle.firmware_lines.proofs.event_text.Statement.{statement}

@@ -6,8 +6,8 @@ use Prim.Native.Nat.{ℕ, ◌+◌, ◌-◌}
 use native.Mathlib.Omega.{arith}
 use lib.ListN.{length, take, drop}
 use borrow.Rule.Slice.PartMut.{put_mid}
-use Rattle.hex.specs.Hex.{hex_line}
-use Rattle.hex.proofs.Line.{length_line}
+use Rattle.hex_digits.specs.Hex.{hex_line}
+use Rattle.hex_digits.proofs.Line.{length_line}
 use Rattle.list_laws.proofs.Place.{placed_as}
 use borrow.Author.Rules.{rules}
 use Rattle.replay_text.proofs.put_line.Statement.{statement}

@@ -1,0 +1,17 @@
+-- `hex::hex_digit` meets its contract.
+-- Assumes nothing.
+use borrow.Author.Rules.{rules}
+use borrow.Author.Tests.{lt-ltb, le-ltb}
+use Rattle.hex_digits.proofs.hex_digit.Statement.{statement}
+use Rattle.hex_digits.proofs.hex_digit.Tie as tie
+
+pub hex_digit_spec : {M : Type 1} → statement M
+hex_digit_spec =
+    tie.close
+    (tie.spec
+    (λ c. search rules)
+    (λ c. search rules)
+    (λ c. search rules)
+    (λ c. search rules)
+    (λ c. simp (lt-ltb _ _ c.if1.true))
+    (λ c. simp (le-ltb _ _ c.if1.false)))
