@@ -77,12 +77,42 @@ def has_comma(text):
 
 
 def plain(name):
-    name = name.replace("-", "_")
-    return re.sub(r"_lem$", "", name)
+    name = name.replace("-", "_").lower()
+    return re.sub(r"_(\d+)$", r"\1", re.sub(r"_lem$", "", name))
+
+
+CLAUSES = {}
+
+
+def clauses_of(crate):
+    """The names of the clauses of each function of a crate that has several of a kind."""
+    if crate not in CLAUSES:
+        found = {}
+        for folder, _, files in os.walk(f"crates/{crate}/src"):
+            for f in files:
+                with open(os.path.join(folder, f), encoding="utf-8") as it:
+                    for m in re.finditer(r"\bfn (\w+)(.*?)^\s*\{", it.read(), re.M | re.S):
+                        for kind in ("requires", "ensures"):
+                            names = re.findall(kind + r" (\w+) \{", m[2])
+                            if len(names) > 1:
+                                found[m[1], kind] = names
+        CLAUSES[crate] = found
+    return CLAUSES[crate]
+
+
+def named(callee, rest):
+    """Clauses that had a number have a name."""
+    if callee and "::" in callee and len(rest) > 1 and rest[0] in ("ensures", "requires") and rest[1].isdigit():
+        parts = callee.split("::")
+        names = clauses_of(parts[0]).get((parts[-1], rest[0]), [])
+        if int(rest[1]) < len(names):
+            return [rest[0], names[int(rest[1])]] + rest[2:]
+    return rest
 
 
 class Function:
-    def __init__(self, data):
+    def __init__(self, data, name=""):
+        self.name = name
         self.places = {}
         self.order = []
         for i, (name, parent, step, callee, extra) in enumerate(data["places"]):
@@ -102,23 +132,23 @@ class Function:
             place = parent
         return place
 
-    def step(self, place, name, rest):
-        """Today's path of a field of a step at a place or above it."""
+    def step(self, asked, place, name, rest):
+        """Today's path of a field of a step at a place or above it, for an answer asked further down."""
+        for own in (False, True):
+            at = asked
+            while at is not None:
+                arm = self.places[at][3]
+                for field, step, path in arm[2] if arm else []:
+                    if plain(step) == plain(name) and field.endswith("-own") == own and rest[: len(path)] == path:
+                        return [arm[0], field] + rest[len(path) :]
+                at = self.places[at][0]
         while place is not None:
             parent, (old, new), callee, arm, extra = self.places[place]
-            if arm:
-                fields = arm[2]
-                for field, step, path in fields:
-                    if plain(step) == plain(name) and not field.endswith("-own") and rest[: len(path)] == path:
-                        return [arm[0], field] + rest[len(path) :]
-                for field, step, path in fields:
-                    if plain(step) == plain(name) and field.endswith("-own") and rest[: len(path)] == path:
-                        return [arm[0], field] + rest[len(path) :]
             if plain(old) == plain(name):
                 if rest[:1] == ["new"] and len(rest) > 1 and rest[1].isdigit() and callee in self.params:
                     names = self.params[callee]
                     rest = ["new", names[int(rest[1])] if int(rest[1]) < len(names) else rest[1]] + rest[2:]
-                return [new] + rest
+                return [new] + named(callee, rest)
             place = parent
         return None
 
@@ -146,8 +176,8 @@ def turn(term, fn, place, known=None, said=None):
         if not rest:
             return "c"
         if rest[0] in ("args", "requires", "ranges", "well_formed", "lifetimes", "type_inv", "auto"):
-            return "c." + ".".join(rest)
-        found = fn.step(at, rest[0], rest[1:])
+            return "c." + ".".join(named(fn.name, rest))
+        found = fn.step(place, at, rest[0], rest[1:])
         if found is None:
             if said is not None:
                 said.append(f"no step for {m[0]} at {at}")
@@ -208,7 +238,7 @@ def imports(text, lines):
 
 def convert(crate, name, data, path):
     """The files of one function, or what hinders."""
-    fn = Function(data)
+    fn = Function(data, f"{crate}::{name}")
     with open(path, encoding="utf-8") as f:
         text = f.read()
     head = [l for l in text.split("\n") if l.startswith("--")]

@@ -68,7 +68,7 @@ fn ram_of(area: &[u8]) -> [u8; 256]
     ensures { result ≡ area.now }
 {
     let mut bytes = [0u8; 256];
-    bytes::copy(area, &mut bytes);
+    byte_copy::copy(area, &mut bytes);
     bytes
 }
 
@@ -76,7 +76,7 @@ fn keep_ram(area: &mut [u8], ram: &[u8; 256])
     requires { length area.old ≡ 256 }
     ensures { area.new ≡ ram.now }
 {
-    bytes::copy(ram, area);
+    byte_copy::copy(ram, area);
 }
 
 fn keep_chip(area: &mut [u8], c: Chip)

@@ -1,6 +1,8 @@
-// Reading standard input in full blocks, with the end told from a failure.
+// Reading an input in full blocks, with the end told from a failure.
 #![tactic(auto)]
-ghost use Rattle.io.specs.Counts.{IsPrefixLen};
+ghost use Rattle.std.specs.Counts.{IsPrefixLen};
+
+use std::io::Read;
 
 // The bytes read, and whether a read failed.
 #[derive(Clone, Copy)]
@@ -10,26 +12,28 @@ pub struct Filled {
 }
 
 // Reads until the buffer is full, the input ends or a read fails. A read that a signal interrupts counts as failed.
-pub fn fill(fd: i32, buf: &mut [u8]) -> Filled
+pub fn fill<R: Read>(from: &mut R, buf: &mut [u8]) -> Filled
     ensures { IsPrefixLen result.count buf.new }
 {
     let mut done = 0;
     while done < buf.len() {
-        let got = libc::read(fd, &mut buf[done..]);
-        if got < 0 {
-            return Filled {
-                count: done,
-                failed: true,
-            };
+        match from.read(&mut buf[done..]) {
+            Ok(n) => {
+                if n == 0 {
+                    return Filled {
+                        count: done,
+                        failed: false,
+                    };
+                }
+                done += n;
+            }
+            Err(_) => {
+                return Filled {
+                    count: done,
+                    failed: true,
+                };
+            }
         }
-        let n = io::count(got, &buf[done..]);
-        if n == 0 {
-            return Filled {
-                count: done,
-                failed: false,
-            };
-        }
-        done += n;
     }
     Filled {
         count: done,

@@ -69,5 +69,5 @@ pub fn write_line(tokens: &[u64], out: &mut [u8]) -> usize
     if out.len() < end - 1 {
         return 0;
     }
-    bytes::copy(&text[1..end], out)
+    byte_copy::copy(&text[1..end], out)
 }

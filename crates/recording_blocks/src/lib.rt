@@ -72,7 +72,7 @@ fn put_four(area: &mut [u8], at: usize, n: u32)
     ensures { area.new ≡ take at area.old ++ (four_bytes n ++ drop (at + 4) area.old) }
 {
     let four = four_bytes(n);
-    bytes::copy(&four, &mut area[at..]);
+    byte_copy::copy(&four, &mut area[at..]);
 }
 
 // ---- the writer

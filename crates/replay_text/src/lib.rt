@@ -29,7 +29,7 @@ fn put_line(text: &mut [u8], at: usize, a: u32)
     ensures { text.new ≡ take at text.old ++ (hex_line a ++ drop (at + 9) text.old) }
 {
     let line = hex_digits::hex_line(a);
-    bytes::copy(&line, &mut text[at..]);
+    byte_copy::copy(&line, &mut text[at..]);
 }
 
 fn widened(x: u8) -> u32

@@ -70,7 +70,7 @@ fn taken(area: &[u8]) -> [u8; 128]
     ensures { result ≡ area.now }
 {
     let mut bytes = [0u8; 128];
-    bytes::copy(area, &mut bytes);
+    byte_copy::copy(area, &mut bytes);
     bytes
 }
 
@@ -91,7 +91,7 @@ fn cover(area: &mut [u8], bytes: &[u8])
     requires { length bytes.now ≡ length area.old }
     ensures { area.new ≡ bytes.now }
 {
-    bytes::copy(bytes, area);
+    byte_copy::copy(bytes, area);
 }
 
 // The bytes of a state into an area of 128, which is not tested: for a caller who has a well formed one. Another area stays as it is.

@@ -213,7 +213,7 @@ fn put_at(area: &mut [u8], at: usize, part: &[u8])
     requires { at + length part.now ≤ length area.old }
     ensures { area.new ≡ take at area.old ++ (part.now ++ drop (at + length part.now) area.old) }
 {
-    bytes::copy(part, &mut area[at..]);
+    byte_copy::copy(part, &mut area[at..]);
 }
 
 // The bytes of a state: its core, zeros, and its 38 stored registers at the end.
@@ -224,7 +224,7 @@ pub fn bytes_of(c: Chip) -> [u8; 128]
     let front = core_bytes(core);
     let registers = c.registers;
     let mut out = [0u8; 128];
-    bytes::copy(&front, &mut out);
+    byte_copy::copy(&front, &mut out);
     put_at(&mut out, 90, &registers);
     out
 }
@@ -297,7 +297,7 @@ fn registers_of(area: &[u8]) -> [u8; 38]
     ensures { result ≡ drop 90 area.now }
 {
     let mut registers = [0u8; 38];
-    bytes::copy(&area[90..], &mut registers);
+    byte_copy::copy(&area[90..], &mut registers);
     registers
 }
 

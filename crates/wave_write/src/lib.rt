@@ -411,7 +411,7 @@ fn begin_all(out: &mut [u8], pins: u8, watch: Watch) -> usize
     requires { 753 ≤ length out.old }
     ensures { Wrote out.old 0 (header_text ++ (10 ∷ text (begin_lines pins watch))) out.new result }
 {
-    bytes::copy(
+    byte_copy::copy(
         b"$timescale 1 ns $end\n$scope module NT6861 $end\n$var wire 1 a SDA $end\n$var wire 1 b SCL $end\n$var wire 1 c HSYNCI $end\n$var wire 1 d VSYNCI $end\n$var wire 1 A RESET $end\n$var wire 1 B P16 $end\n$var wire 1 C SCL_line $end\n$var wire 1 D SDA_line $end\n$var wire 1 E REQ_V $end\n$var wire 1 F REQ_E $end\n$var wire 1 G REQ_R $end\n$var wire 1 H REQ_A $end\n$var wire 1 I REQ_D $end\n$var wire 1 J REQ_S $end\n$var wire 8 K IRQX $end\n$var wire 8 L II_STS $end\n$var wire 8 M II_DAT $end\n$var wire 12 N HCNT $end\n$var wire 12 O VCNT $end\n$var wire 3 P PHASE $end\n$upscope $end\n$enddefinitions $end\n",
         out,
     );

@@ -103,8 +103,8 @@ returns-in-23 c = simp (mask_choice_lem, c.in-23.is)
 
 pub returns-in-24-to-37 : goal.returns-in-24-to-37
 unfolding mask_choice
-returns-in-24-to-37 c = simp (mask_choice_lem, lt-ltb _ _ c.in-24-to-37.if-address-lt38-own.true, ne_eqb _ _ c.in_default-1.rest.1, ne_eqb _ _ c.in_default-1.rest.0.1, ne_eqb _ _ c.in_default-1.rest.0.0.1, ne_eqb _ _ c.in_default-1.rest.0.0.0.1, ne_eqb _ _ c.in_default-1.rest.0.0.0.0.1, ne_eqb _ _ c.in_default-1.rest.0.0.0.0.0.1, ne_eqb _ _ c.in_default-1.rest.0.0.0.0.0.0.1, ne_eqb _ _ c.in_default-1.rest.0.0.0.0.0.0.0.1, ne_eqb _ _ c.in_default-1.rest.0.0.0.0.0.0.0.0.1, ne_eqb _ _ c.in_default-1.rest.0.0.0.0.0.0.0.0.0.1, ne_eqb _ _ c.in_default-1.rest.0.0.0.0.0.0.0.0.0.0.1, ne_eqb _ _ c.in_default-1.rest.0.0.0.0.0.0.0.0.0.0.0.1, ne_eqb _ _ c.in_default-1.rest.0.0.0.0.0.0.0.0.0.0.0.0.1, ne_eqb _ _ c.in_default-1.rest.0.0.0.0.0.0.0.0.0.0.0.0.0.1, ne_eqb _ _ c.in_default-1.rest.0.0.0.0.0.0.0.0.0.0.0.0.0.0.1, ne_eqb _ _ c.in_default-1.rest.0.0.0.0.0.0.0.0.0.0.0.0.0.0.0.1, ne_eqb _ _ c.in_default-1.rest.0.0.0.0.0.0.0.0.0.0.0.0.0.0.0.0.1, ne_eqb _ _ c.in_default-1.rest.0.0.0.0.0.0.0.0.0.0.0.0.0.0.0.0.0.1, ne_eqb _ _ c.in_default-1.rest.0.0.0.0.0.0.0.0.0.0.0.0.0.0.0.0.0.0.1, ne_eqb _ _ c.in_default-1.rest.0.0.0.0.0.0.0.0.0.0.0.0.0.0.0.0.0.0.0.1, ne_eqb _ _ c.in_default-1.rest.0.0.0.0.0.0.0.0.0.0.0.0.0.0.0.0.0.0.0.0.1, ne_eqb _ _ c.in_default-1.rest.0.0.0.0.0.0.0.0.0.0.0.0.0.0.0.0.0.0.0.0.0.1, ne_eqb _ _ c.in_default-1.rest.0.0.0.0.0.0.0.0.0.0.0.0.0.0.0.0.0.0.0.0.0.0.1, ne_eqb _ _ c.in_default-1.rest.0.0.0.0.0.0.0.0.0.0.0.0.0.0.0.0.0.0.0.0.0.0.0.1)
+returns-in-24-to-37 c = simp (mask_choice_lem, lt-ltb _ _ c.in-24-to-37.if-address-lt38-own.true, ne_eqb _ _ c.in-24-to-37.in_default-own.rest.1, ne_eqb _ _ c.in-24-to-37.in_default-own.rest.0.1, ne_eqb _ _ c.in-24-to-37.in_default-own.rest.0.0.1, ne_eqb _ _ c.in-24-to-37.in_default-own.rest.0.0.0.1, ne_eqb _ _ c.in-24-to-37.in_default-own.rest.0.0.0.0.1, ne_eqb _ _ c.in-24-to-37.in_default-own.rest.0.0.0.0.0.1, ne_eqb _ _ c.in-24-to-37.in_default-own.rest.0.0.0.0.0.0.1, ne_eqb _ _ c.in-24-to-37.in_default-own.rest.0.0.0.0.0.0.0.1, ne_eqb _ _ c.in-24-to-37.in_default-own.rest.0.0.0.0.0.0.0.0.1, ne_eqb _ _ c.in-24-to-37.in_default-own.rest.0.0.0.0.0.0.0.0.0.1, ne_eqb _ _ c.in-24-to-37.in_default-own.rest.0.0.0.0.0.0.0.0.0.0.1, ne_eqb _ _ c.in-24-to-37.in_default-own.rest.0.0.0.0.0.0.0.0.0.0.0.1, ne_eqb _ _ c.in-24-to-37.in_default-own.rest.0.0.0.0.0.0.0.0.0.0.0.0.1, ne_eqb _ _ c.in-24-to-37.in_default-own.rest.0.0.0.0.0.0.0.0.0.0.0.0.0.1, ne_eqb _ _ c.in-24-to-37.in_default-own.rest.0.0.0.0.0.0.0.0.0.0.0.0.0.0.1, ne_eqb _ _ c.in-24-to-37.in_default-own.rest.0.0.0.0.0.0.0.0.0.0.0.0.0.0.0.1, ne_eqb _ _ c.in-24-to-37.in_default-own.rest.0.0.0.0.0.0.0.0.0.0.0.0.0.0.0.0.1, ne_eqb _ _ c.in-24-to-37.in_default-own.rest.0.0.0.0.0.0.0.0.0.0.0.0.0.0.0.0.0.1, ne_eqb _ _ c.in-24-to-37.in_default-own.rest.0.0.0.0.0.0.0.0.0.0.0.0.0.0.0.0.0.0.1, ne_eqb _ _ c.in-24-to-37.in_default-own.rest.0.0.0.0.0.0.0.0.0.0.0.0.0.0.0.0.0.0.0.1, ne_eqb _ _ c.in-24-to-37.in_default-own.rest.0.0.0.0.0.0.0.0.0.0.0.0.0.0.0.0.0.0.0.0.1, ne_eqb _ _ c.in-24-to-37.in_default-own.rest.0.0.0.0.0.0.0.0.0.0.0.0.0.0.0.0.0.0.0.0.0.1, ne_eqb _ _ c.in-24-to-37.in_default-own.rest.0.0.0.0.0.0.0.0.0.0.0.0.0.0.0.0.0.0.0.0.0.0.1, ne_eqb _ _ c.in-24-to-37.in_default-own.rest.0.0.0.0.0.0.0.0.0.0.0.0.0.0.0.0.0.0.0.0.0.0.0.1)
 
 pub returns-in_default : goal.returns-in_default
 unfolding mask_choice
-returns-in_default c = simp (mask_choice_lem, le-ltb _ _ c.in_default.if-address-lt38-own.false, ne_eqb _ _ c.in_default-1.rest.1, ne_eqb _ _ c.in_default-1.rest.0.1, ne_eqb _ _ c.in_default-1.rest.0.0.1, ne_eqb _ _ c.in_default-1.rest.0.0.0.1, ne_eqb _ _ c.in_default-1.rest.0.0.0.0.1, ne_eqb _ _ c.in_default-1.rest.0.0.0.0.0.1, ne_eqb _ _ c.in_default-1.rest.0.0.0.0.0.0.1, ne_eqb _ _ c.in_default-1.rest.0.0.0.0.0.0.0.1, ne_eqb _ _ c.in_default-1.rest.0.0.0.0.0.0.0.0.1, ne_eqb _ _ c.in_default-1.rest.0.0.0.0.0.0.0.0.0.1, ne_eqb _ _ c.in_default-1.rest.0.0.0.0.0.0.0.0.0.0.1, ne_eqb _ _ c.in_default-1.rest.0.0.0.0.0.0.0.0.0.0.0.1, ne_eqb _ _ c.in_default-1.rest.0.0.0.0.0.0.0.0.0.0.0.0.1, ne_eqb _ _ c.in_default-1.rest.0.0.0.0.0.0.0.0.0.0.0.0.0.1, ne_eqb _ _ c.in_default-1.rest.0.0.0.0.0.0.0.0.0.0.0.0.0.0.1, ne_eqb _ _ c.in_default-1.rest.0.0.0.0.0.0.0.0.0.0.0.0.0.0.0.1, ne_eqb _ _ c.in_default-1.rest.0.0.0.0.0.0.0.0.0.0.0.0.0.0.0.0.1, ne_eqb _ _ c.in_default-1.rest.0.0.0.0.0.0.0.0.0.0.0.0.0.0.0.0.0.1, ne_eqb _ _ c.in_default-1.rest.0.0.0.0.0.0.0.0.0.0.0.0.0.0.0.0.0.0.1, ne_eqb _ _ c.in_default-1.rest.0.0.0.0.0.0.0.0.0.0.0.0.0.0.0.0.0.0.0.1, ne_eqb _ _ c.in_default-1.rest.0.0.0.0.0.0.0.0.0.0.0.0.0.0.0.0.0.0.0.0.1, ne_eqb _ _ c.in_default-1.rest.0.0.0.0.0.0.0.0.0.0.0.0.0.0.0.0.0.0.0.0.0.1, ne_eqb _ _ c.in_default-1.rest.0.0.0.0.0.0.0.0.0.0.0.0.0.0.0.0.0.0.0.0.0.0.1, ne_eqb _ _ c.in_default-1.rest.0.0.0.0.0.0.0.0.0.0.0.0.0.0.0.0.0.0.0.0.0.0.0.1)
+returns-in_default c = simp (mask_choice_lem, le-ltb _ _ c.in_default.if-address-lt38-own.false, ne_eqb _ _ c.in_default.in_default-own.rest.1, ne_eqb _ _ c.in_default.in_default-own.rest.0.1, ne_eqb _ _ c.in_default.in_default-own.rest.0.0.1, ne_eqb _ _ c.in_default.in_default-own.rest.0.0.0.1, ne_eqb _ _ c.in_default.in_default-own.rest.0.0.0.0.1, ne_eqb _ _ c.in_default.in_default-own.rest.0.0.0.0.0.1, ne_eqb _ _ c.in_default.in_default-own.rest.0.0.0.0.0.0.1, ne_eqb _ _ c.in_default.in_default-own.rest.0.0.0.0.0.0.0.1, ne_eqb _ _ c.in_default.in_default-own.rest.0.0.0.0.0.0.0.0.1, ne_eqb _ _ c.in_default.in_default-own.rest.0.0.0.0.0.0.0.0.0.1, ne_eqb _ _ c.in_default.in_default-own.rest.0.0.0.0.0.0.0.0.0.0.1, ne_eqb _ _ c.in_default.in_default-own.rest.0.0.0.0.0.0.0.0.0.0.0.1, ne_eqb _ _ c.in_default.in_default-own.rest.0.0.0.0.0.0.0.0.0.0.0.0.1, ne_eqb _ _ c.in_default.in_default-own.rest.0.0.0.0.0.0.0.0.0.0.0.0.0.1, ne_eqb _ _ c.in_default.in_default-own.rest.0.0.0.0.0.0.0.0.0.0.0.0.0.0.1, ne_eqb _ _ c.in_default.in_default-own.rest.0.0.0.0.0.0.0.0.0.0.0.0.0.0.0.1, ne_eqb _ _ c.in_default.in_default-own.rest.0.0.0.0.0.0.0.0.0.0.0.0.0.0.0.0.1, ne_eqb _ _ c.in_default.in_default-own.rest.0.0.0.0.0.0.0.0.0.0.0.0.0.0.0.0.0.1, ne_eqb _ _ c.in_default.in_default-own.rest.0.0.0.0.0.0.0.0.0.0.0.0.0.0.0.0.0.0.1, ne_eqb _ _ c.in_default.in_default-own.rest.0.0.0.0.0.0.0.0.0.0.0.0.0.0.0.0.0.0.0.1, ne_eqb _ _ c.in_default.in_default-own.rest.0.0.0.0.0.0.0.0.0.0.0.0.0.0.0.0.0.0.0.0.1, ne_eqb _ _ c.in_default.in_default-own.rest.0.0.0.0.0.0.0.0.0.0.0.0.0.0.0.0.0.0.0.0.0.1, ne_eqb _ _ c.in_default.in_default-own.rest.0.0.0.0.0.0.0.0.0.0.0.0.0.0.0.0.0.0.0.0.0.0.1, ne_eqb _ _ c.in_default.in_default-own.rest.0.0.0.0.0.0.0.0.0.0.0.0.0.0.0.0.0.0.0.0.0.0.0.1)

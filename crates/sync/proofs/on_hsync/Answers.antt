@@ -9,4 +9,4 @@ step_lines-requires c = search rules
 
 pub returns : goal.returns
 unfolding on_hsync
-returns c = simp c.step_Lines.ensures
+returns c = simp c.step_lines.ensures

@@ -1,0 +1,13 @@
+// Bytes copied to the front of a longer slice, as many as there are.
+#![tactic(auto)]
+ghost use Rattle.std.specs.Prelude.{◌≡◌, ◌≤◌, ◌++◌, length, take, drop};
+
+// Copies `from` to the front of `to`, and gives its length.
+pub fn copy(from: &[u8], to: &mut [u8]) -> usize
+    requires { length from.now ≤ length to.old }
+    ensures { (result ≡ length from.now) × (to.new ≡ take (length from.now) from.now ++ drop (length from.now) to.old) }
+{
+    let n = from.len();
+    to[..n].copy_from_slice(from);
+    n
+}

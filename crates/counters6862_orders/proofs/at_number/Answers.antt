@@ -1,0 +1,27 @@
+-- `counters6862_orders::at_number` meets its contract.
+-- Assumes nothing.
+use Rattle.counters6862_orders.proofs.at_number.Goals as goal
+
+pub reader_at-requires : goal.reader_at-requires
+reader_at-requires c = tt
+
+pub grown-requires : goal.grown-requires
+grown-requires c = tt
+
+pub returns-in-Newline : goal.returns-in-Newline
+returns-in-Newline c = simp c.in-Newline.is
+
+pub returns-in-Blank : goal.returns-in-Blank
+returns-in-Blank c = simp (c.reader_at.ensures, c.in-Blank.is)
+
+pub returns-in-Hash : goal.returns-in-Hash
+returns-in-Hash c = simp c.in-Hash.is
+
+pub returns-in-Digit : goal.returns-in-Digit
+returns-in-Digit c = simp (c.grown.ensures, c.in-Digit.is)
+
+pub returns-in-Letter : goal.returns-in-Letter
+returns-in-Letter c = simp c.in-Letter.is
+
+pub returns-in-Other : goal.returns-in-Other
+returns-in-Other c = simp c.in-Other.is
