@@ -9,8 +9,8 @@ cd "$(dirname "$0")/.."
 turns=${1:-9}
 work=$(mktemp -d)
 trap 'rm -rf "$work"' EXIT
-rt check firmware > "$work/log" || { cat "$work/log"; exit 1; }
 source scripts/library.sh
+program firmware
 library chip_capi firmware_capi
 cargo build --offline --quiet --release --features proved,area --bin firmware_compare
 

@@ -6,7 +6,8 @@ cd "$(dirname "$0")/.."
 seed=${1:-1}
 work=$(mktemp -d)
 trap 'rm -rf "$work"' EXIT
-rt check replay record recording > "$work/log" || { cat "$work/log"; exit 1; }
+source scripts/library.sh
+program replay record recording
 cargo build --offline --quiet --release --bin model
 TIMEFORMAT='%U %S'
 

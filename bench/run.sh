@@ -8,7 +8,7 @@ work=$(mktemp -d)
 trap 'rm -rf "$work"' EXIT
 source scripts/library.sh
 bash scripts/check-instructions.sh
-rt check replay > "$work/log" || { cat "$work/log"; exit 1; }
+program replay
 library chip_capi
 cargo build --offline --quiet --release --features proved --bin bench --bin model
 model=target/cargo/release/model

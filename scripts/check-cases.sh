@@ -4,6 +4,8 @@
 # line, lines that are malformed, files that cannot be read.
 set -euo pipefail
 cd "$(dirname "$0")/.."
+source scripts/library.sh
+program words list_words check_cases
 work=$(mktemp -d)
 trap 'rm -rf "$work"' EXIT
 bad=0

@@ -8,6 +8,7 @@ work=$(mktemp -d)
 trap 'rm -rf "$work"' EXIT
 source scripts/library.sh
 library edid_capi
+program edid feed replay
 cargo test --offline --quiet --release --lib edid > "$work/log" 2>&1 || { cat "$work/log"; exit 1; }
 cargo build --offline --quiet --release --features proved --bin edid
 target/cargo/release/edid

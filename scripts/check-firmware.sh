@@ -88,7 +88,7 @@ done
 same "$work/random.rom" 1 "$work/malformed"
 
 # the call for C, beside the same core
-if grep -q '^firmware_capi:' crates.txt; then
+if grep -qE '^firmware_capi( staticlib)?:' crates.txt; then
     library firmware_capi
     cargo build --offline --quiet --release --features proved,area --bin firmware_compare
     target/cargo/release/firmware_compare
@@ -106,7 +106,7 @@ hosted() {
     # shellcheck disable=SC2053
     [ "$status" = "$1" ] && [[ $(cat "$work/said") == $2 ]] || fail "${*:3}: status $status, told: $(cat "$work/said")"
 }
-if grep -q '^firmware_capi:' crates.txt; then
+if grep -qE '^firmware_capi( staticlib)?:' crates.txt; then
     front hosted firmware_capi chip_capi
     hosts=0
     while read -r image list count; do

@@ -13,12 +13,13 @@ refused=0
 # ---- the copy: checks that print what the list asks of them, and not more
 copy() {
     rm -rf "$work/copy" "$work/stand-in"
-    mkdir -p "$work/copy/crates/replay/src" "$work/stand-in"
+    mkdir -p "$work/copy/crates/replay/src" "$work/copy/crates/one_capi/src" "$work/stand-in"
     cp -r "$repository/.ci" "$repository/scripts" "$repository/toolchain.txt" "$work/copy"
     rm -f "$work/copy/scripts/"check-*.sh
     cd "$work/copy"
-    echo 'replay:' > crates.txt
+    printf '%s\n' 'replay:' 'one_capi staticlib:' > crates.txt
     echo '// replay' > crates/replay/src/main.rt
+    echo '// one_capi' > crates/one_capi/src/lib.rt
     python3 - << 'PYTHON'
 import pathlib, re
 name = None
@@ -35,6 +36,9 @@ for line in pathlib.Path('scripts/checks.txt').read_text().split('\n'):
 pathlib.Path('scripts/rt-ci').replace('../stand-in/last')
 PYTHON
     sed -i '/^cat\|^END_OF_LINE/d' ../stand-in/last
+    # what `rt ci` says of edits stands in a longer line
+    sed -nE 's/^(must-fail edits: [0-9]+ refused), 0 bad$/rt: ok; handles allowed: none; \1; every proof and must-fail edit was done in this run/p' ../stand-in/last > ../stand-in/ok
+    sed -i '/^must-fail edits:/d' ../stand-in/last
     sed -n 's/^rt //p' toolchain.txt > ../stand-in/kit
     echo 1.95.0 > ../stand-in/cargo-version
     echo 0 > ../stand-in/status
@@ -45,17 +49,19 @@ here=$(dirname "$(readlink -f "$0")")
 case $1 in
 version) cat "$here/kit" ;;
 ci)
-    rm -rf target
-    mkdir -p target/log target/bin
-    echo program > target/bin/replay
+    [ "$#" = 1 ] || exit 9
+    mkdir -p crates/replay/out
+    echo program > crates/replay/out/replay
     source "$here/hook"
-    echo "rt: ok"
-    cat "$here/last"
+    cat "$here/ok" "$here/last"
     exit "$(cat "$here/status")"
     ;;
-fmt) [ ! -e "$here/unformatted" ] ;;
 esac
 END_OF_RT
+    # the prover of the kit, which builds what is linked
+    mkdir -p "$work/bin"
+    printf '#!/bin/sh\nwhile [ "$1" != -o ]; do shift; done\n[ ! -e "%s/unbuilt" ] || exit 1\necho library > "$2"\n' "$work/stand-in" > "$work/bin/rattle"
+    chmod +x "$work/bin/rattle"
     cat > ../stand-in/cargo << 'END_OF_CARGO'
 #!/usr/bin/env bash
 [ "$1" != --version ] || echo "cargo $(cat "$(dirname "$(readlink -f "$0")")/cargo-version") (stand-in)"
@@ -127,12 +133,18 @@ refuses "no toolchain named" 'toolchain.txt names' ': > toolchain.txt'
 refuses "an older cargo" 'or later is needed' 'echo 1.81.0 > ../stand-in/cargo-version'
 passes "the oldest cargo" 'echo 1.82.0 > ../stand-in/cargo-version'
 passes "a cargo of three digits" 'echo 1.100.0 > ../stand-in/cargo-version'
-refuses "files that are not in the layout" 'not in the layout' 'touch ../stand-in/unformatted'
+refuses "an edit that cannot be made" 'a must-fail edit is bad' 'sed -i "s/ refused; /&1 bad; /; s/ refused; 1 bad/ refused, 1 bad/" ../stand-in/ok'
+refuses "an edit less" 'the gate fails: rt-ci' 'sed -i "s/edits: [0-9]* refused/edits: 5 refused/" ../stand-in/ok'
+refuses "nothing said of edits" 'says nothing of must-fail edits' 'echo "rt: ok; handles allowed: none; every proof was done in this run" > ../stand-in/ok'
+refuses "no program left" 'left no crates/replay/out/replay' 'echo "rm crates/replay/out/replay" > ../stand-in/hook'
+passes "with a static library that is not built so" 'touch ../stand-in/unbuilt'
+passes "with libraries of an earlier run" 'mkdir -p crates/one_capi/out/rlib; touch ../stand-in/unbuilt'
 refuses "rt ci fails" '1 failed' 'echo 1 > ../stand-in/status; echo "399 passed, 1 failed" > ../stand-in/last'
-refuses "rt ci says that one failed" 'the gate fails: rt-ci' 'echo "399 passed, 1 failed" > ../stand-in/last'
+refuses "rt ci says that one failed" "the gate fails: the last line of rt ci is" 'echo "399 passed, 1 failed" > ../stand-in/last'
 refuses "rt ci passes nothing" 'the gate fails: rt-ci' 'echo "0 passed, 0 failed" > ../stand-in/last'
 refuses "rt ci says nothing" 'the gate fails' ': > ../stand-in/last'
 refuses "an edit during the proof" 'have changed while they were proved' 'echo "echo // edited >> crates/replay/src/main.rt" > ../stand-in/hook'
+refuses "an edit of what a static library is made of" 'have changed while they were proved' 'echo "echo // edited >> crates/one_capi/src/lib.rt" > ../stand-in/hook'
 
 # ---- the environment
 environment=(COUNT=0 PAIRS=0 SEED=9 SHEET=/dev/null VECTORS=/tmp CARGO_TARGET_DIR=/tmp/elsewhere RT_CUT=1 'BASH_FUNC_cat%%=() { :; }')

@@ -35,7 +35,7 @@ for one in static shared used; do
     diff "$work/declared" "$work/$one" || fail "the calls of include/nt6861.h (<) and what is $one (>) differ"
 done
 parts=$(ar t target/lib/libnt6861.a | wc -l)
-[ "$parts" = "$(grep -c '^[a-z0-9_]*_capi:' crates.txt)" ] || fail "libnt6861.a has $parts objects"
+[ "$parts" = "$(source scripts/made.sh && interface_crates | wc -l)" ] || fail "libnt6861.a has $parts objects"
 version=$(sed -n 's/^version = "\(.*\)"$/\1/p' bindings/python/pyproject.toml)
 [ -f "target/lib/libnt6861.so.$version" ] || fail "there is no libnt6861.so.$version"
 readelf -dW target/lib/libnt6861.so > "$work/dynamic"

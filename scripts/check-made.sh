@@ -37,60 +37,68 @@ cp commands/vcd.rs commands/vcd_link.rs commands/descriptors.rs "$tree/commands"
 cat > "$tree/crates.txt" << 'END_OF_CRATES'
 # a comment
 bits:
-hex: bits
-replay: hex bits io os libc
-edid: bits io
-feed: bits io
-record: bits io
-counters6862: bits io
-firmware: bits io os
-vcd_capi: bits
+hex_digits: bits
+replay: hex_digits bits
+edid: bits
+feed: bits
+record: bits
+counters6862: bits
+firmware: bits
+vcd_capi staticlib: bits
 other:
 END_OF_CRATES
-for crate in bits hex replay edid feed record counters6862 firmware vcd_capi other; do
+for crate in bits hex_digits replay edid feed record counters6862 firmware vcd_capi other; do
     mkdir -p "$tree/crates/$crate/src"
     echo "// $crate" > "$tree/crates/$crate/src/lib.rt"
 done
 
-# A crate is proved in CRATE_TIME seconds; the hook is run at each; a program is the text in $work/programs with a line of its sources.
+# A crate is proved in CRATE_TIME seconds; the hook is run at each; a program is the text in $work/programs with a line of its sources. As `rt run` it
+# leaves a stamp beside a program that is proved and built, and ends with the program's own status, here always 3.
 cat > "$work/bin/rt" << 'END_OF_RT'
 #!/usr/bin/env bash
 [ "$1" != version ] || { echo "${KIT:-kit 1}"; exit; }
-mkdir -p target/log target/bin target/stamp target/staticlib
-echo "$*" >> "$WORK/calls"
+name=$(basename "$PWD")
+cd ../..
+[ "$#" = 1 ] && [ "$PWD" = "$WORK/tree" ] || echo "rt $* in $PWD/crates/$name" >> "$WORK/calls"
+[ "$1" != run ] || exec 1>&2
+echo "$1 $name" >> "$WORK/calls"
 [ ! -e "$WORK/busy" ] || echo "two at once" >> "$WORK/calls"
 touch "$WORK/busy"
 trap 'rm -f "$WORK/busy"' EXIT
-for crate in bits hex $2; do
+for crate in bits hex_digits "$name"; do
+    out=crates/$crate/out
+    mkdir -p "$out"
     sum=$(cat "crates/$crate"/src/* | sha256sum)
-    [ "$(cat "target/stamp/$crate" 2> /dev/null)" != "$sum" ] || continue
-    echo failed > "target/log/$crate.res"
-    rm -f "target/stamp/$crate"
+    [ "$crate" = "$name" ] || [ "$(cat "$out/stamp" 2> /dev/null)" != "$sum" ] || continue
+    echo "rt: chose --jobs 2 for $crate"
+    rm -f "$out/stamp"
     [ -z "${CRATE_TIME:-}" ] || { sleep "$CRATE_TIME" & echo $! >> "$WORK/started"; wait $!; }
     [ -z "${HOOK:-}" ] || eval "$HOOK"
     case ${REFUSED:-} in
     "$crate")
-        echo "crates/hex_digits/proofs/hex_line/Proof.antt:9:1: error: the goal does not follow"
-        echo "crates/hex_digits/proofs/hex_line/Proof.antt:12:1: error: another"
-        echo "rt: $crate NOT PROVED (exit 1, 3 s)"
+        echo "./proofs/hex_line/Answers.antt:9:1: error: the goal does not follow"
+        echo "./proofs/hex_line/Answers.antt:12:1: error: another"
+        echo "logic=not-proved"
         exit 1
         ;;
     full)
-        echo "rattle: cannot write target/rlib/$crate.rlib: No space left on device"
+        echo "rattle: cannot write out/rlib/$crate.rlib: No space left on device"
         exit 2
         ;;
     esac
-    echo "$sum" > "target/stamp/$crate"
-    echo proved > "target/log/$crate.res"
-    echo "rt: $crate proved (1 s)"
+    echo "logic=proved functions=1"
+    echo "$sum" > "$out/stamp"
 done
 case $1 in
-check)
-    { echo '#!/usr/bin/env bash'; cat crates/*/src/* | sed 's/^/# /'; cat "$WORK/programs/$2"; } > "target/bin/$2"
-    chmod +x "target/bin/$2"
-    [ "${REFUSED:-}" != run ] || { rm "target/stamp/$2"; echo "rt: $2 proved, and its run FAILED (0 s)"; exit 1; }
+run)
+    { echo '#!/usr/bin/env bash'; cat crates/*/src/* | sed 's/^/# /'; cat "$WORK/programs/$name"; } > "$out/$name"
+    chmod +x "$out/$name"
+    [ "${REFUSED:-}" != link ] || { echo "rattle-link: error: $name is not linked"; exit 2; }
+    echo "$sum" > "$out/$name.stamp"
+    echo "rt: running out/$name"
+    exit 3
     ;;
-staticlib) cp "$WORK/libvcd_capi.a" "target/staticlib/lib$2.a" ;;
+lib) cp "$WORK/libvcd_capi.a" "$out/lib$name.a" ;;
 esac
 END_OF_RT
 chmod +x "$work/bin/rt"
@@ -108,23 +116,23 @@ calls() {
 proves() {
     echo words > "$work/words"
     tried 0 words '*: proving *' "$tree/nt6861" replay "$work/words"
-    [ "$(calls check)" -ge 1 ] || complain "$1: nothing is proved anew"
+    [ "$(calls run)" -ge 1 ] || complain "$1: nothing is proved anew"
     tried 0 words '' "$tree/nt6861" replay "$work/words"
-    [ "$(calls check)" = 0 ] || complain "$1: proved twice"
+    [ "$(calls run)" = 0 ] || complain "$1: proved twice"
 }
 # runs WHAT COMMAND..: the program runs, and nothing is proved
 runs() {
     tried 0 words '' "${@:2}" "$tree/nt6861" replay "$work/words"
-    [ "$(calls check)" = 0 ] || complain "$1: proved anew"
+    [ "$(calls run)" = 0 ] || complain "$1: proved anew"
 }
 
 # ---- progress, a line a crate; then at once
 echo words > "$work/words"
-CRATE_TIME=0.6 tried 0 words 'nt6861 replay: proving what is not proved yet of 3 crates; this is done once and takes some minutes
+CRATE_TIME=0.6 tried 0 words 'nt6861 replay: proving what is not proved yet of 3 crates; this is done once and may take many minutes
 nt6861 replay: proving 1 of 3: bits
-nt6861 replay: proving 2 of 3: hex
+nt6861 replay: proving 2 of 3: hex_digits
 nt6861 replay: proving 3 of 3: replay' "$tree/nt6861" replay "$work/words"
-[ "$(calls check)" = 1 ] || complain "a first run: not proved once"
+[ "$(calls run)" = 1 ] || complain "a first run: not proved once"
 runs "a second run" env
 
 # ---- what is proved is known by content
@@ -146,7 +154,7 @@ echo x > "$tree/crates/replay/data/x"
 proves "a file of its run"
 echo "// changed" >> "$tree/crates/other/src/lib.rt"
 runs "a crate that it is not made of" env
-sed -i 's/^replay: hex bits io os libc/replay: hex bits io os libc bytes/' "$tree/crates.txt"
+sed -i 's/^replay: hex_digits bits/replay: hex_digits bits bytes/' "$tree/crates.txt"
 proves "a crate that it lists"
 export KIT='kit 2'
 proves "another toolchain"
@@ -168,19 +176,19 @@ rm -f "$work/calls"
 echo "// edited" >> "$source"
 HOOK="[ -e '$work/once' ] || { touch '$work/once'; echo '// while it is proved' >> '$source'; }" \
     tried 0 words '*the sources have changed meanwhile*' "$tree/nt6861" replay "$work/words"
-[ "$(calls check)" = 2 ] || complain "an edit during the proof: not proved again"
+[ "$(calls run)" = 2 ] || complain "an edit during the proof: not proved again"
 grep -q 'while it is proved' "$tree/target/bin/replay" || complain "an edit during the proof: the old program is run"
 
 # ---- refused until it passes
 echo "// refused" >> "$source"
 for _ in 1 2 3; do
-    REFUSED=hex tried 2 '' "nt6861 replay: proving*Proof.antt:9:1: error: the goal does not follow
+    REFUSED=hex_digits tried 2 '' "nt6861 replay: proving*Answers.antt:9:1: error: the goal does not follow
 nt6861 replay: the program is not proved, so it is not run; $tree/target/replay.log has all that the checker said" "$tree/nt6861" replay "$work/words"
 done
 for _ in 1 2 3; do
-    REFUSED=run tried 2 '' "*rt: replay proved, and its run FAILED (0 s)
+    REFUSED=link tried 2 '' "*rattle-link: error: replay is not linked
 nt6861 replay: the program is not proved, so it is not run; *" "$tree/nt6861" replay "$work/words"
-    [ -x "$tree/target/bin/replay" ] || complain "the stand-in has made no program before its refusal"
+    [ -x "$tree/crates/replay/out/replay" ] && [ ! -e "$tree/target/bin/replay" ] || complain "the stand-in has made no program before its refusal"
 done
 echo "// no room" >> "$source"
 REFUSED=full tried 2 '' "*nt6861 replay: no space is left for $tree/target, so the program is not proved" "$tree/nt6861" replay "$work/words"
@@ -194,7 +202,7 @@ printf '#!/bin/sh\necho foreign\n' > "$tree/target/bin/replay"
 proves "another program in its place"
 rm "$tree/target/bin/replay"
 proves "no program in its place"
-echo > "$tree/target/made/replay.check"
+echo > "$tree/target/made/replay.run"
 proves "an empty stamp"
 
 # ---- first runs at once take turns
@@ -209,7 +217,7 @@ for i in 1 2 3; do
 done
 [ "$(grep -l 'waits for another run' "$work"/said-* | wc -l)" = 2 ] || complain "of three first runs at once not two wait"
 ! grep -q 'two at once' "$work/calls" || complain "two checkers at once"
-[ "$(calls check)" = 1 ] || complain "three first runs at once: not proved once"
+[ "$(calls run)" = 1 ] || complain "three first runs at once: not proved once"
 
 # ---- signals to the command alone
 cat > "$work/programs/edid" << 'END_OF_PROGRAM'
@@ -295,7 +303,7 @@ rm -f "$work/calls" "$work/busy"
 # ---- statuses by what a program says
 says() { # PROGRAM TEXT
     echo "$2" > "$work/programs/$1"
-    rm -f "$tree/target/made/$1.check"
+    rm -f "$tree/target/made/$1.run"
     timeout 60 "$tree/nt6861" "$1" "$work/words" > /dev/null 2>&1 || true
 }
 says feed 'echo "feed: the block is refused: 30" >&2'
@@ -385,7 +393,7 @@ printf abx > "$work/refused"
 words() { "$@" | od -An -v -tx4 -w4 | tr -d ' \n'; }
 tried 0 0a0000610a000062 '*proving*building vcd' words "$tree/nt6861" vcd "$work/dump"
 tried 0 0a0000610a000062 '' words "$tree/nt6861" vcd "$work/dump"
-[ "$(calls staticlib)" = 1 ] || complain "the library is not made once"
+[ "$(calls lib)" = 1 ] || complain "the library is not made once"
 tried 1 '*' "nt6861 vcd: $work/refused: at byte 2: 41, time goes back" "$tree/nt6861" vcd "$work/refused"
 tried 2 '' "nt6861 vcd: standard output: No space left on device" into /dev/full "$tree/nt6861" vcd "$work/dump"
 read_only_output() { "$@" 1< /dev/null; }

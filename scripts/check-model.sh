@@ -4,6 +4,8 @@
 # A difference prints seed, place, word and both answers.
 set -euo pipefail
 cd "$(dirname "$0")/.."
+source scripts/library.sh
+program replay
 work=$(mktemp -d)
 trap 'rm -rf "$work"' EXIT
 cargo build --offline --quiet --release --bin model

@@ -1,15 +1,17 @@
 #!/usr/bin/env bash
-# Reads the logs of the must-fail edits that `rt ci` has tried. An edit file with headers holds several wrong answers. Under
-# '# FUNCTION: wrong answer' stands one of a function, refused by that function's own proof; under '# FUNCTION/NEED: wrong answer' one
-# refused by the need of that name in the proof, which antt reports by itself; under '# MODULE.THEOREM: wrong rule' one of a definition,
-# refused by a fact of that theorem of proofs/MODULE.antt. No two of a file name the same function, need or theorem, so each refusal is
-# told apart; that a need or theorem named is refused by its own wrong answer alone, scripts/check-apart.sh sees by trying each by itself.
-# A caller of a refused function is checked all the same, but for `tie.close`: its needs are named, or stand in `let closed = tie.spec ..`.
+# Checks each crate with each of its must-fail edits, over the libraries that `rt ci` has left (scripts/rattle.py edits), and reads all that the prover says:
+# `rt ci`, which tries them too, tells the first line alone. An edit file with headers holds several wrong answers. Under
+# '# FUNCTION: wrong answer' stands one of a function, refused by that function's own proof; under '# FUNCTION/GOAL: wrong answer' one
+# refused at the goal of that name of the proof; under '# MODULE.THEOREM: wrong rule' one of a definition,
+# refused by a fact of that theorem of proofs/MODULE.antt. No two of a file name the same function, goal or theorem, so each refusal is
+# told apart; that a goal or theorem named is refused by its own wrong answer alone, scripts/check-apart.sh sees by trying each by itself.
+# A caller of a refused function is checked all the same, by the function's contract.
 # Any other edit file is one wrong program, and its first error counts. A refusal that only says that a proof no longer
 # fits the code, or that what it rests on was refused, shows nothing about the contract and fails the check. It cannot tell a fact
 # that fails from one that the proof does not find: that the edited code is wrong indeed, scripts/check-wrong-answers.sh sees by
 # running it. Each public function has at least two wrong answers, but for one without an `ensures` that reads or writes: no contract can say
-# what is read or written. Such a one stands in a crate that lists libc.
+# what is read or written. Such a one stands in a crate that uses std's input, files or environment.
+# LOGS, where it is set, is a folder with the logs of an earlier try, which are read in place of another one.
 set -euo pipefail
 cd "$(dirname "$0")/.."
 bad=0
@@ -18,30 +20,31 @@ complain() {
     bad=1
 }
 
-# judge EDIT ERROR: the error is that of a fact
+# What a refusal says that is none of a fact: a proof that no longer fits the code or rests on what was refused, or a text that cannot be read.
+unfit='can be named from here|has no field|has no `|is not in scope|is no name|room for only|was not admitted|were not checked|was not checked|was rejected|operand is missing|expected the end|cannot continue'
+
+# judge EDIT ERRORS: one of them, a line each, is that of a fact
 judge() {
-    case $2 in
-    '') complain "$1: no error of its own" ;;
-    *'that can be named from here'* | *'has no field'* | *': `Inv-loop'* | *': `μ-loop'* | *'expected type `tie.Need-'* | *'is not in scope'* | \
-        *'its type has room for only'* | *'was not admitted'*)
-        complain "$1 only unfits its proof: ${2#*: error: }"
-        ;;
-    esac
+    if [ -z "$2" ]; then
+        complain "$1: no error of its own"
+    elif ! grep -qvE "$unfit" <<< "$2"; then
+        complain "$1 only unfits its proof: $(head -n 1 <<< "$2" | cut -c 1-300)"
+    fi
 }
 
-# headers EDIT: for each wrong answer its function, or its function and need, and the public function that it is an answer of,
+# headers EDIT: for each wrong answer its function, or its function and goal, and the public function that it is an answer of,
 # '# FUNCTION of PUBLIC (LABEL): ..'; for each wrong rule its theorem twice
 headers() {
-    sed -nE 's/^# ([a-z0-9_]+(\/[a-z0-9-]+)?) of ([a-z0-9_]+)( \([a-z0-9_]+\))?: .*/\1 \3/p
-        s/^# ([a-z0-9_]+)(\/[a-z0-9-]+)?( \([a-z0-9_]+\))?: .*/\1\2 \1/p
+    sed -nE 's/^# ([a-z0-9_]+(\/[a-z0-9_-]+)?) of ([a-z0-9_]+)( \([a-z0-9_]+\))?: .*/\1 \3/p
+        s/^# ([a-z0-9_]+)(\/[a-z0-9_-]+)?( \([a-z0-9_]+\))?: .*/\1\2 \1/p
         s/^# ([A-Z][A-Za-z0-9]*\.[^ .:]+)( \([a-z0-9_]+\))?: .*/\1 \1/p' "$1"
 }
 
-# shared EDIT: what two wrong answers of a file name both, a function's need and the whole function among it. Headings one after the
+# shared EDIT: what two wrong answers of a file name both, a function's goal and the whole function among it. Headings one after the
 # other are of the same wrong answer.
 shared() {
     awk '/^old:/ { edited = 1 }
-        /^# ([a-z0-9_]+(\/[a-z0-9-]+)?( of [a-z0-9_]+)?|[A-Z][A-Za-z0-9]*\.[^ .:]+)( \([a-z0-9_]+\))?: / {
+        /^# ([a-z0-9_]+(\/[a-z0-9_-]+)?( of [a-z0-9_]+)?|[A-Z][A-Za-z0-9]*\.[^ .:]+)( \([a-z0-9_]+\))?: / {
             answer += edited; edited = 0
             name = $2; sub(/:$/, "", name); whole = name; sub(/\/.*/, "", whole)
             if ((name in by && by[name] != answer) || (name != whole && whole in by) || (name == whole && name in parted)) print name
@@ -50,34 +53,43 @@ shared() {
         }' "$1"
 }
 
-# refusal LOG NAME: the first error of a function's own proof, of the need of a proof FUNCTION/NEED, or of a theorem MODULE.THEOREM
-refusal() {
-    case $2 in
-    */*) grep -m 1 -E "/proofs/${2%%/*}/Proof\.antt:[0-9]+:[0-9]+: error: \`${2#*/}\`:" "$1" || true ;;
-    *.*) grep -m 1 -E "/proofs/${2%%.*}\.antt:[0-9]+:[0-9]+: error: \`${2#*.}\`:" "$1" || true ;;
-    *) grep -m 1 -E "/proofs/$2/Proof\.antt:[0-9]+:[0-9]+: error" "$1" || true ;;
+# refusals LOG CRATE NAME: the errors of a function's own proof, of the goal of a proof FUNCTION/GOAL, or of a theorem MODULE.THEOREM. Of a function
+# with no answers of its own the prover tells the goals that it does not find a proof for.
+refusals() {
+    local function=${3%%/*} goal
+    case $3 in
+    *.*) grep -E "/proofs/${3%%.*}\.antt:[0-9]+:[0-9]+: error: \`${3#*.}\`:" "$1" || true ;;
+    *)
+        goal='[^`]*'
+        [ "$function" = "$3" ] || goal=${3#*/}
+        grep -E "/proofs/([^:]*/)?$function/(Answers|Invariants|Proof)\.antt:[0-9]+:[0-9]+: error: \`$goal\`:" "$1" || true
+        [ "$function" != "$3" ] || grep -E "/proofs/([^:]*/)?$function/(Answers|Invariants|Proof)\.antt:[0-9]+:[0-9]+: error: [^\`]" "$1" || true
+        grep -E "^fn $2::([^ ]*::)?$function: no proof: .*\`search\` did not prove .*\`$goal\`" "$1" || true
+        ;;
     esac
 }
 
+logs=${LOGS:-target/must-fail}
+[ -n "${LOGS:-}" ] || { rm -rf "$logs" && mkdir -p "$logs" && python3 scripts/rattle.py edits "$logs"; }
 answers=0
 tried=''
 for edit in crates/*/must-fail/*.edit; do
     crate=$(basename "$(dirname "$(dirname "$edit")")")
-    log=target/must-fail/$crate/$(basename "$edit" .edit)/.log
-    if [ ! -f "$log" ]; then
-        complain "$edit was not tried"
+    log=$logs/$crate/$(basename "$edit" .edit).log
+    if [ ! -f "$log" ] || [ "$(tail -n 1 "$log")" != 'status 1' ] || ! grep -q '^logic=not-proved' "$log"; then
+        complain "$edit: the prover does not refuse it: $(tail -n 2 "$log" 2> /dev/null | cut -c 1-300 | tr '\n' ' ')"
         continue
     fi
     named=$(headers "$edit")
     if [ -z "$named" ]; then
         answers=$((answers + 1))
-        judge "$edit" "$(grep -m 1 ': error' "$log" || true)"
+        judge "$edit" "$(grep -m 1 -E '^[^ ]+:[0-9]+:[0-9]+: error|^note: [^ ]+:[0-9]+:[0-9]+: it is not proved that' "$log" || true)"
         continue
     fi
     while read -r name public; do
         answers=$((answers + 1))
         tried="$tried$crate::$public"$'\n'
-        judge "$edit, $name" "$(refusal "$log" "$name")"
+        judge "$edit, $name" "$(refusals "$log" "$crate" "$name")"
     done <<< "$named"
     twice=$(shared "$edit")
     [ -z "$twice" ] || complain "$edit names twice: ${twice//$'\n'/ }"
@@ -95,7 +107,7 @@ silent=0
 while read -r source name kind; do
     crate=${source#crates/}
     crate=${crate%%/*}
-    if [ -z "$kind" ] && grep -qE "^$crate:.* libc( |\$)" crates.txt; then
+    if [ -z "$kind" ] && grep -qE '^use std::(env|fs|io)\b|\b(Env|Files|Print)\b' "$source"; then
         silent=$((silent + 1))
         continue
     fi

@@ -4,6 +4,7 @@ set -euo pipefail
 cd "$(dirname "$0")/.."
 python3 scripts/pages.py
 source scripts/library.sh
+program vectors
 front vcd vcd_capi
 front addresses addresses_capi
 front hosted firmware_capi chip_capi

@@ -8,6 +8,7 @@ work=$(mktemp -d)
 trap 'rm -rf "$work"' EXIT
 source scripts/library.sh
 library blocks_capi
+program record recording replay
 cargo build --offline --quiet --release --features proved --bin recordings --bin model
 ours=target/cargo/release/recordings
 model=target/cargo/release/model

@@ -3,6 +3,8 @@
 # outputs that cannot be written. scripts/check-commands.sh tries what it has in common with the other commands.
 set -euo pipefail
 cd "$(dirname "$0")/.."
+source scripts/library.sh
+program replay
 work=$(mktemp -d)
 trap 'rm -rf "$work"' EXIT
 bad=0

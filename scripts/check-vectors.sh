@@ -1,11 +1,11 @@
 #!/usr/bin/env bash
 # The listings of crates/vectors/data. Everything derived from them is derived anew and compared, so that none is left out and
 # none is empty; then each is run, and a wrong expectation is told with file, line, word, expected and given answer. The program is
-# the one that `rt ci` or `rt check vectors` built.
+# the one that `rt ci` or `rt run` built; PROGRAM, where it is set, names another file of it.
 set -euo pipefail
 cd "$(dirname "$0")/.."
 crate=${VECTORS:-crates/vectors}
-program=$PWD/target/bin/vectors
+program=${PROGRAM:-$PWD/target/bin/vectors}
 work=$(mktemp -d)
 trap 'rm -rf "$work"' EXIT
 bad=0
@@ -15,7 +15,9 @@ complain() {
 }
 
 listings=$(python3 scripts/vectors_expect.py --check "$crate" 2> "$work/said") || complain "$(cat "$work/said")"
-[ -x "$program" ] || { complain "there is no target/bin/vectors: rt check vectors builds it"; exit 1; }
+source scripts/library.sh
+[ -n "${PROGRAM:-}" ] || program vectors
+[ -x "$program" ] || { complain "there is no $program"; exit 1; }
 
 # what is printed for each listing, and what is to be
 find "$crate/data" -name '*.txt' | sed "s#^$crate/data/##" | LC_ALL=C sort > "$work/names"

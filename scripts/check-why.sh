@@ -7,6 +7,7 @@ work=$(mktemp -d)
 trap 'rm -rf "$work"' EXIT
 source scripts/library.sh
 library why_capi chip_capi
+program why
 cargo build --offline --quiet --release --features proved --bin why_compare
 target/cargo/release/why_compare
 cargo build --offline --quiet --release --bin model

@@ -41,6 +41,6 @@ front() {
 
 # whole_library: target/lib/libnt6861.a and .so
 whole_library() {
-    library $(sed -n 's/^\([a-z0-9_]*_capi\):.*/\1/p' crates.txt)
+    library $(source scripts/made.sh && interface_crates)
     made_or_told joined_library || exit 1
 }

@@ -44,16 +44,16 @@ lines_of() {
                 visit(below[i])
                 if (level[below[i]] >= level[name]) level[name] = level[below[i]] + 1
             }
-            print level[name] + 0 ":" name ":" needs[name]
+            print level[name] + 0 ":" name kind[name] ":" needs[name]
         }
         { sub(/#.*/, ""); at = index($0, ":") }
-        at { name = substr($0, 1, at - 1); gsub(/[ \t]/, "", name); needs[name] = substr($0, at + 1) }
+        at { split(substr($0, 1, at - 1), head, " "); name = head[1]; kind[name] = substr($0, length(name) + 1, at - length(name) - 1); needs[name] = substr($0, at + 1) }
         END { if (!(wanted in needs)) exit 1; visit(wanted) }' "$top/crates.txt" |
         sort -s -t : -n -k 1,1 | cut -d : -f 2-
 }
 
 made_of() {
-    lines_of "$1" | sed 's/:.*//'
+    lines_of "$1" | sed 's/[ :].*//'
 }
 
 # sources_of CRATE FILE..: a sum over all files of the crates that it is made of, over their lines in crates.txt and over further files. Fails
@@ -61,11 +61,11 @@ made_of() {
 sources_of() (
     set -o pipefail
     lines=$(lines_of "$1") && [ -n "$lines" ] || exit 1
-    crates=$(sed 's/:.*//' <<< "$lines") || exit 1
+    crates=$(sed 's/[ :].*//' <<< "$lines") || exit 1
     cd "$top" || exit 1
     parts=()
     for crate in $crates; do
-        for part in src specs proofs stdin stdout args data; do
+        for part in src specs proofs stdin stdout args status data; do
             [ ! -e "crates/$crate/$part" ] || parts+=("crates/$crate/$part")
         done
     done
@@ -135,82 +135,110 @@ so_far() {
     [ ! -t 2 ] || printf ' (%d:%02d so far)' $((SECONDS / 60)) $((SECONDS % 60))
 }
 
-# watched JOB TASK CRATE..: tells each crate as its proof begins, until the job has ended. `rt` writes `failed` to NAME.res when it takes a crate up,
-# removes its stamp where it is to be proved, and writes another word when that is done. Of a static library it tells nothing so: it comes last.
+# watched JOB LOG CRATE..: tells each crate as its proof begins, until the job has ended: `rt` says then with how many jobs it proves the crate.
 watched() {
-    local job=$1 task=$2 crates=("${@:3}") told=' ' i state last
-    last=$((${#crates[@]} - 1))
-    while :; do
-        state=proved
-        for i in "${!crates[@]}"; do
-            if [ "$task$i" = "staticlib$last" ]; then
-                [ "$state" = proved ] || continue
-                state=failed
-            else
-                state=''
-                { read -r state < "$top/target/log/${crates[$i]}.res"; } 2> /dev/null || true
-            fi
-            case $told in *" $i "*) continue ;; esac
-            [ "$state" = failed ] && { [ "$task" = staticlib ] && [ "$i" = "$last" ] || [ ! -e "$top/target/stamp/${crates[$i]}" ]; } || continue
-            told="$told$i "
-            tell "proving $((i + 1)) of ${#crates[@]}: ${crates[$i]}$(so_far)"
+    local job=$1 log=$2 crates=("${@:3}") told=0 running=yes begun i
+    while [ -n "$running" ]; do
+        kill -0 "$job" 2> /dev/null || running=''
+        mapfile -t begun < <(sed -nE 's/^rt: chose --jobs [0-9]+ for ([a-z0-9_]+)$/\1/p' "$log")
+        while ((told < ${#begun[@]})); do
+            for i in "${!crates[@]}"; do
+                [ "${crates[$i]}" != "${begun[$told]}" ] || tell "proving $((i + 1)) of ${#crates[@]}: ${crates[$i]}$(so_far)"
+            done
+            told=$((told + 1))
         done
-        kill -0 "$job" 2> /dev/null || return 0
-        sleep 0.2
+        [ -z "$running" ] || sleep 0.2
     done
 }
 
-# rt_makes TASK CRATE: `rt TASK CRATE` in a process group of its own, so that a signal ends all that it started. What it says is in a log.
+# rt_makes TASK CRATE: `rt TASK` in the crate's folder, in a process group of its own, so that a signal ends all that it started. What it says is in a
+# log. Fails where it has made nothing. `rt run` also runs the program, here on no input, and ends with the program's own status: the
+# stamp that it leaves beside a program tells that it has proved and built it.
 rt_makes() {
-    local rt log=$top/target/$2.log status=0 job crates crate
+    local rt folder=$top/crates/$2 log=$top/target/$2.log status=0 job crates
     rt=$(type -P rt) || fail "the program is not proved yet, and the Rattle toolchain (rt) is not on the PATH"
     mapfile -t crates < <(made_of "$2")
-    for crate in "${crates[@]}"; do
-        rm -f "$top/target/log/$crate.res" 2> /dev/null || true
-    done
     { : > "$log"; } 2> /dev/null || cannot_write "$log"
-    tell "proving what is not proved yet of ${#crates[@]} crates; this is done once and takes some minutes"
+    tell "proving what is not proved yet of ${#crates[@]} crates; this is done once and may take many minutes"
     set -m
-    # shellcheck disable=SC2086
-    (cd "$top" && exec "$rt" $1 "$2") < /dev/null > "$log" 2>&1 {lock}>&- &
+    if [ "$1" = run ]; then
+        (cd "$folder" && exec "$rt" run) < /dev/null > /dev/null 2> "$log" {lock}>&- &
+    else
+        (cd "$folder" && exec "$rt" lib) < /dev/null > "$log" 2>&1 {lock}>&- &
+    fi
     job=$!
     set +m
-    watched "$job" "$1" "${crates[@]}"
+    watched "$job" "$log" "${crates[@]}"
     wait "$job" || status=$?
-    [ "$status" != 0 ] || return 0
+    if [ "$1" = run ]; then
+        [ ! -s "$folder/out/$2.stamp" ] || return 0
+    else
+        [ "$status" != 0 ] || return 0
+    fi
+    return 1
+}
+
+# refused CRATE: what `rt` has said against it is told
+refused() {
+    local log=$top/target/$1.log
     ! grep -q 'No space left on device' "$log" && is_room || fail "no space is left for $top/target, so the program is not proved"
-    grep -m 1 -E ': error|NOT PROVED|FAILED' "$log" >&2 || tail -n 5 "$log" >&2 || true
+    grep -m 1 -E ': error|error\[|it is not proved that|NOT PROVED|FAILED' "$log" >&2 || tail -n 5 "$log" >&2 || true
     fail "the program is not proved, so it is not run; $log has all that the checker said"
 }
 
-# proved TASK CRATE FILE: `rt TASK CRATE` makes the file, where its stamp does not fit
+# put_in_place MADE FILE: what `rt` has made in a crate's folder becomes a file of target/
+put_in_place() {
+    mkdir -p "$(dirname "$2")" 2> /dev/null && cp "$1" "$2.new" 2> /dev/null && mv -f "$2.new" "$2" 2> /dev/null || cannot_write "$2"
+}
+
+# proved TASK CRATE MADE FILE: `rt TASK` makes MADE in the crate's folder, and it is copied to FILE, where the stamp of FILE does not fit
 proved() {
-    local mark=$top/target/made/$2.$1 before after
+    local mark=$top/target/made/$2.$1 made=$top/crates/$2/$3 before after is_made
     before=$(sources_of "$2") || fail "the sources of $2 cannot be read"
-    ! is_current "$mark" "$3" "$before" || return 0
+    ! is_current "$mark" "$4" "$before" || return 0
     take_turn
-    while ! is_current "$mark" "$3" "$before"; do
-        # without its own stamp `rt check` builds a program anew, whatever stands in its place; `rt staticlib` always does
-        rm -f "$mark" "$3" 2> /dev/null && { [ "$1" != check ] || rm -f "$top/target/stamp/$2" 2> /dev/null; } || fail "$3 cannot be made anew"
-        rt_makes "$1" "$2"
+    while ! is_current "$mark" "$4" "$before"; do
+        # without its stamp `rt run` builds a program anew, whatever stands in its place; `rt lib` always does
+        rm -f "$mark" "$4" "$made" "$made.stamp" 2> /dev/null || fail "$4 cannot be made anew"
+        is_made=yes
+        rt_makes "$1" "$2" || is_made=''
         after=$(sources_of "$2") || fail "the sources of $2 cannot be read"
-        [ -s "$3" ] || fail "rt has accepted $2 and made no $3"
-        if [ "$before" = "$after" ]; then
-            stamp "$mark" "$3" "$after"
-        else
+        if [ "$before" != "$after" ]; then
             tell "the sources have changed meanwhile"
             before=$after
+            continue
         fi
+        [ -n "$is_made" ] || refused "$2"
+        [ -s "$made" ] || fail "rt has accepted $2 and made no $made"
+        put_in_place "$made" "$4"
+        stamp "$mark" "$4" "$after"
     done
     end_turn
 }
 
-# accepted SOURCES CRATE: a program that `rt ci` has made from nothing since the sources had this sum, and accepted. For the gate alone.
+# accepted SOURCES CRATE: a program that `rt ci` has proved from nothing since the sources had this sum, run and left in the crate's folder. For the
+# gate alone.
 accepted() {
     local after
     after=$(sources_of "$2") || fail "the sources of $2 cannot be read"
     [ "$1" = "$after" ] || fail "the sources of $2 have changed while they were proved"
-    stamp "$top/target/made/$2.check" "$(program_of "$2")" "$after"
+    [ -s "$top/crates/$2/out/$2" ] || fail "rt ci has accepted $2 and left no crates/$2/out/$2"
+    put_in_place "$top/crates/$2/out/$2" "$(program_of "$2")"
+    stamp "$top/target/made/$2.run" "$(program_of "$2")" "$after"
+}
+
+# accepted_library SOURCES CRATE: a static library that `rt ci` has proved since the sources had this sum. It builds none: here the crate is proved
+# once more and built, over the libraries that `rt ci` has left. Fails where that cannot be done. For the gate alone, where no library
+# stood below crates/ before `rt ci`: `rt lib` proves each of them anew.
+accepted_library() {
+    local after file
+    file=$(library_of "$2")
+    mkdir -p "$(dirname "$file")" || cannot_write "$file"
+    python3 "$top/scripts/rattle.py" library "$2" "$file.new" > "$top/target/$2.log" 2>&1 || return 1
+    after=$(sources_of "$2") || fail "the sources of $2 cannot be read"
+    [ "$1" = "$after" ] || fail "the sources of $2 have changed while they were proved"
+    mv -f "$file.new" "$file" || cannot_write "$file"
+    stamp "$top/target/made/$2.lib" "$file" "$after"
 }
 
 # program_of CRATE, library_of CRATE: the file that is made of it
@@ -223,11 +251,11 @@ library_of() {
 }
 
 proved_program() {
-    proved check "$1" "$(program_of "$1")"
+    proved run "$1" "out/$1" "$(program_of "$1")"
 }
 
 proved_library() {
-    proved staticlib "$1" "$(library_of "$1")"
+    proved lib "$1" "out/lib$1.a" "$(library_of "$1")"
 }
 
 # front_of FRONT: the Rust program over a proved library. rustc is called by itself, so that neither cargo's settings nor its look at the
@@ -280,7 +308,7 @@ built_front() { # FRONT CRATE..
 
 # interface_crates: the crates of the C interface
 interface_crates() {
-    sed -n 's/^\([a-z0-9_]*_capi\):.*/\1/p' "$top/crates.txt"
+    sed -nE 's/^([a-z0-9_]*_capi)( staticlib)?:.*/\1/p' "$top/crates.txt"
 }
 
 # library_version: MAJOR.MINOR.PATCH, as include/nt6861.h has it
@@ -308,14 +336,14 @@ join_objects() (
             -o "../libnt6861.so.$2" ./*.o && chmod 644 "../libnt6861.so.$2"
 )
 
-# is_joined VERSION PARTS: both libraries and their links are there, and of these parts
+# is_joined VERSION PARTS: both libraries with their names are there, and of these parts
 is_joined() {
     local folder=$top/target/lib
     is_current "$top/target/made/libnt6861.a" "$folder/libnt6861.a" "$2" && is_current "$top/target/made/libnt6861.so" "$folder/libnt6861.so.$1" "$2" &&
         [ "$folder/libnt6861.so" -ef "$folder/libnt6861.so.$1" ] && [ "$folder/libnt6861.so.${1%%.*}" -ef "$folder/libnt6861.so.$1" ]
 }
 
-# joined_library: target/lib/libnt6861.a and libnt6861.so with its two links, made anew where a part is another one
+# joined_library: target/lib/libnt6861.a and libnt6861.so with its two other names, made anew where a part is another one
 joined_library() {
     local crates crate version parts folder=$top/target/lib work
     mapfile -t crates < <(interface_crates)
@@ -337,7 +365,8 @@ joined_library() {
             fail "the parts cannot be joined; $top/target/libnt6861.log has what was said"
         }
         mv "$work/libnt6861.a" "$work/libnt6861.so.$version" "$folder" || cannot_write "$folder"
-        ln -s "libnt6861.so.$version" "$folder/libnt6861.so.${version%%.*}" && ln -s "libnt6861.so.${version%%.*}" "$folder/libnt6861.so" || cannot_write "$folder"
+        # hard links: `rt ci` stops at a symbolic one
+        ln "$folder/libnt6861.so.$version" "$folder/libnt6861.so.${version%%.*}" && ln "$folder/libnt6861.so.$version" "$folder/libnt6861.so" || cannot_write "$folder"
         rm -rf "$work"
         stamp "$top/target/made/libnt6861.a" "$folder/libnt6861.a" "$parts"
         stamp "$top/target/made/libnt6861.so" "$folder/libnt6861.so.$version" "$parts"

@@ -12,7 +12,7 @@ MARK = "<!-- made by scripts/manual.py -->\n"
 
 def entries():
     """each command that is shown: its name, and its fields, each a list of lines"""
-    crates = set(re.findall(r"^([a-z0-9_]+):", pathlib.Path("crates.txt").read_text(), re.M))
+    crates = set(re.findall(r"^([a-z0-9_]+)(?: [a-z0-9_= ]+)?:", pathlib.Path("crates.txt").read_text(), re.M))
     shown = {}
     fields = {}
     for line in pathlib.Path("scripts/commands.txt").read_text().split("\n"):

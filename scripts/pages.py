@@ -13,7 +13,7 @@ complaints = []
 
 
 def crates():
-    return set(re.findall(r"^([a-z0-9_]+):", pathlib.Path("crates.txt").read_text(), re.M))
+    return set(re.findall(r"^([a-z0-9_]+)(?: [a-z0-9_= ]+)?:", pathlib.Path("crates.txt").read_text(), re.M))
 
 
 def text_of(crate):

@@ -38,7 +38,7 @@ declare -A entry
 shown=()
 read_table() {
     local line name='' field crates
-    crates=$'\n'$(sed -n 's/^\([a-z0-9_]*\):.*/\1/p' "$top/crates.txt")$'\n' || fail "$top/crates.txt cannot be read"
+    crates=$'\n'$(sed -nE 's/^([a-z0-9_]+)( [a-z0-9_= ]+)?:.*/\1/p' "$top/crates.txt")$'\n' || fail "$top/crates.txt cannot be read"
     while IFS= read -r line; do
         case $line in
         '' | '#'*) continue ;;

@@ -22,7 +22,7 @@ def blocks(text):
     for line in text.split("\n"):
         if line.strip() == "":
             continue
-        if not line.startswith((" ", "\t")):
+        if not line.startswith((" ", "\t", ")")):
             cur = [line]
             out.append(cur)
         else:
@@ -102,12 +102,20 @@ def clauses_of(crate):
 
 def named(callee, rest):
     """Clauses that had a number have a name."""
-    if callee and "::" in callee and len(rest) > 1 and rest[0] in ("ensures", "requires") and rest[1].isdigit():
-        parts = callee.split("::")
-        names = clauses_of(parts[0]).get((parts[-1], rest[0]), [])
-        if int(rest[1]) < len(names):
-            return [rest[0], names[int(rest[1])]] + rest[2:]
-    return rest
+    if not (callee and "::" in callee and len(rest) > 1 and rest[0] in ("ensures", "requires") and rest[1].isdigit()):
+        return rest
+    parts = callee.split("::")
+    names = clauses_of(parts[0]).get((parts[-1], rest[0]), [])
+    if not names:
+        return rest
+    at, more = 0, rest[1:]
+    while at < len(names) - 1 and more[:1] == ["1"]:
+        at, more = at + 1, more[1:]
+    if at < len(names) - 1:
+        if more[:1] != ["0"]:
+            return rest
+        more = more[1:]
+    return [rest[0], names[at]] + more
 
 
 class Function:
@@ -123,6 +131,9 @@ class Function:
         self.loops = data["loops"]
         self.changed = data["changed"]
         self.params = data["params"]
+        self.today = {plain(a): b for a, b in data["asked_at"]}
+        for name, today in zip(self.order, data["places_by_name"]):
+            self.today.setdefault(plain(name), today)
 
     def up(self, place, n):
         for _ in range(n):
@@ -145,9 +156,13 @@ class Function:
         while place is not None:
             parent, (old, new), callee, arm, extra = self.places[place]
             if plain(old) == plain(name):
-                if rest[:1] == ["new"] and len(rest) > 1 and rest[1].isdigit() and callee in self.params:
+                if rest[:1] in (["new"], ["auto"]) and callee in self.params:
+                    n = 1
+                    while n < len(rest) and rest[n] == "1":
+                        n += 1
                     names = self.params[callee]
-                    rest = ["new", names[int(rest[1])] if int(rest[1]) < len(names) else rest[1]] + rest[2:]
+                    if n < len(rest) and rest[n] == "0" and n - 1 < len(names):
+                        rest = [rest[0], names[n - 1]] + rest[n + 1 :]
                 return [new] + named(callee, rest)
             place = parent
         return None
@@ -164,41 +179,27 @@ def turn(term, fn, place, known=None, said=None):
         head, rest = m[1], m[2][1:].split(".")
         if head not in known:
             return m[0]
-        at, n = known[head], 0
         while rest and rest[0] == "before":
-            n += 1
             rest = rest[1:]
-        at = fn.up(at, n)
-        if at is None:
-            if said is not None:
-                said.append(f"no place for {m[0]}")
-            return m[0]
         if not rest:
             return "c"
-        if rest[0] in ("args", "requires", "ranges", "well_formed", "lifetimes", "type_inv", "auto"):
+        if rest[0] in ("args", "requires", "ranges", "well_formed", "lifetimes", "type_inv", "auto", "blocks", "utf8"):
             return "c." + ".".join(named(fn.name, rest))
-        found = fn.step(place, at, rest[0], rest[1:])
+        found = fn.step(place, place, rest[0], rest[1:])
         if found is None:
             if said is not None:
-                said.append(f"no step for {m[0]} at {at}")
+                said.append(f"no step for {m[0]} at {place}")
             return "c." + ".".join(rest)
         return "c." + ".".join(found)
 
-    # `let s = c.before.before in` names a place: it goes
+    # `let s = c.before.before in` names a place: it goes, since each step has a name of its own today
     while True:
-        m = re.search(r"\blet (\w+) = (\w+)((?:\.before)+) in\s*", term)
-        if not m or m[2] not in known:
-            break
-        at = fn.up(known[m[2]], m[3].count(".before"))
-        if at is None:
-            break
-        known[m[1]] = at
-        term = term[: m.start()] + term[m.end() :]
-    while True:
-        m = re.search(r"\blet (\w+) = c in\s*", term)
+        m = re.search(r"\blet (\w+) = (\w+)((?:\.before)*) in\s*", term)
+        while m and m[2] not in known:
+            m = re.compile(r"\blet (\w+) = (\w+)((?:\.before)*) in\s*").search(term, m.end())
         if not m:
             break
-        known[m[1]] = known["c"]
+        known[m[1]] = place
         term = term[: m.start()] + term[m.end() :]
     return PATH.sub(path, term)
 
@@ -229,11 +230,97 @@ def imports(text, lines):
                 sym = name.strip("◌").split("◌")[0]
                 if sym in text:
                     keep.append(item)
-            elif name in words:
+            elif name in words or (name == "[]" and "[]" in text):
                 keep.append(item)
         if keep:
             out.append(f"use {m[1]}.{{{', '.join(keep)}}}")
     return out
+
+
+ALL = {}
+
+
+def clause_names(function, kind):
+    """The names of the clauses of a function of any crate, by the function's name alone."""
+    if not ALL:
+        for crate in sorted(os.listdir("crates")):
+            if os.path.isdir(f"crates/{crate}/src"):
+                for key, names in clauses_of(crate).items():
+                    ALL.setdefault(key, set()).add(tuple(names))
+    found = ALL.get((function, kind), set())
+    return list(found)[0] if len(found) == 1 else None
+
+
+def parts(text):
+    """The parts of a tuple, or None."""
+    text = text.strip()
+    if not (text.startswith("(") and text.endswith(")")):
+        return None
+    out, depth, cur = [], 0, ""
+    for i, ch in enumerate(text):
+        depth += (ch in OPEN) - (ch in CLOSE)
+        if depth == 0 and i < len(text) - 1:
+            return None
+        if depth == 1 and ch == ",":
+            out.append(cur.strip())
+            cur = ""
+        elif not (depth == 1 and i == 0) and i < len(text) - 1:
+            cur += ch
+    return out + [cur.strip()]
+
+
+def recorded(term, crate, name, old, new):
+    """A tuple of several clauses is a record by their names today."""
+    m = re.match(r"^(.*\bin\s+)(\(.*\))\s*$", term, re.S)
+    head, term_ = (m[1], m[2]) if m and parts(m[2]) else ("", term)
+    found = parts(term_)
+    if not found or len(found) < 2:
+        return term
+    if re.search(r"-requires(-\d+)?$", new):
+        names = clause_names(re.sub(r"-requires(-\d+)?$", "", old).replace("-", "_"), "requires")
+    elif new.startswith("returns"):
+        names = clauses_of(crate).get((name.split(".")[-1], "ensures"))
+    else:
+        return term
+    while names and len(found) < len(names) and parts(found[-1]):
+        found = found[:-1] + parts(found[-1])
+    if not names or len(names) != len(found):
+        return term
+    return head + "record { " + "; ".join(f"{n} = {t}" for n, t in zip(names, found)) + " }"
+
+
+def aligned(answers, helpers, fn):
+    """The answers without those whose goals are gone, so that the others fit best."""
+    import functools
+
+    def text(a):
+        a = unwrap(a)
+        return "\n".join(helpers[a][2]) if a in helpers else a
+
+    def cost(i, j):
+        t, (old, new), said = text(answers[i]), fn.needs[j], []
+        called = "κs" in t.split(".")[0] if t.startswith("λ") else "κs" in t.split("=")[0]
+        turn(t, fn, fn.asked[j], said=said)
+        return 10 * len(said) + 100 * (called != bool(re.search(r"-requires(-\d+)?$", new)))
+
+    @functools.lru_cache(None)
+    def best(i, j):
+        if i == len(answers):
+            return (0, ()) if j == len(fn.needs) else (10**9, ())
+        out = (10**9, ())
+        if j < len(fn.needs):
+            c, rest = best(i + 1, j + 1)
+            out = (c + cost(i, j), (i,) + rest)
+        c, rest = best(i + 1, j)
+        drop = 0 if re.search(r"search rules\)?$", text(answers[i]).strip()) else 50
+        if c + drop < out[0]:
+            out = (c + drop, rest)
+        return out
+
+    import sys
+
+    sys.setrecursionlimit(10000)
+    return [answers[i] for i in best(0, 0)[1]]
 
 
 def convert(crate, name, data, path):
@@ -288,12 +375,12 @@ def convert(crate, name, data, path):
         if len(args) - nloops == len(fn.needs):
             laws, answers = args[:nloops], args[nloops:]
         else:
-            # goals that the check settles today were answered by the search
-            while len(answers) > len(fn.needs):
-                found = [i for i, a in enumerate(answers) if re.match(r"^λ \S+\.\s*search rules$", unwrap(a))]
-                if not found:
-                    return f"{len(answers)} answers and {len(fn.needs)} goals"
-                del answers[found[0]]
+            # goals that the check settles today: that a slice keeps its length, and what the search answered
+            kept = [a for a in answers if not (unwrap(a) in helpers and re.search(r"Need-same-length", helpers[unwrap(a)][0]))]
+            if len(kept) >= len(fn.needs) and not any("same_length" in plain(n[0]) for n in fn.needs):
+                answers = kept
+            if len(answers) > len(fn.needs):
+                answers = aligned(answers, helpers, fn)
             if len(answers) != len(fn.needs):
                 return f"{len(answers)} answers and {len(fn.needs)} goals"
     invariants, said = [], []
@@ -348,7 +435,7 @@ def convert(crate, name, data, path):
         bare = unwrap(term.strip())
         if bare == "search rules" and not (unf and re.match(r"returns|loop|.*-requires|.*preserved|.*init", new)):
             continue
-        done = turn(term, fn, place, said=said)
+        done = recorded(turn(term, fn, place, said=said), crate, name, old, new)
         result.append((new, unf, done))
     folder = os.path.dirname(path)
     out = []
@@ -361,12 +448,18 @@ def convert(crate, name, data, path):
         with open(folder + "/Invariants.antt", "w", encoding="utf-8") as f:
             f.write("\n".join([f"-- What the loop of `{crate}::{name}` keeps.", *lines, f"use {qual}.Given as goal", "", text, ""]))
     if result or extra:
-        parts = []
+        chunks = []
         for sig, unf, group in extra:
-            parts.append("\n".join([sig] + ([unf] if unf else []) + group))
+            m = re.search(r"\((\w+) : tie\.([\w-]+)[^()]*\)", sig)
+            at = m and [n for n in fn.order if plain(n) == plain(m[2])]
+            if at:
+                sig = sig.replace(m[0], f"({m[1]} : goal.{fn.today[plain(m[2])]})")
+                sig = turn(sig, fn, at[0], known={m[1]: at[0]}, said=said)
+                group = [turn(g, fn, at[0], known={m[1]: at[0]}, said=said) for g in group]
+            chunks.append("\n".join([sig] + ([unf] if unf else []) + group))
         for n, u, b in result:
-            parts.append(f"pub {n} : goal.{n}\n" + (u + "\n" if u else "") + f"{n} c =" + (b if b.startswith("\n") else " " + b))
-        text = "\n\n".join(parts)
+            chunks.append(f"pub {n} : goal.{n}\n" + (u + "\n" if u else "") + f"{n} c =" + (b if b.startswith("\n") else " " + b))
+        text = "\n\n".join(chunks)
         text = re.sub(r"(c =)[ \t]+let ", r"\1\n    let ", text)
         lines = imports(text + "\n" + " ".join(u or "" for _, u, _ in result), uses)
         if "rules" in re.findall(r"\w+", text) and not any("rules}" in l or "rules," in l for l in lines):

@@ -2,202 +2,232 @@
 // whose answer is not the expected one, with the event and both answers; or that it has no events. Last it prints how many passed and how
 // many did not. A malformed line, a case that cannot be read and output that cannot be written are told on standard error.
 #![tactic(auto)]
-use case_run::{Progress, Verdict};
-use libc::{STDERR_FILENO, STDOUT_FILENO};
 
-// A case so far, whether more of it is to be read, and whether a read failed.
+use case_run::{Progress, Verdict};
+use std::env::FillError;
+use std::io::{Error, Print, Read};
+use std::process::ExitCode;
+use std::rt::{Env, Files};
+use std::{fs, io, str};
+
+// A case so far, and whether more of it is to be read.
 #[derive(Clone, Copy)]
 struct Turn {
     progress: Progress,
     more: bool,
-    failed: bool,
 }
 
-// How many cases passed and how many did not, and whether another is worth running.
+// How many cases passed and how many did not.
 #[derive(Clone, Copy)]
 struct Counts {
     passed: u64,
     failed: u64,
-    goes_on: bool,
 }
+
+// The system's number for a name that is no text: EILSEQ.
+const NO_TEXT: i32 = 84;
 
 // ---- reading
 
-fn read_part(p: Progress, fd: i32) -> Turn {
-    let mut block = io::large_buffer();
-    let got = libc::read(fd, &mut block);
-    if got < 0 {
-        return Turn {
-            progress: p,
-            more: false,
-            failed: true,
-        };
-    }
-    let n = io::count(got, &block);
+fn read_part<R: Read>(p: Progress, from: &mut R) -> io::Result<Turn> {
+    let mut block = [0u8; 65536];
+    let n = from.read(&mut block)?;
     let next = case_run::read(p, &block[..n]);
-    let verdict = next.verdict;
-    Turn {
+    Ok(Turn {
         progress: next,
-        more: (n > 0) & case_run::goes_on(verdict),
-        failed: false,
-    }
+        more: (n > 0) & case_run::goes_on(next.verdict),
+    })
 }
 
-// A case to its end, or to where it fails. The loop counts its turns down, since nothing says that a file ends.
-fn read_all(fd: i32) -> Turn {
-    let mut t = Turn {
-        progress: case_run::opened(),
-        more: true,
-        failed: false,
-    };
-    let mut turns = u64::MAX;
-    while turns > 0 {
-        let p = t.progress;
-        t = read_part(p, fd);
-        if t.more {
-            turns -= 1;
-        } else {
-            return t;
+// A case to its end, or to where it fails. The loop counts its turns, since nothing says that a file ends.
+fn read_all<R: Read>(from: &mut R) -> io::Result<Progress> {
+    let mut p = case_run::opened();
+    for _ in 0..u64::MAX {
+        let t = read_part(p, from)?;
+        p = t.progress;
+        if !t.more {
+            return Ok(p);
         }
     }
-    t
+    Ok(p)
+}
+
+// The case in a file of that name. No file is opened by a name that is not UTF-8.
+fn read_file<R: Files>(rt: &R, path: &[u8]) -> io::Result<Progress> {
+    match str::from_utf8(path) {
+        Ok(name) => {
+            let mut file = fs::open(rt, name)?;
+            read_all(&mut file)
+        }
+        Err(_) => Err(Error::from_raw_os_error(NO_TEXT)),
+    }
 }
 
 // ---- what is printed
 
-fn print(text: &[u8]) -> bool {
-    io::write_all(STDOUT_FILENO, text)
-}
-
-fn print_number(n: u64) -> bool {
-    io::print_decimal(STDOUT_FILENO, n)
-}
-
-fn print_event(word: u32) -> bool {
-    let mut line = io::buffer();
+fn print_event<P: Print>(out: &P, word: u32) -> io::Result<()> {
+    let mut line = [0u8; 4096];
     let n = event_text_write::write_event(word, &mut line);
-    print(&line[..n])
+    out.write_all(&line[..n])
 }
 
-fn print_answer(word: u32, answer: u32) -> bool {
-    let mut line = io::buffer();
+fn print_answer<P: Print>(out: &P, word: u32, answer: u32) -> io::Result<()> {
+    let mut line = [0u8; 4096];
     let n = case_text::write_answer(word, answer, &mut line);
-    print(&line[..n])
+    out.write_all(&line[..n])
 }
 
-fn print_difference(line: u64, words: u64, word: u32, expected: u32, given: u32) -> bool {
-    let place = print(b":") & print_number(line) & print(b": ") & print_event(word);
-    let due = print(b": expected ") & print_answer(word, expected);
-    let came = print(b", given ") & print_answer(word, given);
-    let count = print(b" (word ") & print_number(line_tokens::one_more(words)) & print(b")\n");
-    place & due & came & count
+fn print_passed<P: Print>(out: &P, path: &[u8], words: u64) -> io::Result<()> {
+    out.write_all(path)?;
+    println!(out; ": passed, {words} words")
 }
 
-fn tell(text: &[u8]) {
-    io::write_all(STDERR_FILENO, text);
+fn print_empty<P: Print>(out: &P, path: &[u8]) -> io::Result<()> {
+    out.write_all(path)?;
+    out.write_all(b": no events\n")
 }
 
-fn tell_malformed(path: &[u8], line: u64, place: u64) {
-    tell(b"check_cases: ");
-    tell(path);
-    tell(b":");
-    io::print_decimal(STDERR_FILENO, line);
-    tell(b": at byte ");
-    io::print_decimal(STDERR_FILENO, place);
-    tell(b": not an event with its answer\n");
+fn print_difference<P: Print>(
+    out: &P,
+    path: &[u8],
+    end: Progress,
+    word: u32,
+    expected: u32,
+    given: u32,
+) -> io::Result<()> {
+    let line = end.line;
+    let place = line_tokens::one_more(end.words);
+    out.write_all(path)?;
+    print!(out; ":{line}: ")?;
+    print_event(out, word)?;
+    out.write_all(b": expected ")?;
+    print_answer(out, word, expected)?;
+    out.write_all(b", given ")?;
+    print_answer(out, word, given)?;
+    println!(out; " (word {place})")
+}
+
+fn write_malformed<Q: Print>(err: &Q, path: &[u8], line: u64, place: u64) -> io::Result<()> {
+    err.write_all(b"check_cases: ")?;
+    err.write_all(path)?;
+    println!(err; ":{line}: at byte {place}: not an event with its answer")
+}
+
+fn tell_malformed<Q: Print>(err: &Q, path: &[u8], line: u64, place: u64) -> ExitCode {
+    input::status(write_malformed(err, path, line, place))
 }
 
 // ---- cases
 
-fn passed(c: Counts, is_printed: bool) -> Counts {
+fn passed(c: Counts) -> Counts {
     Counts {
         passed: line_tokens::one_more(c.passed),
         failed: c.failed,
-        goes_on: is_printed,
     }
 }
 
-fn failed(c: Counts, is_printed: bool) -> Counts {
+fn failed(c: Counts) -> Counts {
     Counts {
         passed: c.passed,
         failed: line_tokens::one_more(c.failed),
-        goes_on: is_printed,
     }
 }
 
-fn malformed(c: Counts, path: &[u8], line: u64, place: u64) -> Counts {
-    tell_malformed(path, line, place);
-    failed(c, true)
-}
-
-fn judged(c: Counts, path: &[u8], verdict: Verdict, line: u64, words: u64) -> Counts {
-    match verdict {
-        Verdict::Agrees => passed(
-            c,
-            print(path) & print(b": passed, ") & print_number(words) & print(b" words\n"),
-        ),
-        Verdict::Malformed(place) => malformed(c, path, line, place),
-        Verdict::Differs(word, expected, given) => failed(
-            c,
-            print(path) & print_difference(line, words, word, expected, given),
-        ),
-        Verdict::Empty => failed(c, print(path) & print(b": no events\n")),
+// After a write to standard output that failed nothing more is run. Here and below an `Err` has the status with which the program ends.
+fn counted<Q: Print>(err: &Q, printed: io::Result<()>, c: Counts) -> Result<Counts, ExitCode> {
+    match printed {
+        Ok(()) => Ok(c),
+        Err(e) => Err(input::fail(err, b"check_cases: standard output", &e)),
     }
 }
 
-// Runs the case that an argument names.
-fn run_named(c: Counts, i: usize) -> Counts {
-    let mut path = io::buffer();
-    let n = os::arg(i, &mut path);
-    let fd = os::open_read(&path[..n]);
-    if fd < 0 {
-        os::fail(&path[..n]);
-        return failed(c, true);
+// What standard error does not take is passed over, unless nobody reads it.
+fn told(status: ExitCode, c: Counts) -> Result<Counts, ExitCode> {
+    if status == ExitCode::SUCCESS {
+        return Ok(c);
     }
-    let t = read_all(fd);
-    if t.failed {
-        os::fail(&path[..n]);
-        libc::close(fd);
-        return failed(c, true);
-    }
-    libc::close(fd);
-    let p = t.progress;
-    let end = case_run::closed(p);
-    let verdict = end.verdict;
-    judged(c, &path[..n], verdict, end.line, end.words)
+    Err(status)
 }
 
-// After a write that failed nothing more is run.
-fn run_case(c: Counts, i: usize) -> Counts {
-    if c.goes_on {
-        return run_named(c, i);
+fn judged<P: Print, Q: Print>(
+    out: &P,
+    err: &Q,
+    c: Counts,
+    path: &[u8],
+    end: Progress,
+) -> Result<Counts, ExitCode> {
+    let words = end.words;
+    match end.verdict {
+        Verdict::Agrees => counted(err, print_passed(out, path, words), passed(c)),
+        Verdict::Malformed(place) => told(tell_malformed(err, path, end.line, place), failed(c)),
+        Verdict::Differs(word, expected, given) => {
+            let printed = print_difference(out, path, end, word, expected, given);
+            counted(err, printed, failed(c))
+        }
+        Verdict::Empty => counted(err, print_empty(out, path), failed(c)),
     }
-    c
 }
 
-fn finish(c: Counts) {
-    let is_printed = c.goes_on
-        & print_number(c.passed)
-        & print(b" passed, ")
-        & print_number(c.failed)
-        & print(b" failed\n");
-    if is_printed {
-        return;
+// Runs the case of that name.
+fn run_named<R: Files, P: Print, Q: Print>(
+    rt: &R,
+    out: &P,
+    err: &Q,
+    c: Counts,
+    path: &[u8],
+) -> Result<Counts, ExitCode> {
+    match read_file(rt, path) {
+        Ok(p) => judged(out, err, c, path, case_run::closed(p)),
+        Err(e) => told(input::fail(err, path, &e), failed(c)),
     }
-    os::fail(b"check_cases: standard output");
 }
 
-fn main() {
-    let n = os::arg_count();
+// Runs the case that an argument names, if there is such an argument. One that is too long names no file.
+fn run_case<R: Env + Files, P: Print, Q: Print>(
+    rt: &R,
+    out: &P,
+    err: &Q,
+    c: Counts,
+    i: usize,
+) -> Result<Option<Counts>, ExitCode> {
+    let mut path = [0u8; 4096];
+    match rt.arg(i, &mut path) {
+        Ok(n) => Ok(Some(run_named(rt, out, err, c, &path[..n])?)),
+        Err(FillError::TooLong) => Ok(Some(run_named(rt, out, err, c, b"")?)),
+        Err(FillError::NotPresent) => Ok(None),
+    }
+}
+
+fn run_all<R: Env + Files, P: Print, Q: Print>(
+    rt: &R,
+    out: &P,
+    err: &Q,
+) -> Result<Counts, ExitCode> {
     let mut c = Counts {
         passed: 0,
         failed: 0,
-        goes_on: true,
     };
-    let mut i = 1;
-    while i < n {
-        c = run_case(c, i);
-        i += 1;
+    for i in 1..usize::MAX {
+        match run_case(rt, out, err, c, i)? {
+            Some(next) => c = next,
+            None => return Ok(c),
+        }
     }
-    finish(c);
+    Ok(c)
+}
+
+fn print_counts<P: Print>(out: &P, c: Counts) -> io::Result<()> {
+    let Counts { passed, failed } = c;
+    println!(out; "{passed} passed, {failed} failed")
+}
+
+fn main(rt: HostRuntime) -> ExitCode {
+    let (out, err) = (rt.stdout(), rt.stderr());
+    match run_all(&rt, &out, &err) {
+        Ok(c) => match print_counts(&out, c) {
+            Ok(()) => ExitCode::SUCCESS,
+            Err(e) => input::fail(&err, b"check_cases: standard output", &e),
+        },
+        Err(status) => status,
+    }
 }

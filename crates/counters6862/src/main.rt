@@ -2,161 +2,148 @@
 // and behind those of `field` the report. A malformed line is told with its number, on standard error too, and ends the run. A read or a
 // write that fails ends it too, and is told on standard error.
 #![tactic(auto)]
+
 use counters6862_script::{Event, Progress};
-use libc::{STDERR_FILENO, STDIN_FILENO, STDOUT_FILENO};
 use rates::Rate;
-
-// The progress after some bytes, and whether all that is due was written.
-#[derive(Clone, Copy)]
-struct Taken {
-    progress: Progress,
-    written: bool,
-}
-
-// The same after a block, with whether another may follow and whether a read failed.
-#[derive(Clone, Copy)]
-struct Turn {
-    progress: Progress,
-    more: bool,
-    failed: bool,
-    written: bool,
-}
-
-fn print(text: &[u8]) -> bool {
-    io::write_all(STDOUT_FILENO, text)
-}
+use std::io;
+use std::io::{Print, Read};
+use std::process::ExitCode;
 
 // The number and the twelve numbers.
-fn print_answer(number: u8, n: [u16; 12]) -> bool {
+fn print_answer<P: Print>(out: &P, number: u8, n: [u16; 12]) -> io::Result<()> {
     let line = counters6862_lines::line(number, n);
-    let bytes = line.bytes;
-    let count = line.count;
-    io::write_all(STDOUT_FILENO, &bytes[..count])
+    out.write_all(&line.bytes[..line.count])
 }
 
-fn print_half(w: u32) -> bool {
+fn print_half<P: Print>(out: &P, w: u32) -> io::Result<()> {
     let line = hex_digits::hex_line(w);
-    io::write_all(STDOUT_FILENO, &line[..8])
+    out.write_all(&line[..8])
 }
 
 // The rate's 64 bits as sixteen hex digits.
-fn print_bits(bits: u64) -> bool {
-    print_half((bits / 4294967296) as u32) & print_half((bits % 4294967296) as u32)
+fn print_bits<P: Print>(out: &P, bits: u64) -> io::Result<()> {
+    print_half(out, (bits / 4294967296) as u32)?;
+    print_half(out, (bits % 4294967296) as u32)
 }
 
-fn print_report(rate: Rate) -> bool {
+fn print_report<P: Print>(out: &P, rate: Rate) -> io::Result<()> {
     match rate {
-        Rate::IllFormed => print(b"ill-formed"),
-        Rate::NothingLatched => print(b"nothing-latched"),
-        Rate::Overflow => print(b"overflow"),
-        Rate::FieldRate(_) => print_bits(counters6862_script::rate_bits(rate)),
-        Rate::LineRate(_) => print_bits(counters6862_script::rate_bits(rate)),
+        Rate::IllFormed => out.write_all(b"ill-formed"),
+        Rate::NothingLatched => out.write_all(b"nothing-latched"),
+        Rate::Overflow => out.write_all(b"overflow"),
+        Rate::FieldRate(_) => print_bits(out, counters6862_script::rate_bits(rate)),
+        Rate::LineRate(_) => print_bits(out, counters6862_script::rate_bits(rate)),
     }
 }
 
-fn print_malformed(line: u64) -> bool {
-    io::write_all(STDERR_FILENO, b"counters6862: line ");
-    io::print_decimal(STDERR_FILENO, line);
-    io::write_all(STDERR_FILENO, b" malformed\n");
-    print(b"line ") & io::print_decimal(STDOUT_FILENO, line) & print(b" malformed\n")
-}
-
-fn print_event(event: Event, line: u64, n: [u16; 12]) -> bool {
-    match event {
-        Event::Nothing => true,
-        Event::Answer(number) => print_answer(number, n) & print(b"\n"),
-        Event::Report(number, rate) => {
-            print_answer(number, n) & print(b" ") & print_report(rate) & print(b"\n")
+// The line's number, on standard error first. An `Err` has the status with which the program ends.
+fn print_malformed<P: Print, Q: Print>(out: &P, err: &Q, line: u64) -> Result<(), ExitCode> {
+    let told = println!(err; "counters6862: line {line} malformed");
+    if let Err(e) = told {
+        if input::is_closed_pipe(&e) {
+            return Err(input::status(told));
         }
-        Event::Malformed => print_malformed(line),
     }
+    written(err, println!(out; "line {line} malformed"))
 }
 
 // After a write that failed nothing more is written, so that what stands has no hole.
-fn print_next(is_written: bool, event: Event, line: u64, n: [u16; 12]) -> bool {
-    if is_written {
-        return print_event(event, line, n);
+fn written<Q: Print>(err: &Q, done: io::Result<()>) -> Result<(), ExitCode> {
+    match done {
+        Ok(()) => Ok(()),
+        Err(e) => Err(input::fail(err, b"counters6862: standard output", &e)),
     }
-    false
 }
 
-fn take_byte(p: Progress, b: u8, before: bool) -> Taken {
+fn print_line<P: Print>(out: &P, number: u8, n: [u16; 12]) -> io::Result<()> {
+    print_answer(out, number, n)?;
+    out.write_all(b"\n")
+}
+
+fn print_with_report<P: Print>(out: &P, number: u8, n: [u16; 12], rate: Rate) -> io::Result<()> {
+    print_answer(out, number, n)?;
+    out.write_all(b" ")?;
+    print_report(out, rate)?;
+    out.write_all(b"\n")
+}
+
+fn print_event<P: Print, Q: Print>(
+    out: &P,
+    err: &Q,
+    event: Event,
+    line: u64,
+    n: [u16; 12],
+) -> Result<(), ExitCode> {
+    match event {
+        Event::Nothing => Ok(()),
+        Event::Answer(number) => written(err, print_line(out, number, n)),
+        Event::Report(number, rate) => written(err, print_with_report(out, number, n, rate)),
+        Event::Malformed => print_malformed(out, err, line),
+    }
+}
+
+fn take_byte<P: Print, Q: Print>(
+    out: &P,
+    err: &Q,
+    p: Progress,
+    b: u8,
+) -> Result<Progress, ExitCode> {
     let step = counters6862_script::next(p, b);
     let after = step.progress;
-    let event = step.event;
-    let numbers = after.numbers;
-    let is_written = print_next(before, event, after.line, numbers);
-    Taken {
-        progress: after,
-        written: is_written,
-    }
+    print_event(out, err, step.event, after.line, after.numbers)?;
+    Ok(after)
 }
 
-fn take_bytes(start: Progress, bytes: &[u8]) -> Taken {
+fn take_bytes<P: Print, Q: Print>(
+    out: &P,
+    err: &Q,
+    start: Progress,
+    bytes: &[u8],
+) -> Result<Progress, ExitCode> {
     let mut p = start;
-    let mut is_written = true;
-    let mut i = 0;
-    while i < bytes.len() {
-        let taken = take_byte(p, bytes[i], is_written);
-        p = taken.progress;
-        is_written = taken.written;
-        i += 1;
+    for b in bytes {
+        p = take_byte(out, err, p, *b)?;
     }
-    Taken {
-        progress: p,
-        written: is_written,
-    }
-}
-
-// Reads a block and runs it. `fill` fills the buffer unless the input ends or fails.
-fn take_block(p: Progress) -> Turn {
-    let mut block = io::large_buffer();
-    let filled = input::fill(STDIN_FILENO, &mut block);
-    let n = filled.count;
-    let taken = take_bytes(p, &block[..n]);
-    let next = taken.progress;
-    let is_ended = next.ended;
-    Turn {
-        progress: next,
-        more: (n == 65536) & !filled.failed & taken.written & !is_ended,
-        failed: filled.failed,
-        written: taken.written,
-    }
+    Ok(p)
 }
 
 // The end of the input ends its last line.
-fn finish(p: Progress) {
-    let taken = take_byte(p, 10, true);
-    if taken.written {
-        return;
+fn finish<P: Print, Q: Print>(out: &P, err: &Q, p: Progress) -> ExitCode {
+    match take_byte(out, err, p, b'\n') {
+        Ok(_) => ExitCode::SUCCESS,
+        Err(status) => status,
     }
-    os::fail(b"counters6862: standard output");
 }
 
-fn finish_turn(turn: Turn) {
-    if turn.failed {
-        os::fail(b"counters6862: standard input");
-        return;
+// Reads a block and runs it. `read_block` fills the buffer unless the input ends or fails.
+fn take_block<R: Read, P: Print, Q: Print>(
+    from: &mut R,
+    out: &P,
+    err: &Q,
+    p: Progress,
+) -> Result<Progress, ExitCode> {
+    let mut block = [0u8; 65536];
+    let read = input::read_block(from, &mut block);
+    let n = read.count;
+    let next = take_bytes(out, err, p, &block[..n])?;
+    if let Some(e) = read.error {
+        return Err(input::fail(err, b"counters6862: standard input", &e));
     }
-    if turn.written {
-        finish(turn.progress);
-        return;
+    if n == 65536 && !next.ended {
+        return Ok(next);
     }
-    os::fail(b"counters6862: standard output");
+    Err(finish(out, err, next))
 }
 
-// A proved loop has to end, and nothing says that the input does, so the loop counts blocks down, from a number that no run uses up.
-fn main() {
+// A proved loop has to end, and nothing says that the input does, so the loop counts blocks, up to a number that no run reaches.
+fn main(rt: HostRuntime) -> ExitCode {
+    let mut from = rt.stdin();
     let mut p = counters6862_script::opened();
-    let mut blocks = u64::MAX;
-    while blocks > 0 {
-        let turn = take_block(p);
-        if turn.more {
-            p = turn.progress;
-            blocks -= 1;
-        } else {
-            finish_turn(turn);
-            return;
+    for _ in 0..u64::MAX {
+        match take_block(&mut from, &rt.stdout(), &rt.stderr(), p) {
+            Ok(next) => p = next,
+            Err(status) => return status,
         }
     }
+    ExitCode::SUCCESS
 }

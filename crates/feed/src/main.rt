@@ -2,46 +2,34 @@
 // `replay` reads them. Of a block that the check refuses nothing is written, and standard error has its number; where reading
 // or writing fails, standard error says why.
 #![tactic(auto)]
-use libc::{STDERR_FILENO, STDIN_FILENO, STDOUT_FILENO};
+
+use std::io;
+use std::io::Print;
+use std::process::ExitCode;
 
 // 21 words before the block and 20 for each of 128 bytes.
-fn send(block: &[u8]) -> bool {
+fn send<P: Print>(to: &P, block: &[u8]) -> io::Result<()> {
     let mut words = [0u32; 2581];
     let count = edid_feed::feed(block, &mut words);
     let mut bytes = [0u8; 10324];
     let size = edid_feed::store(&words[..count], &mut bytes);
-    io::write_all(STDOUT_FILENO, &bytes[..size])
+    to.write_all(&bytes[..size])
 }
 
-fn refuse(number: u8) {
-    io::write_all(STDERR_FILENO, b"feed: the block is refused: ");
-    io::print_decimal(STDERR_FILENO, number as u64);
-    io::write_all(STDERR_FILENO, b"\n");
-}
-
-// A short read is the end of the input or a failure, and a further read tells which. 4,096 bytes are too many whatever follows.
-fn input_failed(n: usize) -> bool {
-    if n == 4096 {
-        return false;
+// 4,096 bytes are too many whatever follows.
+fn main(rt: HostRuntime) -> ExitCode {
+    let mut bytes = [0u8; 4096];
+    let read = input::read_block(&mut rt.stdin(), &mut bytes);
+    if let Some(e) = read.error {
+        return input::fail(&rt.stderr(), b"feed: standard input", &e);
     }
-    let mut rest = [0u8; 1];
-    libc::read(STDIN_FILENO, &mut rest) != 0
-}
-
-fn main() {
-    let mut input = io::buffer();
-    let n = io::read_full(STDIN_FILENO, &mut input);
-    if input_failed(n) {
-        os::fail(b"feed: standard input");
-        return;
-    }
-    let number = edid_check::number(edid_check::check(&input[..n]));
+    let block = &bytes[..read.count];
+    let number = edid_check::number(edid_check::check(block));
     if number != 0 {
-        refuse(number);
-        return;
+        return input::status(eprintln!(rt; "feed: the block is refused: {number}"));
     }
-    let is_written = send(&input[..n]);
-    if !is_written {
-        os::fail(b"feed: standard output");
+    match send(&rt.stdout(), block) {
+        Ok(()) => ExitCode::SUCCESS,
+        Err(e) => input::fail(&rt.stderr(), b"feed: standard output", &e),
     }
 }

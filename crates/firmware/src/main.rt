@@ -6,23 +6,39 @@ ghost use Rattle.std.specs.Prelude.{◌<◌};
 
 use firmware_event_lines::Meaning;
 use firmware_input::Place;
-use firmware_print::{Asked, Item};
+use firmware_print::{Asked, Item, Output};
 use firmware_trace::Run;
-use libc::STDERR_FILENO;
+use std::io::{Print, Read};
+use std::process::ExitCode;
+use std::rt::{Env, Files};
 
 // The instructions past the last event, and the last line.
-fn finish(run: Run, ram: &mut [u8; 256], rom: &[u8], asked: Asked) {
-    let last = firmware_print::take(run, ram, rom, asked, Item::End);
-    if !last.printed {
-        os::fail(b"firmware: standard output");
+fn finish<P: Print, Q: Print>(
+    out: &mut Output<P>,
+    err: &Q,
+    run: Run,
+    ram: &mut [u8; 256],
+    rom: &[u8],
+    asked: Asked,
+) -> Result<(), ExitCode> {
+    firmware_print::take(out, run, ram, rom, asked, Item::End);
+    match firmware_print::failure(out) {
+        Some(e) => Err(input::fail(err, b"firmware: standard output", &e)),
+        None => Ok(()),
     }
 }
 
-// A run with the events of an open list, until no instruction follows; whether they are still well formed. A proved loop has to end, and
-// nothing says that a list does, so the loop counts down, from a number that no run uses up.
-fn run_events(fd: i32, rom: &[u8], asked: Asked) -> bool {
+// A run with the events of an open list, until no instruction follows; whether they are still well formed. Nothing says that a list ends, and
+// no run uses up the turns of the loop.
+fn run_events<P: Print, Q: Print, R: Read>(
+    out: &mut Output<P>,
+    err: &Q,
+    list: &mut R,
+    rom: &[u8],
+    asked: Asked,
+) -> Result<bool, ExitCode> {
     let mut ram = [0u8; 256];
-    let mut block = io::large_buffer();
+    let mut block = [0u8; 65536];
     let mut run = firmware_trace::power_up(rom);
     let mut place = Place {
         reader: firmware_event_lines::line_start(),
@@ -31,77 +47,86 @@ fn run_events(fd: i32, rom: &[u8], asked: Asked) -> bool {
         last: false,
         failed: false,
     };
-    let mut turns = u64::MAX;
-    while turns > 0 {
-        let found = firmware_input::find(fd, &mut block, place);
+    for _ in 0..u64::MAX {
+        let found = firmware_input::find(list, &mut block, place);
         let meaning = found.meaning;
         place = found.place;
         match meaning {
             Meaning::Nothing => {}
             Meaning::Event(e) => {
-                run = firmware_print::take(run, &mut ram, rom, asked, Item::Event(e));
+                run = firmware_print::take(out, run, &mut ram, rom, asked, Item::Event(e));
             }
             Meaning::Malformed => {
-                return false;
+                return Ok(false);
             }
         }
         if found.ended | !firmware_trace::goes_on(run.number, run.printed, run.next, asked.count) {
             break;
         }
-        turns -= 1;
     }
-    finish(run, &mut ram, rom, asked);
-    true
+    finish(out, err, run, &mut ram, rom, asked)?;
+    Ok(true)
 }
 
 // A run with the list that argument `at` names.
-fn run_listed(at: usize, rom: &[u8; 24576], asked: Asked) {
-    let fd = firmware_input::open_list(at);
-    if fd < 0 {
-        return;
-    }
-    if !run_events(fd, rom, asked) {
-        firmware_input::tell_changed(at);
+fn run_listed<P: Print, Q: Print, R: Env + Files>(
+    out: &mut Output<P>,
+    err: &Q,
+    rt: &R,
+    at: usize,
+    rom: &[u8; 24576],
+    asked: Asked,
+) -> Result<(), ExitCode> {
+    let mut list = firmware_input::open_list(rt, err, at)?;
+    if run_events(out, err, &mut list, rom, asked)? {
+        Ok(())
+    } else {
+        Err(firmware_input::tell_changed(rt, err, at))
     }
 }
 
-fn run_alone(rom: &[u8; 24576], asked: Asked) {
+fn run_alone<P: Print, Q: Print>(
+    out: &mut Output<P>,
+    err: &Q,
+    rom: &[u8; 24576],
+    asked: Asked,
+) -> Result<(), ExitCode> {
     let mut ram = [0u8; 256];
-    finish(firmware_trace::power_up(rom), &mut ram, rom, asked);
+    finish(out, err, firmware_trace::power_up(rom), &mut ram, rom, asked)
 }
 
 // ROM is argument `first`, COUNT the next, and EVENTS the one behind it.
-fn start(first: usize, traced: bool)
+fn start<P: Print, Q: Print, R: Env + Files>(
+    out: &mut Output<P>,
+    err: &Q,
+    rt: &R,
+    first: usize,
+    traced: bool,
+) -> Result<(), ExitCode>
     requires { first < 3 }
 {
-    let arguments = os::arg_count();
-    if (arguments < first + 2) | (arguments > first + 3) {
-        io::write_all(STDERR_FILENO, b"usage: firmware [-t] ROM COUNT [EVENTS]\n");
-        return;
+    if !firmware_input::is_given(rt, first + 1) | firmware_input::is_given(rt, first + 3) {
+        return Err(input::tell(err, b"usage: firmware [-t] ROM COUNT [EVENTS]\n"));
     }
     let mut rom = [0u8; 24576];
-    if !firmware_input::take_image(first, &mut rom) {
-        return;
-    }
-    let count = firmware_input::take_count(first + 1);
-    if count >= 4294967296 {
-        return;
-    }
+    firmware_input::take_image(rt, err, first, &mut rom)?;
     let asked = Asked {
-        count: count as u32,
+        count: firmware_input::take_count(rt, err, first + 1)?,
         traced,
     };
-    if arguments == first + 3 {
-        run_listed(first + 2, &rom, asked);
+    if firmware_input::is_given(rt, first + 2) {
+        run_listed(out, err, rt, first + 2, &rom, asked)
     } else {
-        run_alone(&rom, asked);
+        run_alone(out, err, &rom, asked)
     }
 }
 
-fn main() {
-    if firmware_input::is_trace_asked() {
-        start(2, true);
-    } else {
-        start(1, false);
+fn main(rt: HostRuntime) -> ExitCode {
+    let mut out = firmware_print::output_to(rt.stdout());
+    let err = rt.stderr();
+    let traced = firmware_input::is_trace_asked(&rt);
+    match start(&mut out, &err, &rt, if traced { 2 } else { 1 }, traced) {
+        Ok(()) => ExitCode::SUCCESS,
+        Err(status) => status,
     }
 }

@@ -1,4 +1,4 @@
-// A firmware run with its lines on standard output: the answers of the events given and the registers at the end, or a line for each event,
+// A firmware run with its lines on an output: the answers of the events given and the registers at the end, or a line for each event,
 // interrupt and instruction (images/README.md). No contract can say what is written, nor whether that went well; what a line is comes from
 // `firmware_lines`.
 #![tactic(auto)]
@@ -10,7 +10,7 @@ ghost use Rattle.firmware_print.specs.Taken.{is_followed, TracedTo, Proceeded, n
 use cpu_memory::Loaded;
 use cpu_operations::Cpu;
 use firmware_trace::{Fetched, Run};
-use libc::STDOUT_FILENO;
+use std::io::{Error, Print};
 
 // What is asked of a run: how many instructions, and whether a trace.
 #[derive(Clone, Copy)]
@@ -26,80 +26,104 @@ pub enum Item {
     End,
 }
 
-// ---- lines on standard output
-
-fn print(text: &[u8]) -> bool {
-    io::write_all(STDOUT_FILENO, text)
+// Where the lines go, and why the last write that failed did.
+#[derive(Drop)]
+pub struct Output<P> {
+    to: P,
+    error: Option<Error>,
 }
 
-fn print_number(n: u64) -> bool {
-    io::print_decimal(STDOUT_FILENO, n)
+pub fn output_to<P: Print>(to: P) -> Output<P> {
+    Output { to, error: None }
 }
 
-fn print_registers(cpu: Cpu) -> bool {
+// Why not all is printed; none where all is.
+pub fn failure<P: Print>(out: &Output<P>) -> Option<Error> {
+    out.error
+}
+
+// ---- lines on an output
+
+fn print<P: Print>(out: &mut Output<P>, text: &[u8]) -> bool {
+    match out.to.write_all(text) {
+        Ok(()) => true,
+        Err(e) => {
+            out.error = Some(e);
+            false
+        }
+    }
+}
+
+fn print_number<P: Print>(out: &mut Output<P>, n: u64) -> bool {
+    let mut text = [0u8; 20];
+    let k = io::decimal(n, &mut text);
+    print(out, &text[..k])
+}
+
+fn print_registers<P: Print>(out: &mut Output<P>, cpu: Cpu) -> bool {
     let line = firmware_lines::register_line(cpu);
-    print(&line)
+    print(out, &line)
 }
 
-fn print_event(next: u32, word: u32, answer: u32) -> bool {
+fn print_event<P: Print>(out: &mut Output<P>, next: u32, word: u32, answer: u32) -> bool {
     let text = firmware_lines::event_text(word, answer);
-    print_number(next as u64) & print(&text)
+    print_number(out, next as u64) & print(out, &text)
 }
 
 // The number of an instruction, a text, and the registers.
-fn print_line(next: u32, text: &[u8], cpu: Cpu) -> bool {
-    print_number(next as u64) & print(text) & print_registers(cpu)
+fn print_line<P: Print>(out: &mut Output<P>, next: u32, text: &[u8], cpu: Cpu) -> bool {
+    print_number(out, next as u64) & print(out, text) & print_registers(out, cpu)
 }
 
 // The line of an instruction that was done: from where RESET is low it has no opcode.
-fn print_done(next: u32, pc: u16, high: bool, opcode: Loaded, cpu: Cpu) -> bool {
+fn print_done<P: Print>(out: &mut Output<P>, next: u32, pc: u16, high: bool, opcode: Loaded, cpu: Cpu) -> bool {
     if !high {
         let text = firmware_lines::idle_text(pc);
-        return print_line(next, &text, cpu);
+        return print_line(out, next, &text, cpu);
     }
     match opcode {
         Loaded::Byte(b) => {
             let text = firmware_lines::instruction_text(pc, b);
-            print_line(next, &text, cpu)
+            print_line(out, next, &text, cpu)
         }
         Loaded::Refused(_) => true,
     }
 }
 
 // The lines of the interrupt and of the instruction behind it, each where it was done.
-fn print_turn(next: u32, fetched: Fetched, number: u8, after: Cpu) -> bool {
+fn print_turn<P: Print>(out: &mut Output<P>, next: u32, fetched: Fetched, number: u8, after: Cpu) -> bool {
     let entered = fetched.cpu;
     let opcode = fetched.opcode;
     let told = if fetched.taken {
-        print_line(next, b" interrupt ", entered)
+        print_line(out, next, b" interrupt ", entered)
     } else {
         true
     };
     let shown = if number == 0 {
-        print_done(next, entered.pc, fetched.high, opcode, after)
+        print_done(out, next, entered.pc, fetched.high, opcode, after)
     } else {
         true
     };
     told & shown
 }
 
-fn print_given(traced: bool, next: u32, word: u32, answer: u32) -> bool {
+fn print_given<P: Print>(out: &mut Output<P>, traced: bool, next: u32, word: u32, answer: u32) -> bool {
     if traced {
-        print_event(next, word, answer)
+        print_event(out, next, word, answer)
     } else {
         let line = hex_digits::hex_line(answer);
-        print(&line)
+        print(out, &line)
     }
 }
 
-fn print_end(cpu: Cpu, number: u8, next: u32, given: u64) -> bool {
-    let counts = print(b"number ")
-        & print_number(number as u64)
-        & print(b" counted ")
-        & print_number(next as u64)
-        & print(b" given ")
-        & print_number(given);
-    counts & print(b" ") & print_registers(cpu)
+fn print_end<P: Print>(out: &mut Output<P>, cpu: Cpu, number: u8, next: u32, given: u64) -> bool {
+    let counts = print(out, b"number ")
+        & print_number(out, number as u64)
+        & print(out, b" counted ")
+        & print_number(out, next as u64)
+        & print(out, b" given ")
+        & print_number(out, given);
+    counts & print(out, b" ") & print_registers(out, cpu)
 }
 
 // ---- the run
@@ -111,7 +135,7 @@ fn is_followed(number: u8, printed: bool) -> bool
 }
 
 // Some instructions, each with its lines.
-fn trace_on(start: Run, ram: &mut [u8; 256], rom: &[u8], instructions: u32) -> Run
+fn trace_on<P: Print>(out: &mut Output<P>, start: Run, ram: &mut [u8; 256], rom: &[u8], instructions: u32) -> Run
     ensures { TracedTo rom.now instructions start ram.old result ram.new }
 {
     let mut run = start;
@@ -121,7 +145,7 @@ fn trace_on(start: Run, ram: &mut [u8; 256], rom: &[u8], instructions: u32) -> R
         let fetched = firmware_trace::fetch(run, ram, rom);
         run = firmware_trace::run_on(run, ram, rom, 1);
         let cpu = run.cpu;
-        let printed = print_turn(next, fetched, run.number, cpu);
+        let printed = print_turn(out, next, fetched, run.number, cpu);
         run.printed = printed;
         i += 1;
         if !is_followed(run.number, printed) {
@@ -132,13 +156,13 @@ fn trace_on(start: Run, ram: &mut [u8; 256], rom: &[u8], instructions: u32) -> R
 }
 
 // Instructions up to the one of number `to`, where another may follow.
-fn proceed(run: Run, ram: &mut [u8; 256], rom: &[u8], traced: bool, to: u32) -> Run
+fn proceed<P: Print>(out: &mut Output<P>, run: Run, ram: &mut [u8; 256], rom: &[u8], traced: bool, to: u32) -> Run
     ensures { Proceeded rom.now traced to run ram.old result ram.new }
 {
     let next = run.next;
     if firmware_trace::goes_on(run.number, run.printed, next, to) {
         if traced {
-            trace_on(run, ram, rom, to - next)
+            trace_on(out, run, ram, rom, to - next)
         } else {
             firmware_trace::run_on(run, ram, rom, to - next)
         }
@@ -147,11 +171,11 @@ fn proceed(run: Run, ram: &mut [u8; 256], rom: &[u8], traced: bool, to: u32) -> 
     }
 }
 
-fn give(run: Run, rom: &[u8], traced: bool, word: u32) -> Run
+fn give<P: Print>(out: &mut Output<P>, run: Run, rom: &[u8], traced: bool, word: u32) -> Run
     ensures { result ≡ marked (given_to rom.now run word) result.printed }
 {
     let mut after = firmware_trace::give(run, rom, word);
-    let printed = print_given(traced, after.next, word, after.answer);
+    let printed = print_given(out, traced, after.next, word, after.answer);
     after.printed = printed;
     after
 }
@@ -173,7 +197,7 @@ fn number_of(item: Item) -> u32
 }
 
 // The last line, where all before it is printed.
-fn finish(run: Run) -> Run
+fn finish<P: Print>(out: &mut Output<P>, run: Run) -> Run
     ensures { result ≡ marked run result.printed }
 {
     if !run.printed {
@@ -181,18 +205,19 @@ fn finish(run: Run) -> Run
     }
     let cpu = run.cpu;
     let mut after = run;
-    let printed = print_end(cpu, run.number, run.next, run.given);
+    let printed = print_end(out, cpu, run.number, run.next, run.given);
     after.printed = printed;
     after
 }
 
 // The instructions before an item of a list; then an event is given where another instruction follows, and at the end the last line is printed.
 // Where no instruction may follow, as behind a refused one, nothing is done, and only whether all is printed can change.
-pub fn take(run: Run, ram: &mut [u8; 256], rom: &[u8], asked: Asked, item: Item) -> Run
+pub fn take<P: Print>(out: &mut Output<P>, run: Run, ram: &mut [u8; 256], rom: &[u8], asked: Asked, item: Item) -> Run
     ensures { (goes_on run.number run.printed run.next asked.count ≡ false → (result ≡ marked run result.printed) × (ram.new ≡ ram.old))
         × Taken rom.now asked item run ram.old result ram.new }
 {
     let r = proceed(
+        out,
         run,
         ram,
         rom,
@@ -202,10 +227,10 @@ pub fn take(run: Run, ram: &mut [u8; 256], rom: &[u8], asked: Asked, item: Item)
     match item {
         Item::Event(e) => {
             if firmware_trace::goes_on(r.number, r.printed, r.next, asked.count) {
-                return give(r, rom, asked.traced, (e % 4294967296) as u32);
+                return give(out, r, rom, asked.traced, (e % 4294967296) as u32);
             }
             r
         }
-        Item::End => finish(r),
+        Item::End => finish(out, r),
     }
 }

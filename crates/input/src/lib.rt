@@ -1,8 +1,12 @@
-// Reading an input in full blocks, with the end told from a failure.
+// Reading an input in full blocks, with the end told from a failure, and what a program says where a call of the system failed.
 #![tactic(auto)]
+
+mod failure;
+
 ghost use Rattle.std.specs.Counts.{IsPrefixLen};
 
-use std::io::Read;
+pub use failure::{fail, is_closed_pipe, status, tell};
+use std::io::{Error, Read};
 
 // The bytes read, and whether a read failed.
 #[derive(Clone, Copy)]
@@ -11,8 +15,26 @@ pub struct Filled {
     pub failed: bool,
 }
 
+// The bytes read, and why a read failed where one did.
+#[derive(Clone, Copy)]
+pub struct Block {
+    pub count: usize,
+    pub error: Option<Error>,
+}
+
 // Reads until the buffer is full, the input ends or a read fails. A read that a signal interrupts counts as failed.
 pub fn fill<R: Read>(from: &mut R, buf: &mut [u8]) -> Filled
+    ensures { IsPrefixLen result.count buf.new }
+{
+    let block = read_block(from, buf);
+    Filled {
+        count: block.count,
+        failed: block.error.is_some(),
+    }
+}
+
+// The same as `fill`, for a caller that tells why a read failed.
+pub fn read_block<R: Read>(from: &mut R, buf: &mut [u8]) -> Block
     ensures { IsPrefixLen result.count buf.new }
 {
     let mut done = 0;
@@ -20,23 +42,23 @@ pub fn fill<R: Read>(from: &mut R, buf: &mut [u8]) -> Filled
         match from.read(&mut buf[done..]) {
             Ok(n) => {
                 if n == 0 {
-                    return Filled {
+                    return Block {
                         count: done,
-                        failed: false,
+                        error: None,
                     };
                 }
                 done += n;
             }
-            Err(_) => {
-                return Filled {
+            Err(e) => {
+                return Block {
                     count: done,
-                    failed: true,
+                    error: Some(e),
                 };
             }
         }
     }
-    Filled {
+    Block {
         count: done,
-        failed: false,
+        error: None,
     }
 }

@@ -1,17 +1,12 @@
 // Gives the words on standard input, lowest byte first, to a fresh chip, and writes a line for each to standard output: the word as text, `=>`,
 // and its answer, so that what is written is a case. Bytes left over, a read or a write that fails are told on standard error.
 #![tactic(auto)]
+
 ghost use Rattle.std.specs.Prelude.{◌≡◌, ◌+◌, ◌*◌, ◌/◌, ◌≤◌, length};
 
 use chip::Chip;
-use libc::{STDERR_FILENO, STDIN_FILENO, STDOUT_FILENO};
-
-// The chip after some words, and whether more of them may be listed.
-#[derive(Clone, Copy)]
-struct Turn {
-    chip: Chip,
-    goes_on: bool,
-}
+use std::io::{Print, Read};
+use std::process::ExitCode;
 
 fn wide(b: u8) -> u32
     ensures { (result ≡ b) × (result ≤ 255) }
@@ -87,102 +82,101 @@ fn text_buffer() -> [u8; 148480]
     [0; 148480]
 }
 
-// Text that is written, and whether it could be.
-fn written(text: &[u8]) -> bool {
-    let is_written = io::write_all(STDOUT_FILENO, text);
-    if is_written {
-        return true;
+// Text to standard output. Here and below an `Err` has the status with which the program ends.
+fn write<P: Print, Q: Print>(out: &P, err: &Q, text: &[u8]) -> Result<(), ExitCode> {
+    match out.write_all(text) {
+        Ok(()) => Ok(()),
+        Err(e) => Err(input::fail(err, b"list_words: standard output", &e)),
     }
-    os::fail(b"list_words: standard output");
-    false
 }
 
-// The lines of so many words and their answers to standard output, and whether they could be written.
-fn print_lines(words: &[u32], answers: &[u32], count: usize, text: &mut [u8]) -> bool
+// The lines of so many words and their answers to standard output.
+fn print_lines<P: Print, Q: Print>(
+    out: &P,
+    err: &Q,
+    words: &[u32],
+    answers: &[u32],
+    count: usize,
+    text: &mut [u8],
+) -> Result<(), ExitCode>
     requires { (count ≤ length words.now) × ((count ≤ length answers.now) × (145 * count ≤ length text.old)) }
 {
     let end = put_lines(words, answers, count, text);
-    written(&text[..end])
+    write(out, err, &text[..end])
 }
 
 // The whole words of a block to the chip, and their lines to standard output.
-fn list_block(
+fn list_block<P: Print, Q: Print>(
+    out: &P,
+    err: &Q,
     c: Chip,
     bytes: &[u8],
     words: &mut [u32],
     answers: &mut [u32],
     text: &mut [u8],
-) -> Turn
+) -> Result<Chip, ExitCode>
     requires { (1024 ≤ length words.old) × ((1024 ≤ length answers.old) × (148480 ≤ length text.old)) }
 {
     let count = words_in(bytes.len());
     read_words(bytes, count, words);
     let done = list_call::advance_all(c, &words[..count], answers);
-    let after = done.chip;
-    Turn {
-        chip: after,
-        goes_on: print_lines(words, answers, count, text),
-    }
+    print_lines(out, err, words, answers, count, text)?;
+    Ok(done.chip)
 }
 
-fn tell_left_over(left: usize) {
+// The status at the end of the input, so many bytes past its last word.
+fn left_over<Q: Print>(err: &Q, left: usize) -> ExitCode {
     if left == 0 {
-        return;
+        return ExitCode::SUCCESS;
     }
-    io::write_all(
-        STDERR_FILENO,
-        b"list_words: standard input: bytes left over: ",
-    );
-    io::print_decimal(STDERR_FILENO, left as u64);
-    io::write_all(STDERR_FILENO, b"\n");
+    input::status(println!(err; "list_words: standard input: bytes left over: {left}"))
 }
 
-// After a block of n bytes. Only the last one is not full, and only it may end within a word.
-fn turned(t: Turn, n: usize, failed: bool) -> Turn {
-    let after = t.chip;
-    if failed {
-        os::fail(b"list_words: standard input");
-        return Turn {
-            chip: after,
-            goes_on: false,
-        };
-    }
-    if t.goes_on {
-        tell_left_over(n % 4);
-    }
-    Turn {
-        chip: after,
-        goes_on: t.goes_on & (n == 4096),
-    }
-}
-
-fn take_turn(c: Chip, words: &mut [u32], answers: &mut [u32], text: &mut [u8]) -> Turn
+// A block is full unless it is the last one, and only that one may end within a word.
+fn take_turn<R: Read, P: Print, Q: Print>(
+    from: &mut R,
+    out: &P,
+    err: &Q,
+    c: Chip,
+    words: &mut [u32],
+    answers: &mut [u32],
+    text: &mut [u8],
+) -> Result<Chip, ExitCode>
     requires { (1024 ≤ length words.old) × ((1024 ≤ length answers.old) × (148480 ≤ length text.old)) }
 {
-    let mut block = io::buffer();
-    let filled = input::fill(STDIN_FILENO, &mut block);
-    let n = filled.count;
-    let t = list_block(c, &block[..n], words, answers, text);
-    turned(t, n, filled.failed)
+    let mut block = [0u8; 4096];
+    let read = input::read_block(from, &mut block);
+    let next = list_block(out, err, c, &block[..read.count], words, answers, text)?;
+    if let Some(e) = read.error {
+        return Err(input::fail(err, b"list_words: standard input", &e));
+    }
+    if read.count < 4096 {
+        return Err(left_over(err, read.count % 4));
+    }
+    Ok(next)
 }
 
-// A proved loop has to end, and nothing says that the input does, so the loop counts its turns down, from a number that no run uses up.
-fn main() {
-    let mut word_places = places();
-    let words: &mut [u32] = &mut word_places;
-    let mut answer_places = places();
-    let answers: &mut [u32] = &mut answer_places;
-    let mut text_places = text_buffer();
-    let text: &mut [u8] = &mut text_places;
+// A proved loop has to end, and nothing says that the input does, so the loop counts its turns, up to a number that no run reaches.
+fn main(rt: HostRuntime) -> ExitCode {
+    let mut from = rt.stdin();
+    let (out, err) = (rt.stdout(), rt.stderr());
+    let mut words = places();
+    let mut answers = places();
+    let mut text = text_buffer();
     let mut c = chip::fresh();
-    let mut turns = u64::MAX;
-    while turns > 0 {
-        let t = take_turn(c, words, answers, text);
-        if t.goes_on {
-            c = t.chip;
-            turns -= 1;
-        } else {
-            return;
+    for _ in 0..u64::MAX {
+        match take_turn(
+            &mut from,
+            &out,
+            &err,
+            c,
+            &mut words,
+            &mut answers,
+            &mut text,
+        ) {
+            Ok(next) => c = next,
+            Err(status) => return status,
         }
     }
+    ExitCode::SUCCESS
 }

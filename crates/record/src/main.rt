@@ -1,90 +1,58 @@
 // Writes the words on standard input, lowest byte first, to standard output as a recording: blocks of 126 words and one with the
 // rest. What goes wrong is told on standard error.
 #![tactic(auto)]
-ghost use Rattle.std.specs.Prelude.{◌≡◌, length};
 
-use libc::{STDERR_FILENO, STDIN_FILENO, STDOUT_FILENO};
+use std::io::Print;
+use std::process::ExitCode;
 
-// The number of the next block, and whether another may follow.
-#[derive(Clone, Copy)]
-struct Recorded {
-    next: u32,
-    more: bool,
+// Tells what went wrong with the input, and the status that the program then ends with.
+fn tell_input(rt: &HostRuntime, count: usize, failed: bool, number: u8) -> Option<ExitCode> {
+    let text: &[u8] = if failed {
+        b"record: cannot read standard input\n"
+    } else if number != 0 {
+        b"record: more words than 65,536 blocks hold; the rest is left out\n"
+    } else if count % 4 != 0 {
+        b"record: the input ends within a word; its bytes are left out\n"
+    } else {
+        return None;
+    };
+    Some(input::tell(&rt.stderr(), text))
 }
 
-// Room for the words of 128 blocks, as bytes and as words.
-fn input_buffer() -> [u8; 64512]
-    ensures { 64512 ≡ length result }
-{
-    [0; 64512]
-}
-
-fn places() -> [u32; 16128]
-    ensures { 16128 ≡ length result }
-{
-    [0; 16128]
-}
-
-// Tells what went wrong with the input, and whether anything did.
-fn tell_input(count: usize, failed: bool, number: u8) -> bool {
-    if failed {
-        io::write_all(STDERR_FILENO, b"record: cannot read standard input\n");
-        return true;
-    }
-    if number == 0 {
-        if count % 4 == 0 {
-            return false;
-        }
-        io::write_all(
-            STDERR_FILENO,
-            b"record: the input ends within a word; its bytes are left out\n",
-        );
-        return true;
-    }
-    io::write_all(
-        STDERR_FILENO,
-        b"record: more words than 65,536 blocks hold; the rest is left out\n",
-    );
-    true
-}
-
-// Reads words for up to 128 blocks, writes these, and tells whether to go on.
-fn record_some(next: u32) -> Recorded {
-    let mut bytes = input_buffer();
-    let filled = input::fill(STDIN_FILENO, &mut bytes);
+// Reads words for up to 128 blocks and writes these. Gives the number of the next block, or the status where none may follow.
+fn record_some(rt: &HostRuntime, next: u32) -> Result<u32, ExitCode> {
+    let mut bytes = [0u8; 64512];
+    let filled = input::fill(&mut rt.stdin(), &mut bytes);
     let n = filled.count;
-    let mut words = places();
+    let mut words = [0u32; 16128];
     let count = recording_writer::words_of(&bytes[..n], &mut words);
-    let mut out = io::large_buffer();
+    let mut out = [0u8; 65536];
     let done = recording_writer::write_blocks(next, &words[..count], &mut out);
-    let size = done.count;
-    let is_written = io::write_all(STDOUT_FILENO, &out[..size]);
-    let is_bad = tell_input(n, filled.failed, done.number);
-    if is_written {
-        return Recorded {
-            next: done.next,
-            more: (n == 64512) & !is_bad,
-        };
+    let written = rt.stdout().write_all(&out[..done.count]);
+    if let Err(e) = &written {
+        if input::is_closed_pipe(e) {
+            return Err(input::status(written));
+        }
     }
-    io::write_all(STDERR_FILENO, b"record: cannot write to standard output\n");
-    Recorded {
-        next: done.next,
-        more: false,
+    let told = tell_input(rt, n, filled.failed, done.number);
+    if written.is_err() {
+        return Err(input::tell(&rt.stderr(), b"record: cannot write to standard output\n"));
+    }
+    match told {
+        Some(status) => Err(status),
+        None if n < 64512 => Err(ExitCode::SUCCESS),
+        None => Ok(done.next),
     }
 }
 
-// A proved loop has to end, and nothing says that the input does, so the loop counts turns down, from a number that no run uses
-// up: after 512 turns of 128 blocks there is no number for a further block.
-fn main() {
+// After 512 turns of 128 blocks there is no number for a further block.
+fn main(rt: HostRuntime) -> ExitCode {
     let mut next: u32 = 0;
-    let mut turns = u64::MAX;
-    while turns > 0 {
-        let done = record_some(next);
-        if done.more {
-            next = done.next;
-            turns -= 1;
-        } else {
-            return;
+    for _ in 0..u64::MAX {
+        match record_some(&rt, next) {
+            Ok(number) => next = number,
+            Err(status) => return status,
         }
     }
+    ExitCode::SUCCESS
 }

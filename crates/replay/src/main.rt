@@ -2,104 +2,81 @@
 // answer to standard output. Words are answered as they come: a read that brings less than the buffer holds is answered at
 // once. A read or a write that fails is told on standard error, and ends the program.
 #![tactic(auto)]
-ghost use Rattle.std.specs.Prelude.{◌≡◌, ◌≤◌, length};
+
+ghost use Rattle.std.specs.Prelude.{◌≤◌, length, IfOk};
 
 use chip::Chip;
-use libc::{STDIN_FILENO, STDOUT_FILENO};
+use std::io::{Print, Read};
+use std::process::ExitCode;
 
-// The chip after a part, the bytes of a cut word, which stand at the start of the input, and whether another part may follow.
+// The chip after a part, and the bytes of a cut word, which stand at the start of the input.
 #[derive(Clone, Copy)]
 struct Turn {
     chip: Chip,
     carried: usize,
-    more: bool,
 }
 
-fn ended(c: Chip) -> Turn
-    ensures { result.carried ≤ 0 }
-{
-    Turn {
-        chip: c,
-        carried: 0,
-        more: false,
+// Writes text. Where it cannot, the program ends.
+fn write(rt: &HostRuntime, text: &[u8]) -> Result<(), ExitCode> {
+    match rt.stdout().write_all(text) {
+        Ok(()) => Ok(()),
+        Err(e) => Err(input::fail(&rt.stderr(), b"replay: standard output", &e)),
     }
-}
-
-// Writes text, and tells whether it could.
-fn written(text: &[u8]) -> bool {
-    let is_written = io::write_all(STDOUT_FILENO, text);
-    if is_written {
-        return true;
-    }
-    os::fail(b"replay: standard output");
-    false
 }
 
 // The end of the input: bytes left over are answered.
-fn finish(c: Chip, left: &[u8], out: &mut [u8]) {
+fn finish(rt: &HostRuntime, c: Chip, left: &[u8], out: &mut [u8]) -> ExitCode {
     let answered = replay_text::answer_block(c, left, out);
-    let count = answered.count;
-    written(&out[..count]);
+    match write(rt, &out[..answered.count]) {
+        Ok(()) => ExitCode::SUCCESS,
+        Err(status) => status,
+    }
 }
 
 // What has come, answered.
-fn answer(c: Chip, come: &mut [u8], out: &mut [u8]) -> Turn
-    ensures { result.carried ≤ length come.old }
+fn answer(rt: &HostRuntime, c: Chip, come: &mut [u8], out: &mut [u8]) -> Result<Turn, ExitCode>
+    ensures { IfOk result (λ t. t.carried ≤ length come.old) }
 {
     let part = replay_text::answer_part(c, come, out);
-    let count = part.count;
-    let next = part.chip;
-    Turn {
-        chip: next,
+    write(rt, &out[..part.count])?;
+    Ok(Turn {
+        chip: part.chip,
         carried: part.carried,
-        more: written(&out[..count]),
-    }
+    })
 }
 
-// Reads what has come, behind the bytes of a cut word.
-fn take_turn(c: Chip, carried: usize, input: &mut [u8], out: &mut [u8]) -> Turn
-    requires { carried ≤ length input.old }
-    ensures { result.carried ≤ length input.old }
+// Reads what has come, behind the bytes of a cut word, and answers it. At the end of the input, or where a read or a write fails,
+// the program ends.
+fn take_turn(
+    rt: &HostRuntime,
+    turn: Turn,
+    bytes: &mut [u8],
+    out: &mut [u8],
+) -> Result<Turn, ExitCode>
+    requires { turn.carried ≤ length bytes.old }
+    ensures { IfOk result (λ t. t.carried ≤ length bytes.old) }
 {
-    let got = libc::read(STDIN_FILENO, &mut input[carried..]);
-    if got < 0 {
-        os::fail(b"replay: standard input");
-        return ended(c);
+    let carried = turn.carried;
+    match rt.stdin().read(&mut bytes[carried..]) {
+        Ok(0) => Err(finish(rt, turn.chip, &bytes[..carried], out)),
+        Ok(n) => answer(rt, turn.chip, &mut bytes[..carried + n], out),
+        Err(e) => Err(input::fail(&rt.stderr(), b"replay: standard input", &e)),
     }
-    let n = io::count(got, &input[carried..]);
-    if n == 0 {
-        finish(c, &input[..carried], out);
-        return ended(c);
-    }
-    let end = carried + n;
-    answer(c, &mut input[..end], out)
 }
 
-// Zeros for the text of a full input: 9 bytes for each 4. The `ensures` gives the length, which lending the array as a slice needs.
-fn text_buffer() -> [u8; 147456]
-    ensures { 147456 ≡ length result }
-{
-    [0; 147456]
-}
-
-// A proved loop has to end, and nothing says that the input does, so the loop
-// counts its turns down, from a number that no run uses up.
-fn main() {
-    let mut bytes = io::large_buffer();
-    let input: &mut [u8] = &mut bytes;
-    let mut places = text_buffer();
-    let out: &mut [u8] = &mut places;
-    let mut c = chip::fresh();
-    let mut carried = 0;
-    let mut turns = u64::MAX;
-    while turns > 0 {
-        let done = take_turn(c, carried, input, out);
-        if done.more {
-            c = done.chip;
-            carried = done.carried;
-            turns -= 1;
-        } else {
-            return;
+// The text of a full input takes 9 bytes for each 4.
+fn main(rt: HostRuntime) -> ExitCode {
+    let mut bytes = [0u8; 65536];
+    let mut out = [0u8; 147456];
+    let mut turn = Turn {
+        chip: chip::fresh(),
+        carried: 0,
+    };
+    for _ in 0..u64::MAX {
+        match take_turn(&rt, turn, &mut bytes, &mut out) {
+            Ok(next) => turn = next,
+            Err(status) => return status,
         }
     }
+    ExitCode::SUCCESS
 }

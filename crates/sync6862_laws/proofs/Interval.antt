@@ -47,8 +47,9 @@ after_clocks (suc n) k s w f e =
     let c = one_clock s w in
     let next : Counters = (answer s Clock).state in
     let field : per_field next.part next.hsel ≡ false = rw (c.part, c.hsel) f in
+    let last : interval_last s.part s.hsel ≡ interval_last next.part next.hsel = rw (c.part, c.hsel) refl in
     let count : next.sync.interval ≡ cycles (interval_last next.part next.hsel) (suc k) =
-    c.interval ∙ runs_on _ _ _ f ∙ rw (c.part, c.hsel) (ap (cycle_next (interval_last s.part s.hsel)) e) in
+    c.interval ∙ runs_on _ _ _ f ∙ ap (cycle_next (interval_last s.part s.hsel)) e ∙ ap (λ (n : ℕ). cycle_next n (cycles n k)) last in
     let sum : n + suc k ≡ suc n + k = omega arith in
     let rest = after_clocks n (suc k) next (well_kept s Clock w) field count in
     record {

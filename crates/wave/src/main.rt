@@ -2,27 +2,16 @@
 // left over at the end are reported on standard error, past a dump of the whole words. A read or a write that fails is reported there, and
 // ends the program.
 #![tactic(auto)]
+
 ghost use Rattle.std.specs.Prelude.{◌≡◌, length};
 
 use chip::Chip;
-use libc::{STDERR_FILENO, STDIN_FILENO, STDOUT_FILENO};
+use std::io::{Print, Read};
+use std::process::ExitCode;
 use wave_run::Run;
 use wave_write::Writer;
 
-// Where the run stands, and whether another block may follow.
-#[derive(Clone, Copy)]
-struct Turn {
-    run: Run,
-    more: bool,
-}
-
-// Places for a block of words, as bytes, as words, and as what they add to the dump: 151 bytes a word at most.
-fn input_buffer() -> [u8; 4096]
-    ensures { 4096 ≡ length result }
-{
-    [0; 4096]
-}
-
+// Places for a block of words, and for what they add to the dump: 151 bytes a word at most.
 fn places() -> [u32; 1024]
     ensures { 1024 ≡ length result }
 {
@@ -35,117 +24,109 @@ fn text_buffer() -> [u8; 154624]
     [0; 154624]
 }
 
-// Writes text, and says whether it could.
-fn written(text: &[u8]) -> bool {
-    let is_written = io::write_all(STDOUT_FILENO, text);
-    if is_written {
-        return true;
+// Text to standard output. Here and below an `Err` has the status with which the program ends.
+fn write<P: Print, Q: Print>(out: &P, err: &Q, text: &[u8]) -> Result<(), ExitCode> {
+    match out.write_all(text) {
+        Ok(()) => Ok(()),
+        Err(e) => Err(input::fail(err, b"wave: standard output", &e)),
     }
-    os::fail(b"wave: standard output");
-    false
 }
 
-fn tell_left_over() {
-    io::write_all(
-        STDERR_FILENO,
+fn tell_left_over<Q: Print>(err: &Q) -> ExitCode {
+    input::tell(
+        err,
         b"wave: the input ends within a word; its bytes are left out\n",
-    );
+    )
 }
 
 // The end of the input: the dump is ended, and bytes left over are reported.
-fn finish(w: Writer, left: usize, out: &mut [u8]) {
-    let end = wave_write::finish(out, 0, w);
-    let is_written = written(&out[..end]);
-    if is_written {
-        if left == 0 {
-            return;
-        }
-        tell_left_over();
+fn finish<P: Print, Q: Print>(
+    out: &P,
+    err: &Q,
+    w: Writer,
+    left: usize,
+    text: &mut [u8],
+) -> Result<(), ExitCode> {
+    let end = wave_write::finish(text, 0, w);
+    write(out, err, &text[..end])?;
+    if left == 0 {
+        return Ok(());
     }
+    Err(tell_left_over(err))
 }
 
-// What begins the dump of a chip's run, and whether it could be written.
-fn begin(c: Chip, out: &mut [u8]) -> bool {
-    let end = wave_run::begin(c, out);
-    written(&out[..end])
+// What begins the dump of a chip's run.
+fn begin<P: Print, Q: Print>(out: &P, err: &Q, c: Chip, text: &mut [u8]) -> Result<(), ExitCode> {
+    let end = wave_run::begin(c, text);
+    write(out, err, &text[..end])
 }
 
-// A block of words to the chip, and what they add to the dump, and whether it could be written.
-fn write_block(run: Run, words: &[u32], out: &mut [u8]) -> Turn {
-    let done = wave_run::write_block(run, words, out);
+// A block of words to the chip, and what they add to the dump.
+fn write_block<P: Print, Q: Print>(
+    out: &P,
+    err: &Q,
+    run: Run,
+    words: &[u32],
+    text: &mut [u8],
+) -> Result<Run, ExitCode> {
+    let done = wave_run::write_block(run, words, text);
     let end = done.next;
-    let next = done.run;
-    Turn {
-        run: next,
-        more: written(&out[..end]),
-    }
+    write(out, err, &text[..end])?;
+    Ok(done.run)
 }
 
 // The words of so many bytes, and the end of the dump where the input has ended.
-fn take_bytes(run: Run, bytes: &[u8], out: &mut [u8]) -> Turn {
+fn take_bytes<P: Print, Q: Print>(
+    out: &P,
+    err: &Q,
+    run: Run,
+    bytes: &[u8],
+    text: &mut [u8],
+) -> Result<Run, ExitCode> {
     let mut words = places();
     let count = recording_writer::words_of(bytes, &mut words);
-    let done = write_block(run, &words[..count], out);
-    let next = done.run;
-    if done.more {
-        if bytes.len() == 4096 {
-            return done;
-        }
-        let writer = next.writer;
-        finish(writer, bytes.len() % 4, out);
+    let next = write_block(out, err, run, &words[..count], text)?;
+    if bytes.len() == 4096 {
+        return Ok(next);
     }
-    Turn {
-        run: next,
-        more: false,
-    }
+    finish(out, err, next.writer, bytes.len() % 4, text)?;
+    Err(ExitCode::SUCCESS)
 }
 
-// What begins the dump, before the first block, and whether it could be written.
-fn begun(run: Run, is_first: bool, out: &mut [u8]) -> bool {
+// Reads until the buffer is full or the input ends. Before the first block stands what begins the dump. Nothing is written where the first
+// read fails.
+fn take_turn<R: Read, P: Print, Q: Print>(
+    from: &mut R,
+    out: &P,
+    err: &Q,
+    run: Run,
+    is_first: bool,
+    text: &mut [u8],
+) -> Result<Run, ExitCode> {
+    let mut bytes = [0u8; 4096];
+    let read = input::read_block(from, &mut bytes);
+    if let Some(e) = read.error {
+        return Err(input::fail(err, b"wave: standard input", &e));
+    }
     if is_first {
-        let c = run.chip;
-        return begin(c, out);
+        begin(out, err, run.chip, text)?;
     }
-    true
+    take_bytes(out, err, run, &bytes[..read.count], text)
 }
 
-// Reads until the buffer is full or the input ends. Nothing is written where the first read fails.
-fn take_turn(run: Run, is_first: bool, out: &mut [u8]) -> Turn {
-    let mut bytes = input_buffer();
-    let filled = input::fill(STDIN_FILENO, &mut bytes);
-    if filled.failed {
-        os::fail(b"wave: standard input");
-        return Turn {
-            run: run,
-            more: false,
-        };
-    }
-    let n = filled.count;
-    let is_begun = begun(run, is_first, out);
-    if is_begun {
-        return take_bytes(run, &bytes[..n], out);
-    }
-    Turn {
-        run: run,
-        more: false,
-    }
-}
-
-// A proved loop has to end, and nothing says that the input does, so the loop counts blocks down, from a number that no run uses up.
-fn main() {
-    let mut places = text_buffer();
-    let out: &mut [u8] = &mut places;
+// A proved loop has to end, and nothing says that the input does, so the loop counts blocks, up to a number that no run reaches.
+fn main(rt: HostRuntime) -> ExitCode {
+    let mut from = rt.stdin();
+    let (out, err) = (rt.stdout(), rt.stderr());
+    let mut text = text_buffer();
     let mut run = wave_run::start(chip::fresh());
     let mut is_first = true;
-    let mut blocks = u64::MAX;
-    while blocks > 0 {
-        let turn = take_turn(run, is_first, out);
-        if turn.more {
-            run = turn.run;
-            is_first = false;
-            blocks -= 1;
-        } else {
-            return;
+    for _ in 0..u64::MAX {
+        match take_turn(&mut from, &out, &err, run, is_first, &mut text) {
+            Ok(next) => run = next,
+            Err(status) => return status,
         }
+        is_first = false;
     }
+    ExitCode::SUCCESS
 }

@@ -1,19 +1,22 @@
 // Gives the words on standard input, lowest byte first, to a fresh chip, and then tells of each source why its request line is up: a line
 // for each of V, E, R, A, D and S. Bytes left over make no word. A read or a write that fails is told on standard error.
 #![tactic(auto)]
+
 ghost use Rattle.std.specs.Prelude.{◌≡◌, length};
 
 use bus::OwnAddress;
-use libc::{STDIN_FILENO, STDOUT_FILENO};
+use std::io;
+use std::io::{Error, Print, Read};
+use std::process::ExitCode;
 use why_last_set::Sort;
 use why_reasons::{Followed, Reason, Reasons};
 
-// What a block leaves, whether another may follow, and whether a read failed.
+// What a block leaves, whether another may follow, and why a read failed where one did.
 #[derive(Clone, Copy)]
 struct Turn {
     followed: Followed,
     more: bool,
-    failed: bool,
+    error: Option<Error>,
 }
 
 // Places for the words of a full buffer.
@@ -24,104 +27,75 @@ fn places() -> [u32; 16384]
 }
 
 // Reads until the buffer is full or the input ends, and follows its whole words.
-fn take_block(f: Followed) -> Turn {
-    let mut bytes = io::large_buffer();
-    let filled = input::fill(STDIN_FILENO, &mut bytes);
-    let n = filled.count;
+fn take_block<R: Read>(from: &mut R, f: Followed) -> Turn {
+    let mut bytes = [0u8; 65536];
+    let read = input::read_block(from, &mut bytes);
+    let n = read.count;
     let mut words = places();
     let count = recording_writer::words_of(&bytes[..n], &mut words);
-    let next = why_reasons::follow(f, &words[..count]);
     Turn {
-        followed: next,
-        more: (n == 65536) & !filled.failed,
-        failed: filled.failed,
+        followed: why_reasons::follow(f, &words[..count]),
+        more: n == 65536,
+        error: read.error,
     }
 }
 
-fn print(text: &[u8]) -> bool {
-    io::write_all(STDOUT_FILENO, text)
-}
-
-fn print_own(own: OwnAddress) -> bool {
-    match own {
-        OwnAddress::A0 => print(b"matched-address a0\n"),
-        OwnAddress::IiAdr => print(b"matched-address ii-adr\n"),
-        OwnAddress::Both => print(b"matched-address both\n"),
-    }
-}
-
-fn print_sort(sort: Sort) -> bool {
+fn sort_text(sort: Sort) -> &'static str {
     match sort {
-        Sort::VsyncRise => print(b"vsync-rise\n"),
-        Sort::P16Rise => print(b"p16-rise\n"),
-        Sort::Timer => print(b"timer\n"),
-        Sort::MatchedAddress(own) => print_own(own),
-        Sort::NinthClock => print(b"ninth-clock\n"),
-        Sort::Ddc1Load => print(b"ddc1-load\n"),
-        Sort::SclFall => print(b"scl-fall\n"),
+        Sort::VsyncRise => "vsync-rise",
+        Sort::P16Rise => "p16-rise",
+        Sort::Timer => "timer",
+        Sort::MatchedAddress(OwnAddress::A0) => "matched-address a0",
+        Sort::MatchedAddress(OwnAddress::IiAdr) => "matched-address ii-adr",
+        Sort::MatchedAddress(OwnAddress::Both) => "matched-address both",
+        Sort::NinthClock => "ninth-clock",
+        Sort::Ddc1Load => "ddc1-load",
+        Sort::SclFall => "scl-fall",
     }
 }
 
-fn print_event(place: u64, sort: Sort) -> bool {
-    print(b" place ") & io::print_decimal(STDOUT_FILENO, place) & print(b" ") & print_sort(sort)
-}
-
-fn print_reason(reason: Reason) -> bool {
+fn print_reason<P: Print>(out: &P, source: char, reason: Reason) -> io::Result<()> {
     match reason {
-        Reason::NotRequested => print(b" not-requested\n"),
-        Reason::AlreadySet => print(b" already-set\n"),
-        Reason::Event(place, sort) => print_event(place, sort),
+        Reason::NotRequested => println!(out; "{source} not-requested"),
+        Reason::AlreadySet => println!(out; "{source} already-set"),
+        Reason::Event(place, sort) => {
+            let what = sort_text(sort);
+            println!(out; "{source} place {place} {what}")
+        }
     }
 }
 
-// The six lines, and whether they could be written.
-fn print_all(reasons: Reasons) -> bool {
-    let v = reasons.v;
-    let e = reasons.e;
-    let r = reasons.r;
-    let a = reasons.a;
-    let d = reasons.d;
-    let s = reasons.s;
-    let upper = print(b"V")
-        & print_reason(v)
-        & print(b"E")
-        & print_reason(e)
-        & print(b"R")
-        & print_reason(r);
-    let lower = print(b"A")
-        & print_reason(a)
-        & print(b"D")
-        & print_reason(d)
-        & print(b"S")
-        & print_reason(s);
-    upper & lower
+// The six lines.
+fn print_all<P: Print>(out: &P, reasons: Reasons) -> io::Result<()> {
+    print_reason(out, 'V', reasons.v)?;
+    print_reason(out, 'E', reasons.e)?;
+    print_reason(out, 'R', reasons.r)?;
+    print_reason(out, 'A', reasons.a)?;
+    print_reason(out, 'D', reasons.d)?;
+    print_reason(out, 'S', reasons.s)
 }
 
 // The end of the input: what is found is told.
-fn finish(f: Followed, failed: bool) {
-    if failed {
-        os::fail(b"why: standard input");
-        return;
+fn finish<P: Print, Q: Print>(out: &P, err: &Q, f: Followed) -> ExitCode {
+    match print_all(out, why_reasons::reasons_after(f)) {
+        Ok(()) => ExitCode::SUCCESS,
+        Err(e) => input::fail(err, b"why: standard output", &e),
     }
-    let is_written = print_all(why_reasons::reasons_after(f));
-    if is_written {
-        return;
-    }
-    os::fail(b"why: standard output");
 }
 
-// A proved loop has to end, and nothing says that the input does, so the loop counts blocks down, from a number that no run uses up.
-fn main() {
+// A proved loop has to end, and nothing says that the input does, so the loop counts blocks, up to a number that no run reaches.
+fn main(rt: HostRuntime) -> ExitCode {
+    let mut from = rt.stdin();
     let mut f = why_reasons::start(chip::fresh());
-    let mut blocks = u64::MAX;
-    while blocks > 0 {
-        let turn = take_block(f);
+    for _ in 0..u64::MAX {
+        let turn = take_block(&mut from, f);
         f = turn.followed;
-        if turn.more {
-            blocks -= 1;
-        } else {
-            finish(f, turn.failed);
-            return;
+        if let Some(e) = turn.error {
+            return input::fail(&rt.stderr(), b"why: standard input", &e);
+        }
+        if !turn.more {
+            break;
         }
     }
+    finish(&rt.stdout(), &rt.stderr(), f)
 }

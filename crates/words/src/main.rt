@@ -2,17 +2,18 @@
 // behind `N *` where it is given N times; answers are passed over. The first line that is none is told on standard error, with the place of
 // its first bad token, and ends the program; the words before it are written. A read or a write that fails is told there too.
 #![tactic(auto)]
-use case_words::{Case, Found};
-use libc::{STDERR_FILENO, STDIN_FILENO, STDOUT_FILENO};
-use line_tokens::{Scanner, Token};
 
-// The line that is being read, its number, and whether another byte is worth reading.
+use case_words::{Case, Found};
+use line_tokens::{Scanner, Token};
+use std::io::{Print, Read};
+use std::process::ExitCode;
+
+// The line that is being read, and its number.
 #[derive(Clone, Copy)]
 struct Turn {
     scanner: Scanner,
     case: Case,
     line: u64,
-    goes_on: bool,
 }
 
 fn opened() -> Turn {
@@ -20,7 +21,6 @@ fn opened() -> Turn {
         scanner: line_tokens::start(),
         case: case_words::case_start(),
         line: 1,
-        goes_on: true,
     }
 }
 
@@ -32,140 +32,103 @@ fn taken(c: Case, t: Token) -> Case {
     case_words::take_case(c, t)
 }
 
-fn write_word(w: u32) -> bool {
-    let bytes = [
-        (w % 256) as u8,
-        (w / 256 % 256) as u8,
-        (w / 65536 % 256) as u8,
-        (w / 16777216) as u8,
-    ];
-    io::write_all(STDOUT_FILENO, &bytes)
-}
-
-// A word as often as its line says, and whether it could be written.
-fn write_words(times: u64, w: u32) -> bool {
-    let mut left = times;
-    while left > 0 {
-        let is_written = write_word(w);
-        if is_written {
-            left -= 1;
-        } else {
-            os::fail(b"words: standard output");
-            return false;
+// A word as often as its line says. Here and below an `Err` has the status with which the program ends.
+fn write_words<P: Print, Q: Print>(out: &P, err: &Q, times: u64, w: u32) -> Result<(), ExitCode> {
+    let bytes = w.to_le_bytes();
+    for _ in 0..times {
+        if let Err(e) = out.write_all(&bytes) {
+            return Err(input::fail(err, b"words: standard output", &e));
         }
     }
-    true
+    Ok(())
 }
 
-fn tell(text: &[u8]) {
-    io::write_all(STDERR_FILENO, text);
+fn refuse<Q: Print>(err: &Q, line: u64, place: u64) -> ExitCode {
+    input::status(println!(err; "words: line {line}: at byte {place}: not an event"))
 }
 
-fn refuse(line: u64, place: u64) -> bool {
-    tell(b"words: line ");
-    io::print_decimal(STDERR_FILENO, line);
-    tell(b": at byte ");
-    io::print_decimal(STDERR_FILENO, place);
-    tell(b": not an event\n");
-    false
-}
-
-fn found(f: Found, line: u64) -> bool {
+fn found<P: Print, Q: Print>(out: &P, err: &Q, f: Found, line: u64) -> Result<(), ExitCode> {
     match f {
-        Found::Nothing => true,
-        Found::Entry(times, w) => write_words(times, w),
-        Found::Refused(place) => refuse(line, place),
+        Found::Nothing => Ok(()),
+        Found::Entry(times, w) => write_words(out, err, times, w),
+        Found::Refused(place) => Err(refuse(err, line, place)),
     }
 }
 
-fn line_ended(t: Turn) -> Turn {
-    let s = t.scanner;
-    let pending = s.pending;
-    let c = t.case;
-    let last = taken(c, pending);
-    Turn {
+fn line_ended<P: Print, Q: Print>(out: &P, err: &Q, t: Turn) -> Result<Turn, ExitCode> {
+    let last = taken(t.case, t.scanner.pending);
+    found(out, err, case_words::case_end(last, t.scanner.at), t.line)?;
+    Ok(Turn {
         scanner: line_tokens::start(),
         case: case_words::case_start(),
         line: line_tokens::one_more(t.line),
-        goes_on: found(case_words::case_end(last, s.at), t.line),
-    }
+    })
 }
 
-fn byte_taken(t: Turn, b: u8) -> Turn {
-    if b == 10 {
-        return line_ended(t);
+fn byte_taken<P: Print, Q: Print>(out: &P, err: &Q, t: Turn, b: u8) -> Result<Turn, ExitCode> {
+    if b == b'\n' {
+        return line_ended(out, err, t);
     }
-    let before = t.scanner;
-    let c = t.case;
-    let s = line_tokens::scan(before, b);
-    let done = s.done;
-    Turn {
+    let s = line_tokens::scan(t.scanner, b);
+    Ok(Turn {
         scanner: s,
-        case: taken(c, done),
+        case: taken(t.case, s.done),
         line: t.line,
-        goes_on: true,
-    }
+    })
 }
 
 // The bytes of a block, up to a line that is refused.
-fn block_taken(start: Turn, bytes: &[u8]) -> Turn {
+fn block_taken<P: Print, Q: Print>(
+    out: &P,
+    err: &Q,
+    start: Turn,
+    bytes: &[u8],
+) -> Result<Turn, ExitCode> {
     let mut t = start;
-    let mut i = 0;
-    while i < bytes.len() {
-        t = byte_taken(t, bytes[i]);
-        if t.goes_on {
-            i += 1;
-        } else {
-            return t;
-        }
+    for b in bytes {
+        t = byte_taken(out, err, t, *b)?;
     }
-    t
-}
-
-fn stopped(t: Turn) -> Turn {
-    let s = t.scanner;
-    let c = t.case;
-    Turn {
-        scanner: s,
-        case: c,
-        line: t.line,
-        goes_on: false,
-    }
+    Ok(t)
 }
 
 // The end of the text ends its last line.
-fn closed(t: Turn) -> Turn {
-    let s = t.scanner;
-    if s.at == 0 {
-        return stopped(t);
+fn closed<P: Print, Q: Print>(out: &P, err: &Q, t: Turn) -> ExitCode {
+    if t.scanner.at == 0 {
+        return ExitCode::SUCCESS;
     }
-    stopped(line_ended(t))
+    match line_ended(out, err, t) {
+        Ok(_) => ExitCode::SUCCESS,
+        Err(status) => status,
+    }
 }
 
-fn take_turn(t: Turn) -> Turn {
-    let mut block = io::large_buffer();
-    let got = libc::read(STDIN_FILENO, &mut block);
-    if got < 0 {
-        os::fail(b"words: standard input");
-        return stopped(t);
+fn take_turn<R: Read, P: Print, Q: Print>(
+    from: &mut R,
+    out: &P,
+    err: &Q,
+    t: Turn,
+) -> Result<Turn, ExitCode> {
+    let mut block = [0u8; 65536];
+    match from.read(&mut block) {
+        Ok(n) => {
+            if n == 0 {
+                return Err(closed(out, err, t));
+            }
+            block_taken(out, err, t, &block[..n])
+        }
+        Err(e) => Err(input::fail(err, b"words: standard input", &e)),
     }
-    let n = io::count(got, &block);
-    if n == 0 {
-        return closed(t);
-    }
-    block_taken(t, &block[..n])
 }
 
-// A proved loop has to end, and nothing says that the input does, so the loop counts its turns down, from a number that no run uses up.
-fn main() {
+// A proved loop has to end, and nothing says that the input does, so the loop counts its turns, up to a number that no run reaches.
+fn main(rt: HostRuntime) -> ExitCode {
+    let mut from = rt.stdin();
     let mut t = opened();
-    let mut turns = u64::MAX;
-    while turns > 0 {
-        t = take_turn(t);
-        if t.goes_on {
-            turns -= 1;
-        } else {
-            return;
+    for _ in 0..u64::MAX {
+        match take_turn(&mut from, &rt.stdout(), &rt.stderr(), t) {
+            Ok(next) => t = next,
+            Err(status) => return status,
         }
     }
+    ExitCode::SUCCESS
 }

@@ -1,0 +1,10 @@
+-- What the loop of `vcd_body::fill_singles` keeps.
+use Prim.Native.Nat.{◌-◌, ◌≤◌}
+use Rattle.vcd_body.specs.Tables.{Singles}
+use Rattle.vcd_body.proofs.fill_singles.Given as goal
+
+abbrev pub invariant-loop-b : goal.invariant-loop-b
+invariant-loop-b l = (l.b ≤ 256) × Singles l.text l.places l.pins l.entries l.singles l.b
+
+abbrev pub decreases-loop-b : goal.decreases-loop-b
+decreases-loop-b l = 256 - l.b
