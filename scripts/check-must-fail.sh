@@ -35,8 +35,8 @@ judge() {
 # headers EDIT: for each wrong answer its function, or its function and goal, and the public function that it is an answer of,
 # '# FUNCTION of PUBLIC (LABEL): ..'; for each wrong rule its theorem twice
 headers() {
-    sed -nE 's/^# ([a-z0-9_]+(\/[a-z0-9_-]+)?) of ([a-z0-9_]+)( \([a-z0-9_]+\))?: .*/\1 \3/p
-        s/^# ([a-z0-9_]+)(\/[a-z0-9_-]+)?( \([a-z0-9_]+\))?: .*/\1\2 \1/p
+    sed -nE 's/^# ([a-z0-9_]+(\/[A-Za-z0-9_-]+)?) of ([a-z0-9_]+)( \([a-z0-9_]+\))?: .*/\1 \3/p
+        s/^# ([a-z0-9_]+)(\/[A-Za-z0-9_-]+)?( \([a-z0-9_]+\))?: .*/\1\2 \1/p
         s/^# ([A-Z][A-Za-z0-9]*\.[^ .:]+)( \([a-z0-9_]+\))?: .*/\1 \1/p' "$1"
 }
 
@@ -44,7 +44,7 @@ headers() {
 # other are of the same wrong answer.
 shared() {
     awk '/^old:/ { edited = 1 }
-        /^# ([a-z0-9_]+(\/[a-z0-9_-]+)?( of [a-z0-9_]+)?|[A-Z][A-Za-z0-9]*\.[^ .:]+)( \([a-z0-9_]+\))?: / {
+        /^# ([a-z0-9_]+(\/[A-Za-z0-9_-]+)?( of [a-z0-9_]+)?|[A-Z][A-Za-z0-9]*\.[^ .:]+)( \([a-z0-9_]+\))?: / {
             answer += edited; edited = 0
             name = $2; sub(/:$/, "", name); whole = name; sub(/\/.*/, "", whole)
             if ((name in by && by[name] != answer) || (name != whole && whole in by) || (name == whole && name in parted)) print name

@@ -21,7 +21,7 @@ record() {
     (cd "$tree" && sha256sum target/bin/* > target/gate/made)
     {
         echo '==== rt ci'
-        (cd "$tree/crates" && printf '%s\n' */must-fail/*.edit) | sed 's#^\(.*\)/must-fail/\(.*\)\.edit$#rt: must-fail \1/\2: refused, as it must be (1 s)#'
+        (cd "$tree/crates" && printf '%s\n' */must-fail/*.edit) | sed 's#^\(.*\)/must-fail/\(.*\)\.edit$#rt: must-fail \1/\2.edit: refused, as it must be: an error#'
         for check in scripts/check-*.sh; do printf '==== %s\nagree: 1\n' "${check#scripts/}"; done
     } > "$gate/log"
     printf '%s\n' "commit $(git -C "$tree" rev-parse HEAD)" 'clean yes' 'began 2000-01-01T00:00Z' 'ended 2000-01-01T01:00Z' "toolchain $(rt version)" 'last 9 passed, 0 failed' 'counts 60' \

@@ -1,20 +1,19 @@
 #!/usr/bin/env python3
-"""crates.py [--check | --seconds LOG]: docs/CRATES.md, a row a crate, made from crates.txt, the first comment of each crate and its files.
+"""crates.py [--check]: docs/CRATES.md, a row a crate, made from crates.txt, the first comment of each crate and its files.
 
 Without an argument the page is written; with --check it is compared with what would be written. Lines are those that are not blank.
-Check seconds stand in scripts/check-seconds.txt, a line a crate, NAME SECONDS; --seconds LOG puts in those that a log of `rt` tells.
 """
 import pathlib
 import re
 import sys
 
-PAGE, SECONDS = pathlib.Path("docs/CRATES.md"), pathlib.Path("scripts/check-seconds.txt")
+PAGE = pathlib.Path("docs/CRATES.md")
 HEAD = """# The crates
 
 For whoever wants to know where a thing stands. `ls crates` shows the same: the first word of a crate's name is its subject, `_laws` is a
 crate of theorems without code, `_cases` one of computed runs, `_capi` a part of the C interface, and a program has the name of its
 command. Made by scripts/crates.py from crates.txt, from the first comment of each crate and from its files; the gate holds it. Lines
-are those that are not blank; seconds are by the clock, of a run of the gate, six checks at a time on two cores, with other work beside the first sixty.
+are those that are not blank.
 """
 
 
@@ -26,7 +25,7 @@ def blocks():
             found.append((heading.group(1), [], []))
         elif found and (said := re.fullmatch(r"# (.*)", line)) and not found[-1][2]:
             found[-1][1].append(said.group(1))
-        elif crate := re.match(r"([a-z0-9_]+):", line):
+        elif crate := re.match(r"([a-z0-9_]+)(?: staticlib)?:", line):
             found[-1][2].append(crate.group(1))
     return found
 
@@ -50,36 +49,25 @@ def lines_of(crate, pattern):
     return sum(bool(line.strip()) for path in pathlib.Path("crates", crate).glob(pattern) for line in path.read_text().split("\n"))
 
 
-def seconds():
-    """the check seconds that were taken, by crate"""
-    return dict(line.split() for line in SECONDS.read_text().split("\n") if line.strip())
-
-
 def page():
     """the text of docs/CRATES.md"""
-    took, text, count = seconds(), [HEAD], 0
+    text, count = [HEAD], 0
     for name, said, crates in blocks():
         text.append(f"## {name[0].upper()}{name[1:]}\n")
         if said:
             text.append(" ".join(said) + "\n")
-        text.append("| crate | what it holds | code | specs | proofs | edit files | check, s |\n|---|---|---|---|---|---|---|")
+        text.append("| crate | what it holds | code | specs | proofs | edit files |\n|---|---|---|---|---|---|")
         for crate in crates:
             count += 1
             sizes = [lines_of(crate, "src/*.rt"), lines_of(crate, "specs/**/*.antt"), lines_of(crate, "proofs/**/*.antt")]
             edits = len(list(pathlib.Path("crates", crate, "must-fail").glob("*.edit")))
-            cells = [f"`{crate}`", first_comment(crate), *map(str, sizes), str(edits), took.get(crate, "not taken")]
+            cells = [f"`{crate}`", first_comment(crate), *map(str, sizes), str(edits)]
             text.append("| " + " | ".join(cells) + " |")
         text.append("")
     return "\n".join(text), count
 
 
 def main():
-    if sys.argv[1:2] == ["--seconds"]:
-        took = seconds() if SECONDS.exists() else {}
-        took |= dict(re.findall(r"^rt: ([a-z0-9_]+) proved \((\d+) s\)", pathlib.Path(sys.argv[2]).read_text(), re.M))
-        listed = [crate for _, _, crates in blocks() for crate in crates]
-        SECONDS.write_text("".join(f"{crate} {took[crate]}\n" for crate in listed if crate in took))
-        return
     made, count = page()
     if sys.argv[1:] == ["--check"]:
         if not PAGE.exists() or PAGE.read_text() != made:

@@ -2,13 +2,11 @@
 """graph.py: what crates.txt lists.
 
 Each line of crates.txt is compared with the files of its crate: it lists every crate that these name, and no other but those that the
-named ones need. A heading `# -- NAME` begins a group.
+named ones need, and each library of the kit that it lists is named. A heading `# -- NAME` begins a group.
 """
 import pathlib
 import re
 import sys
-
-KIT = {"io", "os", "libc", "bytes", "check", "std"}
 
 
 def crates():
@@ -16,7 +14,7 @@ def crates():
     heading, listed = False, {}
     for line in pathlib.Path("crates.txt").read_text().split("\n"):
         heading |= line.startswith("# -- ")
-        crate = re.fullmatch(r"([a-z0-9_]+):([a-z0-9_ ]*)(?:# (.*))?", line)
+        crate = re.fullmatch(r"([a-z0-9_]+)(?: staticlib)?:([a-z0-9_ ]*)(?:# (.*))?", line)
         if not crate:
             continue
         if not heading:
@@ -29,9 +27,9 @@ def named(crate, known):
     """the crates whose definitions, laws, types or functions the files of a crate name, comments left aside"""
     names = set()
     for path in pathlib.Path("crates", crate).glob("*/**/*"):
-        if path.suffix in (".rt", ".antt") and path.parts[2] != "must-fail":
+        if path.suffix in (".rt", ".antt") and path.parts[2] in ("src", "specs", "proofs"):
             text = re.sub(r"(//|--).*", "", path.read_text())
-            names |= set(re.findall(r"Rattle·([a-z0-9_]+)", text))
+            names |= set(re.findall(r"\bRattle\.([a-z0-9_]+)", text))
             if path.suffix == ".rt":
                 names |= set(re.findall(r"\b([a-z0-9_]+)::", text))
     return (names & known) - {crate}
@@ -41,7 +39,7 @@ def lists():
     """how many crates; an end where one lists a crate too few or too many"""
     listed = crates()
     for crate, names in listed.items():
-        uses = named(crate, (set(listed) | KIT) - {"std"})
+        uses = named(crate, set(listed) | set(names))
         needed = set(uses)
         for name in uses:
             below(listed, name, needed)

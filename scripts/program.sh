@@ -359,7 +359,7 @@ worse() {
     echo $(($1 > $2 ? $1 : $2))
 }
 
-# run PROGRAM ARGUMENT..: it runs, and its status follows from what it says, since a program of the language has none of its own. The shell waits,
+# run PROGRAM ARGUMENT..: it runs, and its status follows from what it says, since a proved program ends with 0 whatever it refuses. The shell waits,
 # so that a signal to it alone ends the program too.
 run() {
     local program=$1 status=0 judged=0 output='' errors out err job

@@ -14,7 +14,7 @@ import subprocess
 import sys
 
 GATE = pathlib.Path("target/gate")
-WRONG = re.compile(r"^# (?:[a-z0-9_]+(?:/[a-z0-9_-]+)?(?: of [a-z0-9_]+)?|[A-Z]\w*\.[^ .:]+)( \([a-z0-9_]+\))?: ", re.M)
+WRONG = re.compile(r"^# (?:[a-z0-9_]+(?:/[\w'-]+)?(?: of [a-z0-9_]+)?|[A-Z]\w*\.[^ .:]+)( \([a-z0-9_]+\))?: ", re.M)
 # which independent program or peer a check compares with
 PEERS = {
     "check-model.sh": "model in Rust, written from document 01", "check-states.sh": "the model's state in bytes", "check-holds.sh": "the model's holds",
@@ -72,7 +72,7 @@ def printed():
             name = line[5:]
         else:
             lines.setdefault(name, []).append(line)
-    refused = set(re.findall(r"^rt: must-fail (\S+): refused, as it must be", "\n".join(lines.get("rt ci", [])), re.M))
+    refused = set(re.findall(r"^rt: must-fail (\S+)\.edit: refused, as it must be", "\n".join(lines.get("rt ci", [])), re.M))
     return lines, refused
 
 

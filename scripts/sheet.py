@@ -49,7 +49,7 @@ def edits():
     """the labelled edits, as crate/label"""
     labels = set()
     for path in CRATES.glob("*/must-fail/*.edit"):
-        headers = re.findall(r"^# (?:[a-z0-9_]+(?:/[a-z0-9-]+)?(?: of [a-z0-9_]+)?|[A-Z]\w*\.[^ .:]+)( \([a-z0-9_]+\))?: ", path.read_text(), re.M)
+        headers = re.findall(r"^# (?:[a-z0-9_]+(?:/[\w'-]+)?(?: of [a-z0-9_]+)?|[A-Z]\w*\.[^ .:]+)( \([a-z0-9_]+\))?: ", path.read_text(), re.M)
         names = [h[2:-1] for h in headers if h] if headers else [path.stem]
         labels |= {f"{path.parts[1]}/{name}" for name in names}
     return labels
@@ -59,9 +59,15 @@ def contracts():
     """the functions that state what they give, as crate::function"""
     names = set()
     for path in CRATES.glob("*/src/*.rt"):
-        for m in re.finditer(r"^ *(?:pub(?:\(crate\))? )?(?:extern \"C\" )?fn ([a-z0-9_]+)\((.*?)^ *\{$", path.read_text(), re.M | re.S):
-            if "ensures" in m.group(2):
-                names.add(f"{path.parts[1]}::{m.group(1)}")
+        name = None
+        for line in path.read_text().split("\n"):
+            if m := re.match(r" *(?:pub(?:\(crate\))? )?(?:extern \"C\" )?fn ([a-z0-9_]+)[<(]", line):
+                name = m.group(1)
+            if name and re.match(r" *ensures\b", line):
+                names.add(f"{path.parts[1]}::{name}")
+            # the body begins
+            if re.search(r"^ *\{$|\S \{$", line) and not re.match(r" *(?:requires|ensures)\b", line):
+                name = None
     return names
 
 

@@ -171,7 +171,7 @@ class Function:
 PATH = re.compile(r"(?<![\w.'-])([a-z]\w*)((?:\.[\w'-]+)+)")
 
 
-def turn(term, fn, place, known=None, said=None):
+def turn(term, fn, place, known=None, said=None, var="c"):
     """A term of an answer asked at a place."""
     known = dict(known or {"c": place})
 
@@ -182,15 +182,15 @@ def turn(term, fn, place, known=None, said=None):
         while rest and rest[0] == "before":
             rest = rest[1:]
         if not rest:
-            return "c"
+            return var
         if rest[0] in ("args", "requires", "ranges", "well_formed", "lifetimes", "type_inv", "auto", "blocks", "utf8"):
-            return "c." + ".".join(named(fn.name, rest))
+            return var + "." + ".".join(named(fn.name, rest))
         found = fn.step(place, place, rest[0], rest[1:])
         if found is None:
             if said is not None:
                 said.append(f"no step for {m[0]} at {place}")
-            return "c." + ".".join(rest)
-        return "c." + ".".join(found)
+            return var + "." + ".".join(rest)
+        return var + "." + ".".join(found)
 
     # `let s = c.before.before in` names a place: it goes, since each step has a name of its own today
     while True:
@@ -383,6 +383,12 @@ def convert(crate, name, data, path):
                 answers = aligned(answers, helpers, fn)
             if len(answers) != len(fn.needs):
                 return f"{len(answers)} answers and {len(fn.needs)} goals"
+    lemmas = {}
+    for sig, unf, group in extra:
+        m = re.search(r"^(?:abbrev )?([^\s:]+) : \((\w+) : tie\.([\w-]+)", sig)
+        at = m and [n for n in fn.order if plain(n) == plain(m[3])]
+        if at:
+            lemmas[m[1]] = at[0]
     invariants, said = [], []
     for law in laws:
         law = unwrap(law)
@@ -436,6 +442,12 @@ def convert(crate, name, data, path):
         if bare == "search rules" and not (unf and re.match(r"returns|loop|.*-requires|.*preserved|.*init", new)):
             continue
         done = recorded(turn(term, fn, place, said=said), crate, name, old, new)
+        for lemma, of in lemmas.items():
+            at, n = place, 0
+            while at is not None and at != of:
+                at, n = fn.up(at, 1), n + 1
+            if at == of and n:
+                done = re.sub(r"(?<![\w.'-])" + re.escape(lemma) + r" c(?![\w.'-])", lemma + " c" + ".before" * n, done)
         result.append((new, unf, done))
     folder = os.path.dirname(path)
     out = []
@@ -454,8 +466,8 @@ def convert(crate, name, data, path):
             at = m and [n for n in fn.order if plain(n) == plain(m[2])]
             if at:
                 sig = sig.replace(m[0], f"({m[1]} : goal.{fn.today[plain(m[2])]})")
-                sig = turn(sig, fn, at[0], known={m[1]: at[0]}, said=said)
-                group = [turn(g, fn, at[0], known={m[1]: at[0]}, said=said) for g in group]
+                sig = turn(sig, fn, at[0], known={m[1]: at[0]}, said=said, var=m[1])
+                group = [turn(g, fn, at[0], known={m[1]: at[0]}, said=said, var=m[1]) for g in group]
             chunks.append("\n".join([sig] + ([unf] if unf else []) + group))
         for n, u, b in result:
             chunks.append(f"pub {n} : goal.{n}\n" + (u + "\n" if u else "") + f"{n} c =" + (b if b.startswith("\n") else " " + b))

@@ -131,7 +131,7 @@ none_listed i c [] h = refl
 none_listed {o} i c (w ∷ ws) h =
     let one = both (permitted o (decode w)) _ h in
     let stays = ddc2b_stays i (decode w) one.0 in
-    rw stays.1 (none_listed stays.0 (next c (decode w)) ws one.1)
+    rw stays.1 (none_listed {o = observe o (decode w)} stays.0 (next c (decode w)) ws one.1)
 
 pub tracked_levels : (rs : List ℕ) {c : Core} {o : Observer} {p : List Bool} {d : List ℕ} → Tracks c o p d → (ws : List ℕ) → throughout o ws ≡ true
     → take (length (levels_next o (chip_of rs c) ws)) (by_shifts p ++ serial (d ++ bytes_written o ws)) ≡ levels_next o (chip_of rs c) ws

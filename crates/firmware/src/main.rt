@@ -2,6 +2,7 @@
 // end, with -t a line for each event, interrupt and instruction (images/README.md). What cannot be run is told on standard error, and
 // nothing runs. A list is read twice, so that it may have any length: first every line is checked, then the events are given as they are read.
 #![tactic(auto)]
+
 ghost use Rattle.std.specs.Prelude.{◌<◌};
 
 use firmware_event_lines::Meaning;
@@ -22,7 +23,7 @@ fn finish<P: Print, Q: Print>(
     asked: Asked,
 ) -> Result<(), ExitCode> {
     firmware_print::take(out, run, ram, rom, asked, Item::End);
-    match firmware_print::failure(out) {
+    match out.error {
         Some(e) => Err(input::fail(err, b"firmware: standard output", &e)),
         None => Ok(()),
     }
@@ -92,7 +93,14 @@ fn run_alone<P: Print, Q: Print>(
     asked: Asked,
 ) -> Result<(), ExitCode> {
     let mut ram = [0u8; 256];
-    finish(out, err, firmware_trace::power_up(rom), &mut ram, rom, asked)
+    finish(
+        out,
+        err,
+        firmware_trace::power_up(rom),
+        &mut ram,
+        rom,
+        asked,
+    )
 }
 
 // ROM is argument `first`, COUNT the next, and EVENTS the one behind it.
@@ -122,7 +130,10 @@ fn start<P: Print, Q: Print, R: Env + Files>(
 }
 
 fn main(rt: HostRuntime) -> ExitCode {
-    let mut out = firmware_print::output_to(rt.stdout());
+    let mut out = Output {
+        to: rt.stdout(),
+        error: None,
+    };
     let err = rt.stderr();
     let traced = firmware_input::is_trace_asked(&rt);
     match start(&mut out, &err, &rt, if traced { 2 } else { 1 }, traced) {

@@ -1,6 +1,7 @@
 // What the program `firmware` is given: its arguments, the image, and the list of events, which is read in blocks. What is wrong is told on
 // standard error, and an `Err` is the status that the program then ends with. No contract can say what is read.
 #![tactic(auto)]
+
 use firmware_event_lines::{Meaning, Reader};
 use firmware_event_list::{Checked, Found};
 use std::env::FillError;

@@ -2,6 +2,7 @@
 // interrupt and instruction (images/README.md). No contract can say what is written, nor whether that went well; what a line is comes from
 // `firmware_lines`.
 #![tactic(auto)]
+
 ghost use Rattle.std.specs.Prelude.{◌≡◌, false};
 ghost use Rattle.firmware_trace.specs.Trace.{goes_on, given_to};
 ghost use Rattle.firmware_print.specs.Marked.{marked};
@@ -26,20 +27,11 @@ pub enum Item {
     End,
 }
 
-// Where the lines go, and why the last write that failed did.
+// Where the lines go, and why the last write that failed did; none where all is written.
 #[derive(Drop)]
 pub struct Output<P> {
-    to: P,
-    error: Option<Error>,
-}
-
-pub fn output_to<P: Print>(to: P) -> Output<P> {
-    Output { to, error: None }
-}
-
-// Why not all is printed; none where all is.
-pub fn failure<P: Print>(out: &Output<P>) -> Option<Error> {
-    out.error
+    pub to: P,
+    pub error: Option<Error>,
 }
 
 // ---- lines on an output
@@ -76,7 +68,14 @@ fn print_line<P: Print>(out: &mut Output<P>, next: u32, text: &[u8], cpu: Cpu) -
 }
 
 // The line of an instruction that was done: from where RESET is low it has no opcode.
-fn print_done<P: Print>(out: &mut Output<P>, next: u32, pc: u16, high: bool, opcode: Loaded, cpu: Cpu) -> bool {
+fn print_done<P: Print>(
+    out: &mut Output<P>,
+    next: u32,
+    pc: u16,
+    high: bool,
+    opcode: Loaded,
+    cpu: Cpu,
+) -> bool {
     if !high {
         let text = firmware_lines::idle_text(pc);
         return print_line(out, next, &text, cpu);
@@ -91,7 +90,13 @@ fn print_done<P: Print>(out: &mut Output<P>, next: u32, pc: u16, high: bool, opc
 }
 
 // The lines of the interrupt and of the instruction behind it, each where it was done.
-fn print_turn<P: Print>(out: &mut Output<P>, next: u32, fetched: Fetched, number: u8, after: Cpu) -> bool {
+fn print_turn<P: Print>(
+    out: &mut Output<P>,
+    next: u32,
+    fetched: Fetched,
+    number: u8,
+    after: Cpu,
+) -> bool {
     let entered = fetched.cpu;
     let opcode = fetched.opcode;
     let told = if fetched.taken {
@@ -107,7 +112,13 @@ fn print_turn<P: Print>(out: &mut Output<P>, next: u32, fetched: Fetched, number
     told & shown
 }
 
-fn print_given<P: Print>(out: &mut Output<P>, traced: bool, next: u32, word: u32, answer: u32) -> bool {
+fn print_given<P: Print>(
+    out: &mut Output<P>,
+    traced: bool,
+    next: u32,
+    word: u32,
+    answer: u32,
+) -> bool {
     if traced {
         print_event(out, next, word, answer)
     } else {
@@ -135,7 +146,13 @@ fn is_followed(number: u8, printed: bool) -> bool
 }
 
 // Some instructions, each with its lines.
-fn trace_on<P: Print>(out: &mut Output<P>, start: Run, ram: &mut [u8; 256], rom: &[u8], instructions: u32) -> Run
+fn trace_on<P: Print>(
+    out: &mut Output<P>,
+    start: Run,
+    ram: &mut [u8; 256],
+    rom: &[u8],
+    instructions: u32,
+) -> Run
     ensures { TracedTo rom.now instructions start ram.old result ram.new }
 {
     let mut run = start;
@@ -156,7 +173,14 @@ fn trace_on<P: Print>(out: &mut Output<P>, start: Run, ram: &mut [u8; 256], rom:
 }
 
 // Instructions up to the one of number `to`, where another may follow.
-fn proceed<P: Print>(out: &mut Output<P>, run: Run, ram: &mut [u8; 256], rom: &[u8], traced: bool, to: u32) -> Run
+fn proceed<P: Print>(
+    out: &mut Output<P>,
+    run: Run,
+    ram: &mut [u8; 256],
+    rom: &[u8],
+    traced: bool,
+    to: u32,
+) -> Run
     ensures { Proceeded rom.now traced to run ram.old result ram.new }
 {
     let next = run.next;
@@ -212,7 +236,14 @@ fn finish<P: Print>(out: &mut Output<P>, run: Run) -> Run
 
 // The instructions before an item of a list; then an event is given where another instruction follows, and at the end the last line is printed.
 // Where no instruction may follow, as behind a refused one, nothing is done, and only whether all is printed can change.
-pub fn take<P: Print>(out: &mut Output<P>, run: Run, ram: &mut [u8; 256], rom: &[u8], asked: Asked, item: Item) -> Run
+pub fn take<P: Print>(
+    out: &mut Output<P>,
+    run: Run,
+    ram: &mut [u8; 256],
+    rom: &[u8],
+    asked: Asked,
+    item: Item,
+) -> Run
     ensures { (goes_on run.number run.printed run.next asked.count ≡ false → (result ≡ marked run result.printed) × (ram.new ≡ ram.old))
         × Taken rom.now asked item run ram.old result ram.new }
 {

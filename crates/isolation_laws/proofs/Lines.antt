@@ -10,7 +10,9 @@ use Rattle.chip.specs.declared.Chip.{Chip}
 use Rattle.chip.specs.State.{mode_of}
 use Rattle.chip_well_formed.specs.WellFormed.{well_formed}
 use Rattle.step.specs.Step.{advance, step}
-use Rattle.isolation_laws.specs.Foreign.{Trace, Observer, observer_of, SeveralTransfers, Begun, start_seen, bus_idle}
+use Rattle.chip_events.specs.Outcome.{next}
+use Rattle.events.specs.Word.{decode}
+use Rattle.isolation_laws.specs.Foreign.{Trace, Observer, observer_of, observe, SeveralTransfers, Begun, start_seen, bus_idle}
 use Rattle.isolation_laws.specs.Lines.{LinesFree, FreeThroughout}
 use Rattle.isolation_laws.specs.Related.{related, RelatedChips, chips}
 use Rattle.isolation_laws.proofs.Related.{Released, left_released, right_released}
@@ -39,10 +41,10 @@ both_free r t k (w ∷ ws) [] p = absurd (true≢false (sym p.words))
 both_free {c} {d} r false k (w ∷ ws) (v ∷ vs) p =
     let free = related_free r in
     (ill_formed_free c k free.0 (w ∷ ws), ill_formed_free d (sym (well_formed_equal r) ∙ k) free.1 (v ∷ vs))
-both_free {c} {d} r true k (w ∷ ws) (v ∷ vs) p =
+both_free {c} {d} {o} {o'} r true k (w ∷ ws) (v ∷ vs) p =
     let one = carried r w v ws vs p in
     let free = related_free r in
-    let rest = both_free one.still _ refl ws vs one.rest in
+    let rest = both_free {c = next c (decode w)} {d = next d (decode v)} {o = observe o (decode w)} {o' = observe o' (decode v)} one.still _ refl ws vs one.rest in
     let well : well_formed d ≡ true = sym (well_formed_equal r) ∙ k in
     rw (k, well) ((free.0, rest.0), (free.1, rest.1))
 

@@ -61,9 +61,9 @@ unfolding advance
 advanced_agree r [] [] p = record { answers_agree = refl; states-agree = related_agree r }
 advanced_agree r [] (v ∷ vs) p = absurd (true≢false (sym p.words))
 advanced_agree r (w ∷ ws) [] p = absurd (true≢false (sym p.words))
-advanced_agree r (w ∷ ws) (v ∷ vs) p =
+advanced_agree {c} {d} {o} {o'} r (w ∷ ws) (v ∷ vs) p =
     let one = carried r w v ws vs p in
-    let rest = advanced_agree one.still ws vs one.rest in
+    let rest = advanced_agree {c = next c (decode w)} {d = next d (decode v)} {o = observe o (decode w)} {o' = observe o' (decode v)} one.still ws vs one.rest in
     record { answers_agree = ap₂ ◌∷◌ one.answer rest.answers_agree; states-agree = rest.states-agree }
 
 -- ---- runs by the step: related chips are both well formed or both ill formed
@@ -116,9 +116,9 @@ stepped_agree r t k (w ∷ ws) [] p = absurd (true≢false (sym p.words))
 stepped_agree {c} {d} r false k (w ∷ ws) (v ∷ vs) p =
     let ill = ill_formed_runs c d k (sym (well_formed_equal r) ∙ k) (w ∷ ws) (v ∷ vs) p.words in
     record { answers_agree = ill.0; states-agree = ap compared_state ill.1 ∙ related_agree r ∙ sym (ap compared_state ill.2) }
-stepped_agree {c} {d} r true k (w ∷ ws) (v ∷ vs) p =
+stepped_agree {c} {d} {o} {o'} r true k (w ∷ ws) (v ∷ vs) p =
     let one = carried r w v ws vs p in
-    let rest = stepped_agree one.still _ refl ws vs one.rest in
+    let rest = stepped_agree {c = next c (decode w)} {d = next d (decode v)} {o = observe o (decode w)} {o' = observe o' (decode v)} one.still _ refl ws vs one.rest in
     let well : well_formed d ≡ true = sym (well_formed_equal r) ∙ k in
     rw (k, well) (record { answers_agree = ap₂ ◌∷◌ one.answer rest.answers_agree; states-agree = rest.states-agree })
 

@@ -57,10 +57,10 @@ pub overflow_add-next : goal.overflow_add-next
 overflow_add-next c = omega (arith, (grown c).small)
 
 pub overflow_add-at : goal.overflow_add-at
-overflow_add-at c = omega (arith, (grown c).ranges)
+overflow_add-at c = omega (arith, (grown c).fits)
 
 pub loop-at-smaller : goal.loop-at-smaller
-loop-at-smaller c = omega (arith, (grown c).ranges)
+loop-at-smaller c = omega (arith, (grown c).fits)
 
 pub loop-at-preserved : goal.loop-at-preserved
 loop-at-preserved c = (grown c).reading
