@@ -111,9 +111,10 @@ def edits(folder, names):
     return 0
 
 
-if len(sys.argv) == 4 and sys.argv[1] == "library":
-    sys.exit(library(*sys.argv[2:]))
-elif len(sys.argv) >= 3 and sys.argv[1] == "edits":
-    sys.exit(edits(sys.argv[2], sys.argv[3:]))
-else:
-    sys.exit(__doc__)
+if __name__ == "__main__":
+    if len(sys.argv) == 4 and sys.argv[1] == "library":
+        sys.exit(library(*sys.argv[2:]))
+    elif len(sys.argv) >= 3 and sys.argv[1] == "edits":
+        sys.exit(edits(sys.argv[2], sys.argv[3:]))
+    else:
+        sys.exit(__doc__)

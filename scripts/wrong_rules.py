@@ -22,17 +22,20 @@ import subprocess
 import sys
 import tempfile
 
+import rattle
+
 ROWS = "scripts/wrong-rules.txt"
 BEGIN, END = "<!-- the rows of scripts/wrong-rules.txt -->", "<!-- end of the rows -->"
 FUNCTION = re.compile(r'(pub )?(extern "C" )?fn |impl ')
-MODULE = re.compile(r"Rattle·(\w+?)(?:·specs|·proofs)?\.(specs|proofs)\.(\w+)")
+MODULE = re.compile(r"Rattle\.(\w+)\.(specs|proofs)\.(\w+)")
 TYPES = re.compile(r"^use (\w+)::", re.M)
 DECLARED = re.compile(r"^pub (?:struct|enum) (\w+)", re.M)
 CONSTANT = re.compile(r"pub const (\w+)")
 LISTED = re.compile(r"^(?:pub )?mod (\w+)", re.M)
 DEFINITION = re.compile(r"crates/(.*?)/specs/(.*?)\.antt")
-ERROR = re.compile(r"crates/merged/(specs|proofs)/(\w+)\.antt:\d+:\d+: (?:error: `([^`]+)`: (.*)|`([^`]+)` is not admitted)")
-UNFIT = ("that can be named from here", "has no field", "is not in scope", "its type has room for only", "was not admitted", "not yet determined")
+ERROR = re.compile(r"^(?:\./)?(specs|proofs)/(\w+)\.antt:\d+:\d+: error: `([^`]+)`: (.*)", re.M)
+UNFIT = ("that can be named from here", "has no field", "has no `", "is not in scope", "is no name", "its type has room for only", "was not admitted", "was rejected", "was not checked",
+         "were not checked", "not yet determined")
 
 
 def rows(path):
@@ -60,7 +63,7 @@ def rows(path):
 def listed():
     """the crates in the order of crates.txt"""
     lines = pathlib.Path("crates.txt").read_text().splitlines()
-    return [line.split(":")[0] for line in lines if line.strip() and not line.startswith("#")]
+    return [line.split(":")[0].split()[0] for line in lines if line.strip() and not line.startswith("#")]
 
 
 def without_functions(lines):
@@ -71,7 +74,7 @@ def without_functions(lines):
             skipping = not line.startswith("}")
         elif FUNCTION.match(line):
             skipping = not ("{" in line and line.rstrip().endswith("}"))
-        elif not line.startswith(("#[", "ghost use")):
+        elif not line.startswith(("#", "ghost use", "mod ", "pub use ")):
             yield line
 
 
@@ -105,7 +108,7 @@ def renamed(text):
 
     def name(found):
         crate, part, module = found.groups()
-        return f"Rattle·merged·{part}.{part}.{'declared' if module == 'declared' else stem(crate, module)}"
+        return f"Rattle.merged.{part}.{'declared' if module == 'declared' else stem(crate, module)}"
 
     return MODULE.sub(name, text)
 
@@ -115,7 +118,6 @@ def merge(wanted, out):
     crate = out / "crates/merged"
     for part in ("src", "specs", "proofs"):
         (crate / part).mkdir(parents=True)
-    (out / "crates.txt").write_text("merged:\n")
     source, places = [], {}
     for name in (name for name in listed() if name in wanted):
         source += [line for line in stripped(name).splitlines() if not line.startswith("use ")]
@@ -138,21 +140,23 @@ def merge(wanted, out):
     twice = {name for name in types if types.count(name) > 1}
     if twice:
         sys.exit(f"wrong-rules: {', '.join(sorted(twice))} stand in two of {', '.join(wanted)}")
-    (crate / "src/lib.rt").write_text("\n".join(kept) + "\n")
+    (crate / "src/lib.rt").write_text("\n".join(["#![tactic(auto)]", *kept]) + "\n")
     return places
 
 
 def check(place):
-    run = subprocess.run(["nice", "rt", "dev", "merged"], cwd=place, capture_output=True, text=True, env=dict(os.environ, RT_CUT="0"))
-    log = run.stdout + run.stderr
-    return "logic=proved" in log, log
+    words = rattle.words("merged", {"merged": ([], False)}, 2)
+    command = ["nice", f"{rattle.kit()}/bin/rattle", "check", *words, "--incremental", "out"]
+    run = subprocess.run(command, cwd=place / "crates/merged", stdin=subprocess.DEVNULL, stdout=subprocess.PIPE, stderr=subprocess.STDOUT, text=True, errors="replace")
+    return re.search(r"^logic=proved ", run.stdout, re.M) is not None, run.stdout
 
 
 def refused(log, places):
     """what a log refuses: (part, crate, module, name) -> whether by a fact"""
     told = {}
-    for part, file, name, words, unsolved in ERROR.findall(log):
-        told.setdefault((part, *places[file], name or unsolved), bool(name) and not any(unfit in words for unfit in UNFIT))
+    for part, file, name, words in ERROR.findall(log):
+        place = (part, *places[file], name)
+        told[place] = told.get(place, False) or not any(unfit in words for unfit in UNFIT)
     return told
 
 

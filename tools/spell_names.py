@@ -16,9 +16,11 @@ import re
 import sys
 
 NAME = r"[^\s(){}\[\],;.:|`\"@]+"
-WORD = re.compile(r"[^\s(){}\[\],;.:|`\"@/=]+")
+WORD = re.compile(r"(?<![\w.'-]goal\.)(?<![\w.'-]c\.)(?<![\w.'-]l\.)(?<![^\s(){}\[\],;.:|`\"@/=])[^\s(){}\[\],;.:|`\"@/=]+")
 DECLARED = re.compile(r"^(?:(?:abbrev|unfoldable|pub)\s+)*(" + NAME + r")\s+:\s")
-FIELD = re.compile(r"^\s+(" + NAME + r")\s+:\s")
+FIELD = re.compile(r"^\s+(?:(?:abbrev|unfoldable|pub)\s+)*(" + NAME + r")\s+:\s")
+# files whose names are those of generated goals, which stay
+GOALS = ("/Answers.antt", "/Invariants.antt")
 CASE = re.compile(r"\bas\s+(" + NAME + r")\s*[,}]")
 LIBRARY = re.compile(r"^\s*(?:pub )?(?:ghost )?use\s+([\w.'-]+)\.\{([^}]*)\}", re.M)
 PLAIN = re.compile(r"^[a-z][A-Za-z0-9_'-]*$")
@@ -55,7 +57,7 @@ def renaming(crates):
     for path in files("crates/*/specs/**/*.antt") + files("crates/*/proofs/**/*.antt"):
         with open(path, encoding="utf-8") as f:
             text = f.read()
-        for line in text.split("\n"):
+        for line in [] if path.endswith(GOALS) else text.split("\n"):
             for m in [DECLARED.match(line), FIELD.match(line)]:
                 if m and PLAIN.match(m[1]):
                     declared[m[1]] += 1

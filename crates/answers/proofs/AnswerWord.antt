@@ -14,8 +14,8 @@ module _ (number : ℕ) (watchdog : Bool) (requests byte : ℕ) (hr : requests <
   abbrev word : ℕ
   word = answer_word number watchdog requests byte
 
-  pub fields-of-answer : answer_fields (answer_word number watchdog requests byte) ≡ record { number = number; watchdog = watchdog; requests = requests; byte = byte }
-  fields-of-answer =
+  pub fields_of_answer : answer_fields (answer_word number watchdog requests byte) ≡ record { number = number; watchdog = watchdog; requests = requests; byte = byte }
+  fields_of_answer =
       let hw : num watchdog < 2 = num_lt watchdog in
       let n : word / 16777216 ≡ number = omega arith in
       let v : word / 65536 % 2 ≡ num watchdog = omega arith in
@@ -23,8 +23,8 @@ module _ (number : ℕ) (watchdog : Bool) (requests byte : ℕ) (hr : requests <
       let y : word % 256 ≡ byte = omega arith in
       rw (n, v, q, y, eqb_num watchdog)
 
-  pub answer-zero-bits : answer_word number watchdog requests byte / 131072 % 128 ≡ 0
-  answer-zero-bits = omega (arith, num_lt watchdog)
+  pub answer_zero_bits : answer_word number watchdog requests byte / 131072 % 128 ≡ 0
+  answer_zero_bits = omega (arith, num_lt watchdog)
 
 -- a word with 0 in bits 23..17 is the answer word of its parts
 pub answer_of_fields : (w : ℕ) → w / 131072 % 128 ≡ 0 →
@@ -42,8 +42,8 @@ pub answer_injective : (number number' : ℕ) (watchdog watchdog' : Bool) (reque
     ◌≡◌ {A = AnswerFields} (record { number = number; watchdog = watchdog; requests = requests; byte = byte })
     (record { number = number'; watchdog = watchdog'; requests = requests'; byte = byte' })
 answer_injective number number' watchdog watchdog' requests byte requests' byte' hr hb hr' hb' e =
-    sym (fields-of-answer number watchdog requests byte hr hb) ∙ ap answer_fields e
-    ∙ fields-of-answer number' watchdog' requests' byte' hr' hb'
+    sym (fields_of_answer number watchdog requests byte hr hb) ∙ ap answer_fields e
+    ∙ fields_of_answer number' watchdog' requests' byte' hr' hb'
 
 -- the answer to an ill formed state
 pub ill_formed_answer_lem : answer_word 8 false 0 0 ≡ 0x08000000

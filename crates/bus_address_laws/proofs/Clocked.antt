@@ -27,9 +27,9 @@ use Rattle.chip_flag_laws.specs.Causes.Source.{AddressMatch}
 use Rattle.chip_flag_laws.proofs.Bools.{at_six}
 use Rattle.chip_count_laws.specs.Counting.{never}
 use Rattle.bus_transfer_laws.specs.Transfers.{put_sda, raise_scl, lower_scl, clock_in}
-use Rattle.bus_transfer_laws.proofs.Steps.{given, At, after-sda, after-rise, after-fall}
+use Rattle.bus_transfer_laws.proofs.Steps.{given, At, after_sda, after_rise, after_fall}
 use Rattle.bus_address_laws.specs.Addressed.{sda_level, takes_level, sda_free, scl_high, starts, ends, levels_taken, gathered_all}
-use Rattle.bus_address_laws.proofs.Eighth.{start_bit, low_both, not_and, levels_append, decided-at-eighth}
+use Rattle.bus_address_laws.proofs.Eighth.{start_bit, low_both, not_and, levels_append, decided_at_eighth}
 
 free : (n bits : ℕ) → pulls_scl (Address n bits) ≡ false
 unfolding pulls_scl
@@ -75,11 +75,11 @@ module _ {n bits status byte : ℕ} {sda : Bool} (x : Chip) where
 
   risen : At (Address n bits) status byte false sda x.core → n < 7 → At (Address (n + 1) (gathered bits sda)) status byte true sda (next x (Pin SCL true)).core
   unfolding pulls_sda status_at_rise data_at_rise phase_at_rise
-  risen a h = rw (lt-ltb n 7 h) at (after-rise x (free n bits) a a.enddc)
+  risen a h = rw (lt-ltb n 7 h) at (after_rise x (free n bits) a a.enddc)
 
   fallen : At (Address n bits) status byte true sda x.core → At (Address n bits) status byte false sda (next x (Pin SCL false)).core
   unfolding phase_at_fall
-  fallen a = after-fall x (free n bits) a
+  fallen a = after_fall x (free n bits) a
 
 -- ---- the words
 
@@ -94,7 +94,7 @@ pub record Taken (x : Chip) (ws : List ℕ) (ls : List Bool) (l : Bool) : Type 0
 last_put : {n bits status byte : ℕ} {sda : Bool} (x : Chip) (level : Bool) → At (Address n bits) status byte false sda x.core → Taken x (put_sda level ∷ []) [] level
 unfolding advance
 last_put {n} {bits} x level a =
-    let b = after-sda x (free n bits) level a in
+    let b = after_sda x (free n bits) level a in
     let put = decode_encode (Pin SDA level) refl in
     record {
       lasts = rw (put, sda_ends x a level);
@@ -111,7 +111,7 @@ unfolding advance
 level_in {n} {bits} x level ws levels last a h rest =
     let y : Chip = next x (Pin SDA level) in
     let z : Chip = next y (Pin SCL true) in
-    let b = after-sda x (free n bits) level a in
+    let b = after_sda x (free n bits) level a in
     let d = risen y b h in
     let k = rest (next z (Pin SCL false)) (fallen z d) in
     let put = decode_encode (Pin SDA level) refl in
@@ -153,7 +153,7 @@ by_taken c us levels last s k seven f =
     let start = decode_encode (Pin SDA false) refl in
     let rise : takes_level (advanced (next c (Pin SDA false)) us) (decode raise_scl) ≡ true = rw (decode_encode (Pin SCL true) refl) k.rises in
     let all : levels_taken (next c (decode (put_sda false))) (us ++ (raise_scl ∷ [])) ≡ levels ++ (last ∷ []) = rw start (levels_append (next c (Pin SDA false)) us raise_scl rise ∙ rw (k.levels, k.last)) in
-    decided-at-eighth c (put_sda false) us (rw start s) (rw start k.lasts) (rw (start, k.levels) seven) raise_scl (rw start rise) f
+    decided_at_eighth c (put_sda false) us (rw start s) (rw start k.lasts) (rw (start, k.levels) seven) raise_scl (rw start rise) f
     ∙ ap (λ (ls : List Bool). matches (advanced c (put_sda false ∷ us)).core.bus.iiadr (gathered_all 0 ls)) all
 
 -- from a START with flag A at 0

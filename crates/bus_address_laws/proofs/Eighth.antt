@@ -199,9 +199,9 @@ module _ (c : Chip) (w : ℕ) (us : List ℕ) (s : starts c (decode w) ≡ true)
 
   module _ (seven : length (levels_taken (next c (decode w)) us) ≡ 7) (v : ℕ) (t : takes_level (advanced c (w ∷ us)) (decode v) ≡ true) where
     -- the eighth rise completes the address of the eight levels
-    pub eighth-completes : (completes (advanced c (w ∷ us)) (decode v) ≡ true) × (address_at (advanced c (w ∷ us)) ≡ gathered_all 0 (levels_taken (next c (decode w)) (us ++ (v ∷ []))))
+    pub eighth_completes : (completes (advanced c (w ∷ us)) (decode v) ≡ true) × (address_at (advanced c (w ∷ us)) ≡ gathered_all 0 (levels_taken (next c (decode w)) (us ++ (v ∷ []))))
     unfolding advance
-    eighth-completes =
+    eighth_completes =
         let x : Chip = advanced c (w ∷ us) in
         let g = gathered_since c w us s q (omega arith) in (
           rw (t, awaits_at x.core.bus.phase g.phase, seven),
@@ -209,13 +209,13 @@ module _ (c : Chip) (w : ℕ) (us : List ℕ) (s : starts c (decode w) ≡ true)
         )
 
     -- flag A, if it was 0 before the START, is set by the eighth rise exactly where the byte of these levels matches A0H or II ADR as it is then
-    pub decided-at-eighth : flag AddressMatch c ≡ false →
+    pub decided_at_eighth : flag AddressMatch c ≡ false →
         flag AddressMatch (advanced c (w ∷ (us ++ (v ∷ []))))
         ≡ matches (advanced c (w ∷ us)).core.bus.iiadr (gathered_all 0 (levels_taken (next c (decode w)) (us ++ (v ∷ []))))
     unfolding advance
-    decided-at-eighth f =
+    decided_at_eighth f =
         let x : Chip = advanced c (w ∷ us) in
-        let k = eighth-completes in
+        let k = eighth_completes in
         let low = flag_low (next c (decode w)) us (flag_after c w ∙ rw (started_none c (decode w) s, f)) (none_over (next c (decode w)) us 0 0 (start_begins c (decode w) s) q (omega arith)) in
         rw (advanced_append (next c (decode w)) us (v ∷ []))
         (flag_after x v ∙ rw (low, k.0, k.1) (or-false _ ∙ own_matches x.core.bus.iiadr _))

@@ -46,26 +46,26 @@ module _ (called : Bool) (n : ℕ) where
       let last : 8 ≤ k + 1 = ltb-false (k + 1) 8 t in
       received m (k + 1) bits (omega (arith, last, l)) (omega (arith, last, l, e)) refl
 
-  pub at-rise : (own : ℕ) (sda : Bool) {p : Phase} → InByte called n false p → pulls_scl p ≡ false → InByte called (n + 1) true (phase_at_rise own sda p)
+  pub at_rise_lem : (own : ℕ) (sda : Bool) {p : Phase} → InByte called n false p → pulls_scl p ≡ false → InByte called (n + 1) true (phase_at_rise own sda p)
   unfolding phase_at_rise pulls_scl
-  at-rise own sda (gathering k bits c l e) h =
+  at_rise_lem own sda (gathering k bits c l e) h =
       pick_by (InByte called (n + 1) true) (ltb k 7)
       (λ t. gathering (k + 1) (gathered bits sda) c (omega (arith, ltb-true k 7 t)) (omega (arith, e)))
       (λ t. after_eighth (compared own (gathered bits sda)) (gathered bits sda) c (omega (arith, ltb-false k 7 t, l, e)))
-  at-rise own sda (matched m bits e s) h = clash false s refl
-  at-rise own sda (answering m bits e) h = answering m bits (omega (arith, e))
-  at-rise own sda (foreign c) h = foreign c
-  at-rise own sda (receiving m k bits l e) h =
+  at_rise_lem own sda (matched m bits e s) h = clash false s refl
+  at_rise_lem own sda (answering m bits e) h = answering m bits (omega (arith, e))
+  at_rise_lem own sda (foreign c) h = foreign c
+  at_rise_lem own sda (receiving m k bits l e) h =
       pick_by (InByte called (n + 1) true) (ltb k 8) (λ _. one_more m k (gathered bits sda) (ltb (k + 1) 8) refl l e) (λ t. clash (ltb k 8) (lt-ltb k 8 l) t)
-  at-rise own sda (received m k bits q e s) h = clash false s refl
-  at-rise own sda (acknowledging m k bits l e) h =
+  at_rise_lem own sda (received m k bits q e s) h = clash false s refl
+  at_rise_lem own sda (acknowledging m k bits l e) h =
       pick_by (InByte called (n + 1) true) (ltb k 8) (λ t. clash (ltb k 8) t (le-ltb k 8 (omega (arith, l)))) (λ _. acknowledging m k bits l (omega (arith, e)))
-  at-rise own sda (sending m k byte l e) h =
+  at_rise_lem own sda (sending m k byte l e) h =
       pick_by (InByte called (n + 1) true) (eqb k 9)
       (λ t. answered m 10 byte refl (omega (arith, eqb-true k 9 t, e)) refl)
       (λ t. let other = eqb-false k 9 t in sending m k byte (omega (arith, other, l)) (omega (arith, e)))
-  at-rise own sda (answered m k byte q e s) h = clash false s refl
-  at-rise own sda (held m clocks e) h = clash true refl h
+  at_rise_lem own sda (answered m k byte q e s) h = clash false s refl
+  at_rise_lem own sda (held m clocks e) h = clash true refl h
 
 -- ---- a fall
 
@@ -73,65 +73,65 @@ past_eight : (status : ℕ) → 8 < ninth_clock status
 past_eight status = pick_by (λ (k : ℕ). 8 < k) (acknowledges status) (λ _. omega arith) (λ _. omega arith)
 
 module _ (called : Bool) (n : ℕ) where
-  pub at-fall : (status : ℕ) {p : Phase} → InByte called n true p → pulls_scl p ≡ false → InByte called n false (phase_at_fall status p)
+  pub at_fall_lem : (status : ℕ) {p : Phase} → InByte called n true p → pulls_scl p ≡ false → InByte called n false (phase_at_fall status p)
   unfolding phase_at_fall pulls_scl
-  at-fall status (gathering k bits c l e) h = gathering k bits c l e
-  at-fall status (matched m bits e s) h = answering m bits (omega (arith, e))
-  at-fall status (answering m bits e) h = held m 0 (omega (arith, e))
-  at-fall status (foreign c) h = foreign c
-  at-fall status (receiving m k bits l e) h =
+  at_fall_lem status (gathering k bits c l e) h = gathering k bits c l e
+  at_fall_lem status (matched m bits e s) h = answering m bits (omega (arith, e))
+  at_fall_lem status (answering m bits e) h = held m 0 (omega (arith, e))
+  at_fall_lem status (foreign c) h = foreign c
+  at_fall_lem status (receiving m k bits l e) h =
       pick_by (InByte called n false) (ltb 8 k) (λ t. clash (ltb 8 k) t (le-ltb 8 k (omega (arith, l))))
       (λ _. pick_by (InByte called n false) (eqb k 8) (λ t. absurd (omega (arith, l, eqb-true k 8 t))) (λ _. receiving m k bits l e))
-  at-fall status (received m k bits q e s) h =
+  at_fall_lem status (received m k bits q e s) h =
       pick_by (InByte called n false) (ltb 8 k) (λ t. clash (ltb 8 k) t (le-ltb 8 k (omega (arith, q))))
       (λ _. pick_by (InByte called n false) (eqb k 8) (λ _. acknowledging m (ninth_clock status) bits (past_eight status) (omega (arith, e))) (λ t. absurd (eqb-false k 8 t q)))
-  at-fall status (acknowledging m k bits l e) h =
+  at_fall_lem status (acknowledging m k bits l e) h =
       pick_by (InByte called n false) (ltb 8 k) (λ _. held m 0 (omega (arith, e))) (λ t. clash (ltb 8 k) (lt-ltb 8 k l) t)
-  at-fall status (sending m k byte l e) h =
+  at_fall_lem status (sending m k byte l e) h =
       pick_by (InByte called n false) (ltb k 9) (λ _. sending m (k + 1) byte (omega (arith, l)) (omega (arith, e))) (λ t. clash (ltb k 9) (lt-ltb k 9 (omega (arith, l))) t)
-  at-fall status (answered m k byte q e s) h =
+  at_fall_lem status (answered m k byte q e s) h =
       pick_by (InByte called n false) (ltb k 9) (λ t. clash (ltb k 9) t (le-ltb k 9 (omega (arith, q))))
       (λ _. pick_by (InByte called n false) (eqb k 10) (λ _. held m 0 e) (λ t. absurd (eqb-false k 10 t q)))
-  at-fall status (held m clocks e) h = clash true refl h
+  at_fall_lem status (held m clocks e) h = clash true refl h
 
   -- the fall at nine rises is the one that ends the byte, where the address was one of the chip's
-  pub at-nine : {p : Phase} → InByte called n true p → pulls_scl p ≡ false → in_ninth_clock p ≡ (eqb n 9 && is_own (compared_in p))
+  pub at_nine : {p : Phase} → InByte called n true p → pulls_scl p ≡ false → in_ninth_clock p ≡ (eqb n 9 && is_own (compared_in p))
   unfolding pulls_scl compared_in
-  at-nine (gathering k bits c l e) h = sym (and-false (eqb n 9))
-  at-nine (matched m bits e s) h = rw (ne_eqb n 9 (λ q. omega (arith, e, q)))
-  at-nine (answering m bits e) h = rw (eq-eqb n 9 (omega (arith, e)))
-  at-nine (foreign c) h = sym (and-false (eqb n 9))
-  at-nine (receiving m k bits l e) h = rw (le-ltb 8 k (omega (arith, l)), ne_eqb n 9 (λ q. omega (arith, e, l, q)))
-  at-nine (received m k bits r e s) h = rw (le-ltb 8 k (omega (arith, r)), ne_eqb n 9 (λ q. omega (arith, e, q)))
-  at-nine (acknowledging m k bits l e) h = rw (lt-ltb 8 k l, eq-eqb n 9 (omega (arith, e)))
-  at-nine (sending m k byte l e) h = rw (ne_eqb k 10 (λ q. omega (arith, l, q)), ne_eqb n 9 (λ q. omega (arith, l, e, q)))
-  at-nine (answered m k byte r e s) h = rw (eq-eqb k 10 r, eq-eqb n 9 e)
-  at-nine (held m clocks e) h = clash true refl h
+  at_nine (gathering k bits c l e) h = sym (and-false (eqb n 9))
+  at_nine (matched m bits e s) h = rw (ne_eqb n 9 (λ q. omega (arith, e, q)))
+  at_nine (answering m bits e) h = rw (eq-eqb n 9 (omega (arith, e)))
+  at_nine (foreign c) h = sym (and-false (eqb n 9))
+  at_nine (receiving m k bits l e) h = rw (le-ltb 8 k (omega (arith, l)), ne_eqb n 9 (λ q. omega (arith, e, l, q)))
+  at_nine (received m k bits r e s) h = rw (le-ltb 8 k (omega (arith, r)), ne_eqb n 9 (λ q. omega (arith, e, q)))
+  at_nine (acknowledging m k bits l e) h = rw (lt-ltb 8 k l, eq-eqb n 9 (omega (arith, e)))
+  at_nine (sending m k byte l e) h = rw (ne_eqb k 10 (λ q. omega (arith, l, q)), ne_eqb n 9 (λ q. omega (arith, l, e, q)))
+  at_nine (answered m k byte r e s) h = rw (eq-eqb k 10 r, eq-eqb n 9 e)
+  at_nine (held m clocks e) h = clash true refl h
 
   -- ---- a hold
 
-  pub held-nine : {scl : Bool} {p : Phase} → InByte called n scl p → pulls_scl p ≡ true → n ≡ 9
+  pub held_nine : {scl : Bool} {p : Phase} → InByte called n scl p → pulls_scl p ≡ true → n ≡ 9
   unfolding pulls_scl
-  held-nine (gathering k bits c l e) h = clash false h refl
-  held-nine (matched m bits e s) h = clash false h refl
-  held-nine (answering m bits e) h = clash false h refl
-  held-nine (foreign c) h = clash false h refl
-  held-nine (receiving m k bits l e) h = clash false h refl
-  held-nine (received m k bits q e s) h = clash false h refl
-  held-nine (acknowledging m k bits l e) h = clash false h refl
-  held-nine (sending m k byte l e) h = clash false h refl
-  held-nine (answered m k byte q e s) h = clash false h refl
-  held-nine (held m clocks e) h = e
+  held_nine (gathering k bits c l e) h = clash false h refl
+  held_nine (matched m bits e s) h = clash false h refl
+  held_nine (answering m bits e) h = clash false h refl
+  held_nine (foreign c) h = clash false h refl
+  held_nine (receiving m k bits l e) h = clash false h refl
+  held_nine (received m k bits q e s) h = clash false h refl
+  held_nine (acknowledging m k bits l e) h = clash false h refl
+  held_nine (sending m k byte l e) h = clash false h refl
+  held_nine (answered m k byte q e s) h = clash false h refl
+  held_nine (held m clocks e) h = e
 
-  pub still-held : {scl : Bool} (p : Phase) → pulls_scl p ≡ true → n ≡ 9 → InByte called n scl p
+  pub still_held : {scl : Bool} (p : Phase) → pulls_scl p ≡ true → n ≡ 9 → InByte called n scl p
   unfolding pulls_scl
-  still-held Idle h e = clash false h refl
-  still-held (Address count bits) h e = clash false h refl
-  still-held (Addressed m bits ninth) h e = clash false h refl
-  still-held Ignoring h e = clash false h refl
-  still-held (Receive m count bits) h e = clash false h refl
-  still-held (Transmit m count byte) h e = clash false h refl
-  still-held (Held m clocks) h e = held m clocks e
+  still_held Idle h e = clash false h refl
+  still_held (Address count bits) h e = clash false h refl
+  still_held (Addressed m bits ninth) h e = clash false h refl
+  still_held Ignoring h e = clash false h refl
+  still_held (Receive m count bits) h e = clash false h refl
+  still_held (Transmit m count byte) h e = clash false h refl
+  still_held (Held m clocks) h e = held m clocks e
 
 -- ---- where a byte begins
 

@@ -39,7 +39,7 @@ use Rattle.bus_address_laws.proofs.Events.{clash}
 use Rattle.bus_address_laws.proofs.Addressed.{parts}
 use Rattle.bus_address_laws.proofs.Eighth.{low_both, not_and, gathered_since}
 use Rattle.bus_data_laws.specs.Ninth.{rises_over, lets_go, ends_byte, NinthSinceStart, NinthSinceLetGo}
-use Rattle.bus_data_laws.proofs.Bytes.{InByte, gathering, at-rise, at-fall, at-nine, held-nine, still-held, from_let_go, own_byte}
+use Rattle.bus_data_laws.proofs.Bytes.{InByte, gathering, at_rise_lem, at_fall_lem, at_nine, held_nine, still_held, from_let_go, own_byte}
 use Rattle.bus_data_laws.proofs.Events.{Runs, Moved, risen, fallen, same, holding, moved, runs_on}
 
 -- in DDC2B with RESET high, n rises of a byte are taken
@@ -60,7 +60,7 @@ module _ (called : Bool) (n : ℕ) (c : Chip) (e : Decoded) (g : Within called n
   level_taken h = record { runs = runs_on c e g.runs not_ended.0; byte = by_parts (moved c e g.runs not_ended.0 not_ended.1) }
     where
       by_parts : Moved c e (next c e).core → InByte called (n + 1) (next c e).core.scl (next c e).core.bus.phase
-      by_parts (risen t o f s q) = rw (s, q) (at-rise called n c.core.bus.iiadr (sda_level c) (rw o at g.byte) f)
+      by_parts (risen t o f s q) = rw (s, q) (at_rise_lem called n c.core.bus.iiadr (sda_level c) (rw o at g.byte) f)
       by_parts (fallen t o f s q) = clash (takes_level c e) h t
       by_parts (same t s q) = clash (takes_level c e) h t
       by_parts (holding t f q) = clash (takes_level c e) h t
@@ -70,9 +70,9 @@ module _ (called : Bool) (n : ℕ) (c : Chip) (e : Decoded) (g : Within called n
     where
       by_parts : Moved c e (next c e).core → InByte called n (next c e).core.scl (next c e).core.bus.phase
       by_parts (risen t o f s q) = clash (takes_level c e) t h
-      by_parts (fallen t o f s q) = rw (s, q) (at-fall called n c.core.bus.iists (rw o at g.byte) f)
+      by_parts (fallen t o f s q) = rw (s, q) (at_fall_lem called n c.core.bus.iists (rw o at g.byte) f)
       by_parts (same t s q) = rw (s, q) g.byte
-      by_parts (holding t f q) = still-held called n (next c e).core.bus.phase q (held-nine called n g.byte f)
+      by_parts (holding t f q) = still_held called n (next c e).core.bus.phase q (held_nine called n g.byte f)
 
 -- ---- over a list of words
 
@@ -112,7 +112,7 @@ data_within called n c e g = data_at c e g.runs ∙ by_fall (falls_scl c e) refl
         let high = both c.core.reset (c.core.scl && scl_free c) put.1 in
         let line = both c.core.scl (scl_free c) high.1 in
         let on : in_ddc2b c ≡ true = rw (g.runs.enddc, g.runs.md) in
-        at-nine called n (rw line.0 at g.byte) (not_and (in_ddc2b c) (pulls_scl c.core.bus.phase) on line.1)
+        at_nine called n (rw line.0 at g.byte) (not_and (in_ddc2b c) (pulls_scl c.core.bus.phase) on line.1)
     by_fall false h = refl
 
 -- ---- from a START

@@ -24,7 +24,7 @@ use Rattle.chip_events.specs.Outcome.{next}
 use Rattle.list_call.specs.Run.{advanced}
 use Rattle.chip_flag_laws.proofs.Bools.{at_eight}
 use Rattle.bus_transfer_laws.specs.Transfers.{bits_of, Holding, write_data, put_sda, raise_scl, lower_scl, clock_in}
-use Rattle.bus_transfer_laws.proofs.Steps.{given, At, after-sda, after-rise, after-fall, called_by, let_go}
+use Rattle.bus_transfer_laws.proofs.Steps.{given, At, after_sda, after_rise, after_fall, called_by, let_go}
 
 -- ---- the phase of a receive
 
@@ -63,9 +63,9 @@ module _ {m : OwnAddress} {n bits status byte : ℕ} {sda : Bool} (c : Chip) (le
   risen : At (Receive m (n + 1) (gathered bits level)) status (data_at_rise level (Receive m n bits) byte) true level (next (next c (Pin SDA level)) (Pin SCL true)).core
   risen =
       let x : Chip = next c (Pin SDA level) in
-      let b = after-sda c (free m n bits h) level a in
+      let b = after_sda c (free m n bits h) level a in
       rw (unpulled m n bits h, gathers m n bits h x.core.bus.iiadr level, status_stays m n bits h level status) at
-      (after-rise x (free m n bits h) b (rw (status_stays m n bits h (line (pulls_sda (Receive m n bits)) level) status) b.enddc))
+      (after_rise x (free m n bits h) b (rw (status_stays m n bits h (line (pulls_sda (Receive m n bits)) level) status) b.enddc))
 
 module _ {m : OwnAddress} {n bits status byte : ℕ} {sda : Bool} (P : Chip → Type 0) (c : Chip) (level : Bool) (ws : List ℕ) (h : n < 7) (a : At (Receive m n bits) status byte false sda c.core) where
   -- one of the first seven
@@ -75,7 +75,7 @@ module _ {m : OwnAddress} {n bits status byte : ℕ} {sda : Bool} (P : Chip → 
       let y : Chip = next x (Pin SCL true) in
       let z : Chip = next y (Pin SCL false) in
       let b : At (Receive m (n + 1) (gathered bits level)) status byte true level y.core = rw (data_stays m n bits h level byte) at (risen c level (omega arith) a) in
-      let d : At (Receive m (n + 1) (gathered bits level)) status byte false level z.core = rw (stays m (n + 1) (gathered bits level) (omega arith) status) at (after-fall y (free m (n + 1) (gathered bits level) (omega arith)) b) in
+      let d : At (Receive m (n + 1) (gathered bits level)) status byte false level z.core = rw (stays m (n + 1) (gathered bits level) (omega arith) status) at (after_fall y (free m (n + 1) (gathered bits level) (omega arith)) b) in
       rw (given c (Pin SDA level) (raise_scl ∷ lower_scl ∷ ws) refl, given x (Pin SCL true) (lower_scl ∷ ws) refl, given y (Pin SCL false) ws refl) (k z d)
 
 -- ---- what II DAT shows
@@ -118,9 +118,9 @@ last P m {bits} {status} byte c level a k =
 
 -- from a hold with TRX 0: the chip at the eighth rise, with the bits that were gathered
 module _ (P : Chip → Type 0) (c : Chip) (byte : ℕ) (l : byte < 256) (hold : Holding false c) (a b d e f g h i : Bool) where
-  pub at-eighth-rise : ((x : Chip) → At (Receive (called_by c hold) 8 (eight a b d e f g h i)) c.core.bus.iists (eight a b d e f g h i) true i x.core → P x) →
+  pub at_eighth_rise : ((x : Chip) → At (Receive (called_by c hold) 8 (eight a b d e f g h i)) c.core.bus.iists (eight a b d e f g h i) true i x.core → P x) →
       P (advanced c (write_data byte ∷ clock_in (a ∷ b ∷ d ∷ e ∷ f ∷ g ∷ h ∷ []) (put_sda i ∷ raise_scl ∷ [])))
-  at-eighth-rise k =
+  at_eighth_rise k =
       let m : OwnAddress = called_by c hold in
       let end : List ℕ = put_sda i ∷ raise_scl ∷ [] in
       rw (given c (Write IIDAT byte) (clock_in (a ∷ b ∷ d ∷ e ∷ f ∷ g ∷ h ∷ []) end) (omega arith, l))
@@ -136,5 +136,5 @@ module _ (P : Chip → Type 0) (c : Chip) (byte : ℕ) (l : byte < 256) (hold : 
 pub received : (c : Chip) (byte : ℕ) → byte < 256 → Holding false c → (a b d e f g h i : Bool) →
     bits_of (reading (advanced c (write_data byte ∷ clock_in (a ∷ b ∷ d ∷ e ∷ f ∷ g ∷ h ∷ []) (put_sda i ∷ raise_scl ∷ []))) IIDAT).byte ≡ a ∷ b ∷ d ∷ e ∷ f ∷ g ∷ h ∷ i ∷ []
 received c byte l hold a b d e f g h i =
-    at-eighth-rise (λ (x : Chip). bits_of (reading x IIDAT).byte ≡ a ∷ b ∷ d ∷ e ∷ f ∷ g ∷ h ∷ i ∷ []) c byte l hold a b d e f g h i
+    at_eighth_rise (λ (x : Chip). bits_of (reading x IIDAT).byte ≡ a ∷ b ∷ d ∷ e ∷ f ∷ g ∷ h ∷ i ∷ []) c byte l hold a b d e f g h i
     (λ x at. ap bits_of (data_shown x at) ∙ top_first a b d e f g h i)

@@ -48,11 +48,11 @@ module _ (c : Chip) (b : ℕ) (r : c.core.reset ≡ true) where
       (λ q. let z : ◌≡◌ {A = Bool} true false = rw r at q in cc)
 
   -- START, as a read shows it before and after
-  pub start-written : shows IISTS START (next c (Write IISTS b)) ≡ kept_flag (shows IISTS START c) (bit START b)
+  pub start_written : shows IISTS START (next c (Write IISTS b)) ≡ kept_flag (shows IISTS START c) (bit START b)
   unfolding bit
-  start-written = rw (status_shown (next c (Write IISTS b)) START reset_kept refl, status_shown c START r refl) (stored START (omega arith) refl refl)
+  start_written = rw (status_shown (next c (Write IISTS b)) START reset_kept refl, status_shown c START r refl) (stored START (omega arith) refl refl)
 
   -- STOP likewise
-  pub stop-written : shows IISTS STOP (next c (Write IISTS b)) ≡ kept_flag (shows IISTS STOP c) (bit STOP b)
+  pub stop_written : shows IISTS STOP (next c (Write IISTS b)) ≡ kept_flag (shows IISTS STOP c) (bit STOP b)
   unfolding bit
-  stop-written = rw (status_shown (next c (Write IISTS b)) STOP reset_kept refl, status_shown c STOP r refl) (stored STOP (omega arith) refl refl)
+  stop_written = rw (status_shown (next c (Write IISTS b)) STOP reset_kept refl, status_shown c STOP r refl) (stored STOP (omega arith) refl refl)

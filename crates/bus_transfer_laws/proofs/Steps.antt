@@ -107,18 +107,18 @@ module _ (g : Core) (irqx : ℕ) (p : Phase) (status byte : ℕ) (sda : Bool) (e
 -- ---- the words of a transfer
 
 module _ {p : Phase} {status byte : ℕ} {sda : Bool} (c : Chip) (free : pulls_scl p ≡ false) where
-  pub after-sda : (level : Bool) → At p status byte false sda c.core → At p status byte false level (next c (Pin SDA level)).core
+  pub after_sda : (level : Bool) → At p status byte false sda c.core → At p status byte false level (next c (Pin SDA level)).core
   unfolding next core_after pin_moved pin_moved_as pin_kind
-  after-sda level a = rw (as_put a) (sda_put_lem c.core c.core.irqx p status byte sda a.enddc a.md free level)
+  after_sda level a = rw (as_put a) (sda_put_lem c.core c.core.irqx p status byte sda a.enddc a.md free level)
 
-  pub after-rise : At p status byte false sda c.core → bit 3 (status_at_rise (line (pulls_sda p) sda) p status) ≡ false →
+  pub after_rise : At p status byte false sda c.core → bit 3 (status_at_rise (line (pulls_sda p) sda) p status) ≡ false →
       At (phase_at_rise c.core.bus.iiadr (line (pulls_sda p) sda) p) (status_at_rise (line (pulls_sda p) sda) p status) (data_at_rise (line (pulls_sda p) sda) p byte) true sda (next c (Pin SCL true)).core
   unfolding next core_after pin_moved pin_moved_as pin_kind
-  after-rise a f = rw (as_put a) (scl_rises_lem c.core c.core.irqx p status byte sda a.enddc a.md free f)
+  after_rise a f = rw (as_put a) (scl_rises_lem c.core c.core.irqx p status byte sda a.enddc a.md free f)
 
-  pub after-fall : At p status byte true sda c.core → At (phase_at_fall status p) status byte false sda (next c (Pin SCL false)).core
+  pub after_fall : At p status byte true sda c.core → At (phase_at_fall status p) status byte false sda (next c (Pin SCL false)).core
   unfolding next core_after pin_moved pin_moved_as pin_kind
-  after-fall a = rw (as_put a) (scl_falls_lem c.core c.core.irqx p status byte sda a.enddc a.md free)
+  after_fall a = rw (as_put a) (scl_falls_lem c.core c.core.irqx p status byte sda a.enddc a.md free)
 
 -- ---- letting SCL go
 

@@ -23,7 +23,7 @@ use Rattle.chip_events.specs.Outcome.{next}
 use Rattle.list_call.specs.Run.{advanced}
 use Rattle.bus_transfer_laws.specs.Transfers.{shows, bits_of, puts, Holding, write_data, put_sda, raise_scl, lower_scl, clocks, over_clocks, puts_at_rise}
 use Rattle.bus_transfer_laws.proofs.Status.{status_shown}
-use Rattle.bus_transfer_laws.proofs.Steps.{given, At, after-sda, after-rise, after-fall, called_by, let_go}
+use Rattle.bus_transfer_laws.proofs.Steps.{given, At, after_sda, after_rise, after_fall, called_by, let_go}
 
 -- ---- the phase of a transmit
 
@@ -65,10 +65,10 @@ module _ {m : OwnAddress} {n byte status kept : ℕ} {sda : Bool} (c : Chip) (h 
   risen =
       let level : Bool = line (pulls_sda (Transmit m n byte)) sda in
       rw (waits m n byte h c.core.bus.iiadr level, status_stays m n byte h level status, data_stays m n byte level kept) at
-      (after-rise c (free m n byte) a (rw (status_stays m n byte h level status) a.enddc))
+      (after_rise c (free m n byte) a (rw (status_stays m n byte h level status) a.enddc))
 
   fallen : At (Transmit m (n + 1) byte) status kept false sda (next (next c (Pin SCL true)) (Pin SCL false)).core
-  fallen = rw (moves m n byte h status) at (after-fall (next c (Pin SCL true)) (free m n byte) risen)
+  fallen = rw (moves m n byte h status) at (after_fall (next c (Pin SCL true)) (free m n byte) risen)
 
   two : (ws : List ℕ) → advanced c (raise_scl ∷ lower_scl ∷ ws) ≡ advanced (next (next c (Pin SCL true)) (Pin SCL false)) ws
   two ws = given c (Pin SCL true) (lower_scl ∷ ws) refl ∙ given (next c (Pin SCL true)) (Pin SCL false) ws refl
@@ -131,8 +131,8 @@ module _ {m : OwnAddress} {byte status kept : ℕ} {sda : Bool} (c : Chip) (a : 
   unfolding phase_at_rise status_at_rise data_at_rise pulls_sda pulls_at_bit
   ninth_risen =
       let x : Chip = next c (Pin SDA level) in
-      let b = after-sda c (free m 9 byte) level a in
-      after-rise x (free m 9 byte) b (ninth_status 3 (omega arith) ∙ a.enddc)
+      let b = after_sda c (free m 9 byte) level a in
+      after_rise x (free m 9 byte) b (ninth_status 3 (omega arith) ∙ a.enddc)
 
   ninth : shows IISTS RXAK (advanced c (put_sda level ∷ raise_scl ∷ [])) ≡ level
   unfolding bit
@@ -166,18 +166,18 @@ module _ (c : Chip) (byte : ℕ) (l : byte < 256) (hold : Holding true c) where
   transmitted = eight puts (λ n x h a. out x h a) (advanced c (write_data byte ∷ [])) let_go_at
 
   -- and with SCL high at each of the eight rises
-  pub transmitted-at-rises : over_clocks puts_at_rise 8 (advanced c (write_data byte ∷ [])) ≡ bits_of byte
-  transmitted-at-rises = eight puts_at_rise (λ n x h a. out_high x h a) (advanced c (write_data byte ∷ [])) let_go_at
+  pub transmitted_at_rises : over_clocks puts_at_rise 8 (advanced c (write_data byte ∷ [])) ≡ bits_of byte
+  transmitted_at_rises = eight puts_at_rise (λ n x h a. out_high x h a) (advanced c (write_data byte ∷ [])) let_go_at
 
   -- the eighth fall releases SDA
-  pub released-at-eighth : puts (advanced c (write_data byte ∷ clocks 8 [])) ≡ true
+  pub released_at_eighth : puts (advanced c (write_data byte ∷ clocks 8 [])) ≡ true
   unfolding pulls_sda pulls_at_bit
-  released-at-eighth =
+  released_at_eighth =
       rw (given c (Write IIDAT byte) (clocks 8 []) (omega arith, l))
       (from_eighth (λ (x : Chip). puts x ≡ true) [] (next c (Write IIDAT byte)) (let_go c hold byte) (λ x a. puts_at x a))
 
   -- and the level then put on SDA is what RXAK shows after the ninth rise
-  pub acknowledge-shown : (level : Bool) → shows IISTS RXAK (advanced c (write_data byte ∷ clocks 8 (put_sda level ∷ raise_scl ∷ []))) ≡ level
-  acknowledge-shown level =
+  pub acknowledge_shown : (level : Bool) → shows IISTS RXAK (advanced c (write_data byte ∷ clocks 8 (put_sda level ∷ raise_scl ∷ []))) ≡ level
+  acknowledge_shown level =
       rw (given c (Write IIDAT byte) (clocks 8 (put_sda level ∷ raise_scl ∷ [])) (omega arith, l))
       (from_eighth (λ (x : Chip). shows IISTS RXAK x ≡ level) (put_sda level ∷ raise_scl ∷ []) (next c (Write IIDAT byte)) (let_go c hold byte) (λ x a. ninth x a level))

@@ -22,10 +22,10 @@ pub record PortPin : Type 0 where
   pub pin : ℕ
   pub register : ℕ
   pub place : ℕ
-  pub usedAs : Use
+  pub used_as : Use
 
 abbrev pub port_pin : ℕ → ℕ → ℕ → Use → PortPin
-port_pin pin register place usedAs = record { pin = pin; register = register; place = place; usedAs = usedAs }
+port_pin pin register place used_as = record { pin = pin; register = register; place = place; used_as = used_as }
 
 -- bits of SYNCON
 abbrev pub ENV : ℕ
@@ -88,12 +88,12 @@ steering (directed_by register k) others steer = encode (Write register (byte_wi
 unfoldable pub port_words : PortPin → Bool → Bool → Bool → Bool → List ℕ
 port_words p others latch level steer =
     encode (Write ENDAC (pick others 0xff 0x00)) ∷ encode (Write SYNCON (pick others 0xff 0x00)) ∷ encode (Write p.register (byte_with others p.place latch))
-    ∷ encode (Pin p.pin level) ∷ steering p.usedAs others steer
+    ∷ encode (Pin p.pin level) ∷ steering p.used_as others steer
 
 -- after them a read from a chip that was fresh shows what the pin reads
 unfoldable pub reads_right : PortPin → Bool → Bool → Bool → Bool → Bool
 reads_right p others latch level steer =
-    beq (shows p.register p.place (advanced fresh (port_words p others latch level steer))) (pin_reads p.usedAs latch level steer)
+    beq (shows p.register p.place (advanced fresh (port_words p others latch level steer))) (pin_reads p.used_as latch level steer)
 
 -- at every row of a list and all levels
 abbrev pub always : (Bool → Bool) → Bool

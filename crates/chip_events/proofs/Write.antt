@@ -28,17 +28,17 @@ module _ {A : Type 0} (x y : A) where
   refused_by_lem false writable h = refl
 
 module _ (c : Core) (registers : List ℕ) (a b : ℕ) where
-  pub taken-core : write_number c.reset a ≡ 0 → write_register c a b ≡ written c a b
+  pub taken_core : write_number c.reset a ≡ 0 → write_register c a b ≡ written c a b
   unfolding write_number write_register
-  taken-core h = taken_by (written c a b) c c.reset (is_writable a) h
+  taken_core h = taken_by (written c a b) c c.reset (is_writable a) h
 
-  pub taken-kept : write_number c.reset a ≡ 0 → write_kept c.reset registers a b ≡ stored_by registers a b
+  pub taken_kept : write_number c.reset a ≡ 0 → write_kept c.reset registers a b ≡ stored_by registers a b
   unfolding write_number write_kept
-  taken-kept h = taken_by (stored_by registers a b) Same c.reset (is_writable a) h
+  taken_kept h = taken_by (stored_by registers a b) Same c.reset (is_writable a) h
 
-  pub refused-core : write_number c.reset a ≢ 0 → write_register c a b ≡ c
+  pub refused_core : write_number c.reset a ≢ 0 → write_register c a b ≡ c
   unfolding write_number write_register
-  refused-core h = refused_by_lem (written c a b) c c.reset (is_writable a) h
+  refused_core h = refused_by_lem (written c a b) c c.reset (is_writable a) h
 
   pub refused_kept : write_number c.reset a ≢ 0 → write_kept c.reset registers a b ≡ Same
   unfolding write_number write_kept

@@ -10,7 +10,7 @@ use Rattle.bits.specs.Byte.{pick}
 use Rattle.bits.proofs.Finite.{both}
 use Rattle.chip.specs.declared.Chip.{Chip}
 use Rattle.chip_well_formed.specs.WellFormed.{well_formed}
-use Rattle.chip_laws.proofs.Numbers.{ill_formed_step, exactly-8}
+use Rattle.chip_laws.proofs.Numbers.{ill_formed_step, exactly_8}
 use Rattle.chip_formed_cases.specs.Clauses.{Clause, all_formed, none_formed, holds, failing_from, failing, each, AnsweredEight, AnsweredOtherwise, Told, ranges, stored, apart, modes, gathering, sending, free, clauses}
 use Rattle.chip_formed_cases.proofs.Computed.{ranges_hold, stored_hold, apart_hold, modes_hold, gathering_hold, sending_hold, free_hold}
 
@@ -21,7 +21,7 @@ not_true true h = cc
 not_true false h = refl
 
 well_otherwise : (c : Chip) → well_formed c ≡ true → AnsweredOtherwise c
-well_otherwise c h word = exactly-8 c word ∙ ap not h
+well_otherwise c h word = exactly_8 c word ∙ ap not h
 
 ill_eight : (c : Chip) → not (well_formed c) ≡ true → AnsweredEight c
 ill_eight c h word = ill_formed_step c word (not_true (well_formed c) h)

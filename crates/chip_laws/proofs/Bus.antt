@@ -193,9 +193,9 @@ ddc2b_in m p s e t u = rw e (and_both (phase_fits p) (is_unused s) t u)
 
 -- the bus in DDC2B with another phase and an II STS whose ENDDC is as it was
 module _ (mdcon : ℕ) (b : Bus) (f : BusFormed mdcon b) (e : mode b.iists mdcon ≡ Ddc2b) where
-  pub ddc2b-formed : (status byte : ℕ) (p : Phase) → status < 64 → bit 3 status ≡ bit 3 b.iists → Fits p →
+  pub ddc2b_formed : (status byte : ℕ) (p : Phase) → status < 64 → bit 3 status ≡ bit 3 b.iists → Fits p →
       BusFormed mdcon (bus_of status b.iiadr byte p b.shifter)
-  ddc2b-formed status byte p h k t =
+  ddc2b_formed status byte p h k t =
       record {
         iists = h;
         iiadr = f.iiadr;
@@ -205,25 +205,25 @@ module _ (mdcon : ℕ) (b : Bus) (f : BusFormed mdcon b) (e : mode b.iists mdcon
   phase_fits_lem : Fits b.phase
   phase_fits_lem = (in_ddc2b_lem _ _ _ e f.fits).0
 
-  pub rise-formed : (sda : Bool) → BusFormed mdcon (bus_at_rise sda b)
+  pub rise_formed : (sda : Bool) → BusFormed mdcon (bus_at_rise sda b)
   unfolding bus_at_rise
-  rise-formed sda =
-      ddc2b-formed _ _ _ (status_lt sda b.phase b.iists f.iists) (status_bit_lem sda b.phase b.iists)
+  rise_formed sda =
+      ddc2b_formed _ _ _ (status_lt sda b.phase b.iists f.iists) (status_bit_lem sda b.phase b.iists)
       (phase_at_rise_lem b.iiadr sda b.phase phase_fits_lem)
 
-  pub fall-formed : BusFormed mdcon (with_phase b (phase_at_fall b.iists b.phase))
-  fall-formed = ddc2b-formed _ _ _ f.iists refl (phase_at_fall_lem b.iists b.phase phase_fits_lem)
+  pub fall_formed : BusFormed mdcon (with_phase b (phase_at_fall b.iists b.phase))
+  fall_formed = ddc2b_formed _ _ _ f.iists refl (phase_at_fall_lem b.iists b.phase phase_fits_lem)
 
-  pub start-formed : BusFormed mdcon (bus_of (start_status b.iists) b.iiadr b.iidat start_phase b.shifter)
+  pub start_formed : BusFormed mdcon (bus_of (start_status b.iists) b.iiadr b.iidat start_phase b.shifter)
   unfolding phase_fits gathered_fits
-  start-formed = ddc2b-formed _ _ _ (or_lt 6 b.iists 0x20 f.iists (omega arith)) (start_bit b.iists) refl
+  start_formed = ddc2b_formed _ _ _ (or_lt 6 b.iists 0x20 f.iists (omega arith)) (start_bit b.iists) refl
 
-  pub stop-formed : BusFormed mdcon (bus_of (stop_status b.iists) b.iiadr b.iidat Idle b.shifter)
+  pub stop_formed : BusFormed mdcon (bus_of (stop_status b.iists) b.iiadr b.iidat Idle b.shifter)
   unfolding phase_fits
-  stop-formed = ddc2b-formed _ _ _ (or_lt 6 b.iists 0x10 f.iists (omega arith)) (stop_bit b.iists) refl
+  stop_formed = ddc2b_formed _ _ _ (or_lt 6 b.iists 0x10 f.iists (omega arith)) (stop_bit b.iists) refl
 
-  pub let-go-formed : (k : Comparison) (trx : Bool) (sent byte : ℕ) → BusFormed mdcon (bus_of b.iists b.iiadr byte (phase_let_go k trx sent) b.shifter)
-  let-go-formed k trx sent byte = ddc2b-formed _ _ _ f.iists refl (phase_let_go_lem k trx sent)
+  pub let_go_formed : (k : Comparison) (trx : Bool) (sent byte : ℕ) → BusFormed mdcon (bus_of b.iists b.iiadr byte (phase_let_go k trx sent) b.shifter)
+  let_go_formed k trx sent byte = ddc2b_formed _ _ _ f.iists refl (phase_let_go_lem k trx sent)
 
 -- an idle phase holds no line
 idle_lets_go : (p : Phase) → is_idle p ≡ true → pulls_scl p ≡ false

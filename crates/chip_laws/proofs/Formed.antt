@@ -91,40 +91,40 @@ well c h =
 -- ---- one part of the core put anew
 
 module _ {c : Core} (f : Formed c) where
-  pub with-irqx : (v : ℕ) → v < 64 → Formed (with_irqx c v)
-  with-irqx v h = record { sync = f.sync; watchdog = f.watchdog; irqx = h; mdcon = f.mdcon; polarity = f.polarity; port1 = f.port1; bus = f.bus }
+  pub with_irqx_lem : (v : ℕ) → v < 64 → Formed (with_irqx c v)
+  with_irqx_lem v h = record { sync = f.sync; watchdog = f.watchdog; irqx = h; mdcon = f.mdcon; polarity = f.polarity; port1 = f.port1; bus = f.bus }
 
   -- flags of six bits set
-  pub with-flags : (flags : ℕ) → flags < 64 → Formed (raised c flags)
-  with-flags flags h = with-irqx (bit_or c.irqx flags) (or_lt 6 c.irqx flags f.irqx h)
+  pub with_flags : (flags : ℕ) → flags < 64 → Formed (raised c flags)
+  with_flags flags h = with_irqx_lem (bit_or c.irqx flags) (or_lt 6 c.irqx flags f.irqx h)
 
   -- MDCON is put together with the bus, since MD1/2 is part of the mode
   pub with_mode : (v : ℕ) (b : Bus) → v < 16 → BusFormed v b → Formed (with_bus (with_mdcon c v) b)
   with_mode v b h k = record { sync = f.sync; watchdog = f.watchdog; irqx = f.irqx; mdcon = h; polarity = f.polarity; port1 = f.port1; bus = k }
 
-  pub with-polarity : (v : ℕ) → v < 16 → Formed (with_polarity c v)
-  with-polarity v h = record { sync = f.sync; watchdog = f.watchdog; irqx = f.irqx; mdcon = f.mdcon; polarity = h; port1 = f.port1; bus = f.bus }
+  pub with_polarity_lem : (v : ℕ) → v < 16 → Formed (with_polarity c v)
+  with_polarity_lem v h = record { sync = f.sync; watchdog = f.watchdog; irqx = f.irqx; mdcon = f.mdcon; polarity = h; port1 = f.port1; bus = f.bus }
 
-  pub with-bt : (v : ℕ) → Formed (with_bt c v)
-  with-bt v = record { sync = f.sync; watchdog = f.watchdog; irqx = f.irqx; mdcon = f.mdcon; polarity = f.polarity; port1 = f.port1; bus = f.bus }
+  pub with_bt_lem : (v : ℕ) → Formed (with_bt c v)
+  with_bt_lem v = record { sync = f.sync; watchdog = f.watchdog; irqx = f.irqx; mdcon = f.mdcon; polarity = f.polarity; port1 = f.port1; bus = f.bus }
 
-  pub with-watchdog : (v : ℕ) → v < 64 → Formed (with_watchdog c v)
-  with-watchdog v h = record { sync = f.sync; watchdog = h; irqx = f.irqx; mdcon = f.mdcon; polarity = f.polarity; port1 = f.port1; bus = f.bus }
+  pub with_watchdog_lem : (v : ℕ) → v < 64 → Formed (with_watchdog c v)
+  with_watchdog_lem v h = record { sync = f.sync; watchdog = h; irqx = f.irqx; mdcon = f.mdcon; polarity = f.polarity; port1 = f.port1; bus = f.bus }
 
-  pub with-sync : (v : Sync) → well_sync v ≡ true → Formed (with_sync c v)
-  with-sync v h = record { sync = h; watchdog = f.watchdog; irqx = f.irqx; mdcon = f.mdcon; polarity = f.polarity; port1 = f.port1; bus = f.bus }
+  pub with_sync_lem : (v : Sync) → well_sync v ≡ true → Formed (with_sync c v)
+  with_sync_lem v h = record { sync = h; watchdog = f.watchdog; irqx = f.irqx; mdcon = f.mdcon; polarity = f.polarity; port1 = f.port1; bus = f.bus }
 
-  pub with-bus : (v : Bus) → BusFormed c.mdcon v → Formed (with_bus c v)
-  with-bus v h = record { sync = f.sync; watchdog = f.watchdog; irqx = f.irqx; mdcon = f.mdcon; polarity = f.polarity; port1 = f.port1; bus = h }
+  pub with_bus_lem : (v : Bus) → BusFormed c.mdcon v → Formed (with_bus c v)
+  with_bus_lem v h = record { sync = f.sync; watchdog = f.watchdog; irqx = f.irqx; mdcon = f.mdcon; polarity = f.polarity; port1 = f.port1; bus = h }
 
-  pub with-pins : (v : Pins) → v.port1 < 128 → Formed (with_pins c v)
-  with-pins v h = record { sync = f.sync; watchdog = f.watchdog; irqx = f.irqx; mdcon = f.mdcon; polarity = f.polarity; port1 = h; bus = f.bus }
+  pub with_pins_lem : (v : Pins) → v.port1 < 128 → Formed (with_pins c v)
+  with_pins_lem v h = record { sync = f.sync; watchdog = f.watchdog; irqx = f.irqx; mdcon = f.mdcon; polarity = f.polarity; port1 = h; bus = f.bus }
 
-  pub with-sda : (v : Bool) → Formed (with_sda c v)
-  with-sda v = record { sync = f.sync; watchdog = f.watchdog; irqx = f.irqx; mdcon = f.mdcon; polarity = f.polarity; port1 = f.port1; bus = f.bus }
+  pub with_sda_lem : (v : Bool) → Formed (with_sda c v)
+  with_sda_lem v = record { sync = f.sync; watchdog = f.watchdog; irqx = f.irqx; mdcon = f.mdcon; polarity = f.polarity; port1 = f.port1; bus = f.bus }
 
-  pub with-scl : (v : Bool) → Formed (with_scl c v)
-  with-scl v = record { sync = f.sync; watchdog = f.watchdog; irqx = f.irqx; mdcon = f.mdcon; polarity = f.polarity; port1 = f.port1; bus = f.bus }
+  pub with_scl_lem : (v : Bool) → Formed (with_scl c v)
+  with_scl_lem v = record { sync = f.sync; watchdog = f.watchdog; irqx = f.irqx; mdcon = f.mdcon; polarity = f.polarity; port1 = f.port1; bus = f.bus }
 
-  pub with-reset : (v : Bool) → Formed (with_reset c v)
-  with-reset v = record { sync = f.sync; watchdog = f.watchdog; irqx = f.irqx; mdcon = f.mdcon; polarity = f.polarity; port1 = f.port1; bus = f.bus }
+  pub with_reset_lem : (v : Bool) → Formed (with_reset c v)
+  with_reset_lem v = record { sync = f.sync; watchdog = f.watchdog; irqx = f.irqx; mdcon = f.mdcon; polarity = f.polarity; port1 = f.port1; bus = f.bus }

@@ -16,7 +16,7 @@ use Rattle.events.specs.declared.Decoded.{Decoded}
 use Rattle.events.specs.declared.Decoded.TheVariants.{Read, Write, Pin, Clock, Polarity, Refused}
 use Rattle.events.specs.Word.{kind, field_a, field_b, event, no_event, no_place, bad_byte, decode}
 use Rattle.answers.specs.Answer.{answer_fields}
-use Rattle.answers.proofs.AnswerWord.{fields-of-answer}
+use Rattle.answers.proofs.AnswerWord.{fields_of_answer}
 use Rattle.chip.specs.declared.Core.{Core}
 use Rattle.chip.specs.declared.Chip.{Chip}
 use Rattle.chip.specs.declared.Kept.{Kept}
@@ -98,7 +98,7 @@ unfolding step advance answered
 answer_fields_lem c w t =
     let e : Decoded = decode w in
     let small = requests_lt (next c e) (advance_well_formed c w t) in
-    rw (t, ← (decode_number c w t)) (fields-of-answer (number_given c e) (watchdog_reset c e) (requests (next c e)) (byte_given c e) (omega arith) (byte_lt c e))
+    rw (t, ← (decode_number c w t)) (fields_of_answer (number_given c e) (watchdog_reset c e) (requests (next c e)) (byte_given c e) (omega arith) (byte_lt c e))
 
 -- ---- number 8
 
@@ -156,65 +156,65 @@ write_not_read w e =
 
 module _ (c : Chip) (w : ℕ) where
   -- the state is ill formed
-  pub exactly-8 : eqb (answer_number c w) 8 ≡ ill_formed c
+  pub exactly_8 : eqb (answer_number c w) 8 ≡ ill_formed c
   unfolding number_of01
-  exactly-8 =
+  exactly_8 =
       rw (number_given_lem c w)
       (first_is (ill_formed c) (no_event w) (no_place w) (bad_byte w) (while_reset c w) (write_only w) (read_only w) (write_not_read w)).8
 
   -- no event
-  pub exactly-1 : eqb (answer_number c w) 1 ≡ (not (ill_formed c) && no_event w)
+  pub exactly_1 : eqb (answer_number c w) 1 ≡ (not (ill_formed c) && no_event w)
   unfolding number_of01
-  exactly-1 =
+  exactly_1 =
       rw (number_given_lem c w)
       (first_is (ill_formed c) (no_event w) (no_place w) (bad_byte w) (while_reset c w) (write_only w) (read_only w) (write_not_read w)).1
 
   -- nothing has this A
-  pub exactly-2 : eqb (answer_number c w) 2 ≡ (not (ill_formed c) && (not (no_event w) && no_place w))
+  pub exactly_2 : eqb (answer_number c w) 2 ≡ (not (ill_formed c) && (not (no_event w) && no_place w))
   unfolding number_of01
-  exactly-2 =
+  exactly_2 =
       rw (number_given_lem c w)
       (first_is (ill_formed c) (no_event w) (no_place w) (bad_byte w) (while_reset c w) (write_only w) (read_only w) (write_not_read w)).2
 
   -- a B outside of the table
-  pub exactly-3 : eqb (answer_number c w) 3 ≡ (not (ill_formed c) && (not (no_event w) && (not (no_place w) && bad_byte w)))
+  pub exactly_3 : eqb (answer_number c w) 3 ≡ (not (ill_formed c) && (not (no_event w) && (not (no_place w) && bad_byte w)))
   unfolding number_of01
-  exactly-3 =
+  exactly_3 =
       rw (number_given_lem c w)
       (first_is (ill_formed c) (no_event w) (no_place w) (bad_byte w) (while_reset c w) (write_only w) (read_only w) (write_not_read w)).3
 
   -- a read or a write while RESET is low
-  pub exactly-4 : eqb (answer_number c w) 4 ≡ (not (ill_formed c) && (is_event w && while_reset c w))
+  pub exactly_4 : eqb (answer_number c w) 4 ≡ (not (ill_formed c) && (is_event w && while_reset c w))
   unfolding number_of01
-  exactly-4 =
+  exactly_4 =
       rw (number_given_lem c w)
       (first_is (ill_formed c) (no_event w) (no_place w) (bad_byte w) (while_reset c w) (write_only w) (read_only w) (write_not_read w)).4
 
   -- a read of a write-only register
-  pub exactly-5 : eqb (answer_number c w) 5 ≡ (not (ill_formed c) && (is_event w && (not (while_reset c w) && write_only w)))
+  pub exactly_5 : eqb (answer_number c w) 5 ≡ (not (ill_formed c) && (is_event w && (not (while_reset c w) && write_only w)))
   unfolding number_of01
-  exactly-5 =
+  exactly_5 =
       rw (number_given_lem c w)
       (first_is (ill_formed c) (no_event w) (no_place w) (bad_byte w) (while_reset c w) (write_only w) (read_only w) (write_not_read w)).5
 
   -- a write to a read-only register
-  pub exactly-6 : eqb (answer_number c w) 6 ≡ (not (ill_formed c) && (is_event w && (not (while_reset c w) && read_only w)))
+  pub exactly_6 : eqb (answer_number c w) 6 ≡ (not (ill_formed c) && (is_event w && (not (while_reset c w) && read_only w)))
   unfolding number_of01
-  exactly-6 =
+  exactly_6 =
       rw (number_given_lem c w)
       (first_is (ill_formed c) (no_event w) (no_place w) (bad_byte w) (while_reset c w) (write_only w) (read_only w) (write_not_read w)).6
 
   -- done: none of these
-  pub exactly-0 : eqb (answer_number c w) 0 ≡ (not (ill_formed c) && (is_event w && (not (while_reset c w) && (not (write_only w) && not (read_only w)))))
+  pub exactly_0 : eqb (answer_number c w) 0 ≡ (not (ill_formed c) && (is_event w && (not (while_reset c w) && (not (write_only w) && not (read_only w)))))
   unfolding number_of01
-  exactly-0 =
+  exactly_0 =
       rw (number_given_lem c w)
       (first_is (ill_formed c) (no_event w) (no_place w) (bad_byte w) (while_reset c w) (write_only w) (read_only w) (write_not_read w)).0
 
   -- a list call alone gives it
-  pub exactly-7 : eqb (answer_number c w) 7 ≡ false
+  pub exactly_7 : eqb (answer_number c w) 7 ≡ false
   unfolding number_of01
-  exactly-7 =
+  exactly_7 =
       rw (number_given_lem c w)
       (first_is (ill_formed c) (no_event w) (no_place w) (bad_byte w) (while_reset c w) (write_only w) (read_only w) (write_not_read w)).7
 

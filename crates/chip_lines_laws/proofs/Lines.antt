@@ -52,20 +52,20 @@ pt3_shows_lines c off =
 pub start_stop_by_lines : (c : Chip) (level : Bool) → InDdc2b c.core
     → sda_moved c.core level ≡ on_sda_ddc2b (scl_of c) (edge (sda_of c) (sda_of (put_sda c level))) (with_sda c.core level)
 unfolding sda_moved on_sda sda_pulled_at scl_pulled_at mode
-start_stop_by_lines c level d = rw (d.reset-high, d.ddc_on_lem, d.two-way)
+start_stop_by_lines c level d = rw (d.reset_high, d.ddc_on_lem, d.two_way)
 
 -- SCL's outside level is put: the edge is that of the reported SCL
 pub scl_by_lines : (c : Chip) (level : Bool) → InDdc2b c.core
     → scl_moved c.core level ≡ on_scl_ddc2b (edge (scl_of c) (scl_of (put_scl c level))) (with_scl c.core level)
 unfolding scl_moved on_scl scl_pulled_at mode
-scl_by_lines c level d = rw (d.reset-high, d.ddc_on_lem, d.two-way)
+scl_by_lines c level d = rw (d.reset_high, d.ddc_on_lem, d.two_way)
 
 -- ---- demand 3
 
 free_by : (c : Chip) → bit ENDDC c.core.bus.iists ≡ false → LinesFree c → (reset : Bool) → c.core.reset ≡ reset
     → (sda_of c ≡ c.core.sda) × (scl_of c ≡ c.core.scl)
 unfolding sda_pulled_at scl_pulled_at sda_pulled scl_pulled
-free_by c on free true e = (rw (on, e) free.sda-level, rw (on, e) free.scl-level)
+free_by c on free true e = (rw (on, e) free.sda_level_lem, rw (on, e) free.scl_level)
 free_by c on free false e = (rw (on, e), rw (on, e))
 
 -- lines that are free by demand 3 are reported at their outside levels

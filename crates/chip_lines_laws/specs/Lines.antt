@@ -8,9 +8,9 @@ use Rattle.chip.specs.State.{chip_of, with_sda, with_scl}
 
 -- RESET is high, DDC is on, and it is DDC2B
 pub record InDdc2b (c : Core) : Type 0 where
-  pub reset-high : c.reset ≡ true
+  pub reset_high : c.reset ≡ true
   pub ddc_on_lem : bit ENDDC c.bus.iists ≡ false
-  pub two-way : bit MD12 c.mdcon ≡ false
+  pub two_way : bit MD12 c.mdcon ≡ false
 
 -- the chip with another outside level, before it acts on that
 abbrev pub put_sda : Chip → Bool → Chip

@@ -36,7 +36,7 @@ use Rattle.chip_flag_laws.specs.Causes.{completes_match, raises}
 use Rattle.chip_flag_laws.specs.Causes.Source.{AddressMatch}
 use Rattle.bus_transfer_laws.specs.Transfers.{Holding, puts, write_data, put_sda, raise_scl, lower_scl, clock_in}
 use Rattle.bus_transfer_laws.proofs.Steps.{given}
-use Rattle.bus_transfer_laws.proofs.Receive.{at-eighth-rise}
+use Rattle.bus_transfer_laws.proofs.Receive.{at_eighth_rise}
 use Rattle.chip_rule_laws.specs.Acknowledge.{puts_scl, txak, lasts, Ended, InNinth}
 use Rattle.chip_rule_laws.specs.Steady.{In}
 use Rattle.chip_rule_laws.proofs.Steady.{Steady, addressed_steady, received_steady, steady_over, scl_over}
@@ -81,7 +81,7 @@ module _ {p : Phase} {m : OwnAddress} (c : Chip) (free : pulls_scl p ≡ false) 
       rw (given c (Pin SCL false) [] refl)
       (let f : In (Held m 0) (next c (Pin SCL false)).core = rw (moves c.core.bus.iists) at (fallen c free h high) in
       record {
-        flag-d = rw (flags_after c free h high, holds) (bit_or_lem INTD c.core.irqx 48 ∙ or_true (bit INTD c.core.irqx));
+        flag_d = rw (flags_after c free h high, holds) (bit_or_lem INTD c.core.irqx 48 ∙ or_true (bit INTD c.core.irqx));
         sda = puts_in (next c (Pin SCL false)) f;
         scl = puts_scl_in (next c (Pin SCL false)) f;
       })
@@ -144,7 +144,7 @@ pub received_acknowledged : (c : Chip) (byte : ℕ) → byte < 256 → Holding f
     InNinth (txak (advanced (advanced c (write_data byte ∷ clock_in (a ∷ b ∷ d ∷ e ∷ f ∷ g ∷ h ∷ []) (put_sda i ∷ raise_scl ∷ []))) us))
     (advanced (advanced (advanced c (write_data byte ∷ clock_in (a ∷ b ∷ d ∷ e ∷ f ∷ g ∷ h ∷ []) (put_sda i ∷ raise_scl ∷ []))) us) (lower_scl ∷ vs))
 received_acknowledged c byte l hold a b d e f g h i us vs =
-    at-eighth-rise
+    at_eighth_rise
     (λ (x : Chip). lasts x us ≡ true → lasts (advanced (advanced x us) (lower_scl ∷ [])) vs ≡ true → InNinth (txak (advanced x us)) (advanced (advanced x us) (lower_scl ∷ vs)))
     c byte l hold a b d e f g h i
     (λ x at. received_at _ _ x us vs (record { reset = at.reset; enddc = rw at.iists at.enddc; md = at.md; phase = at.phase }) at.scl)
@@ -177,14 +177,14 @@ record Matched (own status : ℕ) (sda : Bool) (p : Phase) : Type 0 where
   pub address : OwnAddress
   pub bits : ℕ
   pub phase : phase_at_rise own sda p ≡ Addressed address bits false
-  pub status-kept : status_at_rise sda p status ≡ status
+  pub status_kept : status_at_rise sda p status ≡ status
   pub free : pulls_scl p ≡ false
 
 module _ (own status count bits : ℕ) (sda : Bool) (full : ltb count 7 ≡ false) where
   matched_by : (k : Comparison) → compared own (gathered bits sda) ≡ k → is_own k ≡ true → Matched own status sda (Address count bits)
   unfolding phase_at_rise status_at_rise pulls_scl
   matched_by None e h = absurd (true≢false (sym h))
-  matched_by (Own m) e h = record { address = m; bits = gathered bits sda; phase = rw (full, e) refl; status-kept = refl; free = refl }
+  matched_by (Own m) e h = record { address = m; bits = gathered bits sda; phase = rw (full, e) refl; status_kept = refl; free = refl }
 
 matched : (own status : ℕ) (sda : Bool) (p : Phase) → completes_match own sda p ≡ true → Matched own status sda p
 matched own status sda Idle h = absurd (true≢false (sym h))
@@ -217,7 +217,7 @@ module _ (c : Chip) (reset : c.core.reset ≡ true) (low : c.core.scl ≡ false)
       record {
         address = m.address;
         bits = m.bits;
-        within = rw s (record { reset = reset; enddc = rw m.status-kept enddc; md = md; phase = m.phase });
+        within = rw s (record { reset = reset; enddc = rw m.status_kept enddc; md = md; phase = m.phase });
         scl = rw s refl;
       }
 

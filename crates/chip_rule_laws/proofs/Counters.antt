@@ -42,10 +42,10 @@ record Quiet (c : Chip) (e : Decoded) : Type 0 where
   pub reset : resets c e ≡ false
   pub h : overflows_lines c e ≡ false
   pub v : overflows_periods c e ≡ false
-  pub clearsH : clears_lines c e ≡ false
-  pub clearsV : clears_periods c e ≡ false
-  pub latchesH : latches_lines c e ≡ false
-  pub latchesV : latches_periods c e ≡ false
+  pub clears_h : clears_lines c e ≡ false
+  pub clears_v : clears_periods c e ≡ false
+  pub latches_h : latches_lines c e ≡ false
+  pub latches_v : latches_periods c e ≡ false
 
 and_true : (x : Bool) → x ≡ (x && true)
 and_true true = refl
@@ -55,10 +55,10 @@ and_true false = refl
 quiet : (c : Chip) (e : Decoded) (s : Sync) → s ≡ c.core.sync → Quiet c e → After c e s
 quiet c e s same q =
     record {
-      hcntov = rw (same, q.h, q.clearsH) (and_true c.core.sync.lines.overflow);
-      vcntov = rw (same, q.v, q.clearsV) (and_true c.core.sync.periods.overflow);
-      hlatch = rw (same, q.reset, q.latchesH) refl;
-      vlatch = rw (same, q.reset, q.latchesV) refl;
+      hcntov = rw (same, q.h, q.clears_h) (and_true c.core.sync.lines.overflow);
+      vcntov = rw (same, q.v, q.clears_v) (and_true c.core.sync.periods.overflow);
+      hlatch = rw (same, q.reset, q.latches_h) refl;
+      vlatch = rw (same, q.reset, q.latches_v) refl;
     }
 
 -- a reset zeroes the four
@@ -196,7 +196,7 @@ module _ (c : Chip) (level : Bool) where
   -- none of HSYNCI, VSYNCI and RESET
   plain : (p : ℕ) (s : Sync) → eqb p 26 ≡ false → eqb p 27 ≡ false → eqb p 28 ≡ false → s ≡ c.core.sync → After c (Pin p level) s
   unfolding overflows_lines overflows_periods clears_lines clears_periods latches_lines latches_periods
-  plain p s h v r same = quiet c (Pin p level) s same (record { reset = rw r refl; h = rw h refl; v = refl; clearsH = rw r refl; clearsV = rw r refl; latchesH = rw v refl; latchesV = rw v refl })
+  plain p s h v r same = quiet c (Pin p level) s same (record { reset = rw r refl; h = rw h refl; v = refl; clears_h = rw r refl; clears_v = rw r refl; latches_h = rw v refl; latches_v = rw v refl })
 
   hsynci_lines : (rise : Bool) (s : Sync) → (pick rise (on_hsync s) s).lines.overflow ≡ pick rise (overflowed 4095 s.lines.overflow s.lines.count.0) s.lines.overflow
   unfolding on_hsync step_lines
@@ -260,10 +260,10 @@ module _ (c : Chip) (level : Bool) where
 
   reset_by : (old : Bool) → c.core.reset ≡ old → (new : Bool) → level ≡ new → After c (Pin 28 level) (on_reset (edge old new) (with_reset c.core new)).sync
   unfolding on_reset reset_core reset_at overflows_lines overflows_periods clears_lines clears_periods latches_lines latches_periods
-  reset_by true r true l = quiet c (Pin 28 level) _ refl (record { reset = rw (r, l) refl; h = refl; v = refl; clearsH = rw (r, l) refl; clearsV = rw (r, l) refl; latchesH = refl; latchesV = refl })
+  reset_by true r true l = quiet c (Pin 28 level) _ refl (record { reset = rw (r, l) refl; h = refl; v = refl; clears_h = rw (r, l) refl; clears_v = rw (r, l) refl; latches_h = refl; latches_v = refl })
   reset_by true r false l = zero_by c (Pin 28 level) _ refl (rw (r, l) refl) refl refl
-  reset_by false r true l = quiet c (Pin 28 level) _ refl (record { reset = rw r refl; h = refl; v = refl; clearsH = rw r refl; clearsV = rw r refl; latchesH = refl; latchesV = refl })
-  reset_by false r false l = quiet c (Pin 28 level) _ refl (record { reset = rw r refl; h = refl; v = refl; clearsH = rw r refl; clearsV = rw r refl; latchesH = refl; latchesV = refl })
+  reset_by false r true l = quiet c (Pin 28 level) _ refl (record { reset = rw r refl; h = refl; v = refl; clears_h = rw r refl; clears_v = rw r refl; latches_h = refl; latches_v = refl })
+  reset_by false r false l = quiet c (Pin 28 level) _ refl (record { reset = rw r refl; h = refl; v = refl; clears_h = rw r refl; clears_v = rw r refl; latches_h = refl; latches_v = refl })
 
   at_kind_lem : {k : PinKind} {p : ℕ} → Numbered k p → After c (Pin p level) (pin_moved_as k c.core p level).sync
   unfolding pin_moved_as port0_moved port1_moved port2_moved p16_moved sda_moved scl_moved reset_moved
@@ -339,8 +339,8 @@ module _ (c : Chip) where
       After c (Clock 3) (pick reset (pick fires (reset_core c.core) (with_watchdog c.core (watchdog_next c.core.watchdog))) c.core).sync
   unfolding reset_core reset_at overflows_lines overflows_periods clears_lines clears_periods latches_lines latches_periods
   watchdog_by true true r f = zero_by c (Clock 3) _ refl (rw (r, f) refl) refl refl
-  watchdog_by true false r f = quiet c (Clock 3) _ refl (record { reset = rw (r, f) refl; h = refl; v = refl; clearsH = rw (r, f) refl; clearsV = rw (r, f) refl; latchesH = refl; latchesV = refl })
-  watchdog_by false fires r f = quiet c (Clock 3) _ refl (record { reset = rw r refl; h = refl; v = refl; clearsH = rw r refl; clearsV = rw r refl; latchesH = refl; latchesV = refl })
+  watchdog_by true false r f = quiet c (Clock 3) _ refl (record { reset = rw (r, f) refl; h = refl; v = refl; clears_h = rw (r, f) refl; clears_v = rw (r, f) refl; latches_h = refl; latches_v = refl })
+  watchdog_by false fires r f = quiet c (Clock 3) _ refl (record { reset = rw r refl; h = refl; v = refl; clears_h = rw r refl; clears_v = rw r refl; latches_h = refl; latches_v = refl })
 
   at_watchdog : After c (Clock 3) (next c (Clock 3)).core.sync
   unfolding next core_after clocked clocked_as watchdog_clock
@@ -354,7 +354,7 @@ module _ (c : Chip) where
       (pick_by (λ (x : Core). x.sync ≡ c.core.sync) c.core.reset
       (λ _. pick_by (λ (x : Core). x.sync ≡ c.core.sync) (timer_runs (register_at c.registers BTCON) k) (λ _. refl) (λ _. refl))
       (λ _. refl))
-      (record { reset = rw f refl; h = refl; v = rw e refl; clearsH = rw f refl; clearsV = rw f refl; latchesH = rw e refl; latchesV = refl }))
+      (record { reset = rw f refl; h = refl; v = rw e refl; clears_h = rw f refl; clears_v = rw f refl; latches_h = rw e refl; latches_v = refl }))
 
   clock_by : (k : ℕ) (zero three : Bool) → eqb k 0 ≡ zero → eqb k 3 ≡ three → After c (Clock k) (next c (Clock k)).core.sync
   clock_by k true three e f = rw (eqb-true k 0 e) at_period
@@ -368,11 +368,11 @@ nothing c e q = quiet c e c.core.sync refl q
 
 pub counters_after : (c : Chip) (e : Decoded) → After c e (next c e).core.sync
 unfolding next core_after pin_moved polarity_found overflows_lines overflows_periods clears_lines clears_periods latches_lines latches_periods
-counters_after c (Read a) = nothing c (Read a) (record { reset = refl; h = refl; v = refl; clearsH = refl; clearsV = refl; latchesH = refl; latchesV = refl })
+counters_after c (Read a) = nothing c (Read a) (record { reset = refl; h = refl; v = refl; clears_h = refl; clears_v = refl; latches_h = refl; latches_v = refl })
 counters_after c (Write a b) = at_write c a b
 counters_after c (Pin p level) = at_kind_lem c level (numbered p)
 counters_after c (Clock k) = clock_by c k _ _ refl refl
 counters_after c (Polarity vertical level) =
     quiet c (Polarity vertical level) _ (pick_by (λ (x : Core). x.sync ≡ c.core.sync) c.core.reset (λ _. refl) (λ _. refl))
-    (record { reset = refl; h = refl; v = refl; clearsH = refl; clearsV = refl; latchesH = refl; latchesV = refl })
-counters_after c (Refused n) = nothing c (Refused n) (record { reset = refl; h = refl; v = refl; clearsH = refl; clearsV = refl; latchesH = refl; latchesV = refl })
+    (record { reset = refl; h = refl; v = refl; clears_h = refl; clears_v = refl; latches_h = refl; latches_v = refl })
+counters_after c (Refused n) = nothing c (Refused n) (record { reset = refl; h = refl; v = refl; clears_h = refl; clears_v = refl; latches_h = refl; latches_v = refl })

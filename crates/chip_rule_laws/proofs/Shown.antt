@@ -71,10 +71,10 @@ module _ (c : Chip) (w : well_formed c ≡ true) (r : c.core.reset ≡ true) whe
   latch_ranges : SyncFits c.core.sync
   latch_ranges = fits c.core.sync (formed c w).core.sync
 
-  pub hcnt-shown : (reading c HCNTL).byte + 256 * (reading c HCNTH).byte ≡ c.core.sync.lines.latch.0
+  pub hcnt_shown : (reading c HCNTL).byte + 256 * (reading c HCNTH).byte ≡ c.core.sync.lines.latch.0
   unfolding reading is_readable read_mask row_of table shown
-  hcnt-shown = rw r (joined c.core.sync.lines.latch.0 latch_ranges.lines.latch)
+  hcnt_shown = rw r (joined c.core.sync.lines.latch.0 latch_ranges.lines.latch)
 
-  pub vcnt-shown : (reading c VCNTL).byte + 256 * (reading c VCNTH).byte ≡ c.core.sync.periods.latch.0
+  pub vcnt_shown : (reading c VCNTL).byte + 256 * (reading c VCNTH).byte ≡ c.core.sync.periods.latch.0
   unfolding reading is_readable read_mask row_of table shown
-  vcnt-shown = rw r (joined c.core.sync.periods.latch.0 latch_ranges.periods.latch)
+  vcnt_shown = rw r (joined c.core.sync.periods.latch.0 latch_ranges.periods.latch)

@@ -43,7 +43,7 @@ use Rattle.chip_write_laws.specs.Frame.Part.{Iists}
 use Rattle.chip_write_laws.proofs.Fields.{by_write}
 use Rattle.chip_write_laws.proofs.Frame.{frame}
 use Rattle.bus_transfer_laws.specs.Transfers.{shows, kept_flag}
-use Rattle.bus_transfer_laws.proofs.Status.{status_shown, start-written, stop-written}
+use Rattle.bus_transfer_laws.proofs.Status.{status_shown, start_written, stop_written}
 use Rattle.bus_address_laws.specs.Addressed.{starts, stops, sda_free}
 use Rattle.chip_observed_laws.specs.Levels.{level_of}
 use Rattle.chip_rule_laws.proofs.Levels.{level_after_lem}
@@ -88,8 +88,8 @@ module _ (c : Chip) (a b : ℕ) where
       let x : Chip = next c (Write IISTS b) in
       let high : x.core.reset ≡ true = reset_kept ∙ r in
       record {
-        start = sym (status_shown x START high refl) ∙ start-written c b r ∙ ap (λ (t : Bool). kept_flag t (bit START b)) (status_shown c START r refl) ∙ rw r (written_bit (bit START c.core.bus.iists) (bit START b));
-        stop = sym (status_shown x STOP high refl) ∙ stop-written c b r ∙ ap (λ (t : Bool). kept_flag t (bit STOP b)) (status_shown c STOP r refl) ∙ rw r (written_bit (bit STOP c.core.bus.iists) (bit STOP b));
+        start = sym (status_shown x START high refl) ∙ start_written c b r ∙ ap (λ (t : Bool). kept_flag t (bit START b)) (status_shown c START r refl) ∙ rw r (written_bit (bit START c.core.bus.iists) (bit START b));
+        stop = sym (status_shown x STOP high refl) ∙ stop_written c b r ∙ ap (λ (t : Bool). kept_flag t (bit STOP b)) (status_shown c STOP r refl) ∙ rw r (written_bit (bit STOP c.core.bus.iists) (bit STOP b));
       }
 
   low : c.core.reset ≡ false → After c (Write a b) (next c (Write a b)).core

@@ -51,7 +51,7 @@ lasts c (w ∷ ws) = not (ends c (decode w)) && lasts (next c (decode w)) ws
 
 -- the fall that ends a byte has set D, the chip holds SCL and leaves SDA free
 pub record Ended (c : Chip) : Type 0 where
-  pub flag-d : flag DataByte c ≡ true
+  pub flag_d : flag DataByte c ≡ true
   pub sda : puts c ≡ true
   pub scl : puts_scl c ≡ false
 

@@ -39,7 +39,7 @@ use Rattle.firmware_machine.specs.Machine.{clock_after, is_requesting}
 use Rattle.firmware_machine.specs.Seen.{known_reading, Known, unseen, read, Knows}
 use Rattle.cpu_register_cache.specs.Cache.{none_seen, forgotten, ports_forgotten, is_stored, seen_after_write, same_bool, same_counts, ticked, seen_after_clock, watchdog_after, is_dac, seen_after_dac, core_after_cycles}
 use Rattle.cpu_register_cache.specs.Changed.{Changed}
-use Rattle.cpu_register_cache.proofs.Registers.{knows_none, knows_as, knows-stored, stored-length}
+use Rattle.cpu_register_cache.proofs.Registers.{knows_none, knows_as, knows_stored, stored_length}
 
 -- ---- a clock of 8 µs
 
@@ -244,8 +244,8 @@ dac_changed seen registers core r b e h l k =
     record {
       taken = dac_taken core r d h;
       chip = write_chip registers core r b (dac_taken core r d h) ∙ dac_chip registers core r b d;
-      knows = knows-stored registers core r v seen _ l (writable_register r d.writable) k (read (sym (d.shows (chip_of (set registers r v) core) h)));
-      size = stored-length registers core r v seen _ l;
+      knows = knows_stored registers core r v seen _ l (writable_register r d.writable) k (read (sym (d.shows (chip_of (set registers r v) core) h)));
+      size = stored_length registers core r v seen _ l;
       high = h;
     }
 
@@ -287,7 +287,7 @@ other_high on.Bt core b = refl
 other_knows : (t : Target) (seen registers : List ℕ) (core : Core) (r b : ℕ) → length seen ≡ 38 → r < 38 → Knows seen (chip_of registers core)
     → Knows (pick (is_stored t) (forgotten r (ports_forgotten seen)) none_seen) (chip_of (keep (kept_by t registers r b) registers) (written_to t core b))
 unfolding is_stored kept_by written_to
-other_knows on.Stored seen registers core r b l m k = knows-stored registers core r (updated r (register_at registers r) b) seen (not_seen r) l m k (unseen refl)
+other_knows on.Stored seen registers core r b l m k = knows_stored registers core r (updated r (register_at registers r) b) seen (not_seen r) l m k (unseen refl)
 other_knows on.Mdcon seen registers core r b l m k = knows_none _
 other_knows on.Hvcon seen registers core r b l m k = knows_none _
 other_knows on.Clrflg seen registers core r b l m k = knows_none _
@@ -298,7 +298,7 @@ other_knows on.Iists seen registers core r b l m k = knows_none _
 other_knows on.Bt seen registers core r b l m k = knows_none _
 
 other_length : (b : Bool) (core : Core) (seen : List ℕ) (r : ℕ) → length seen ≡ 38 → length (pick b (forgotten r (ports_forgotten seen)) none_seen) ≡ 38
-other_length true core seen r l = stored-length [] core r 0 seen (not_seen r) l
+other_length true core seen r l = stored_length [] core r 0 seen (not_seen r) l
 other_length false core seen r l = refl
 
 writable_by : (x y : Bool) → x ≡ true → eqb (pick x (pick y 0 6) 4) 0 ≡ true → y ≡ true

@@ -102,11 +102,11 @@ module _ (registers : List ℕ) (core : Core) (a v : ℕ) where
   stored_by_lem false seen x l m h y q g e = rw (get_or-set_other (ports_forgotten seen) a q x 0 (eqb-false q a e)) (ports_known seen l h q g e)
 
   -- a byte stored in the array: the ports and the register itself are known anew
-  pub knows-stored : (seen : List ℕ) (x : ℕ) → length seen ≡ 38 → a < 38 → Knows seen (chip_of registers core) → Known stored a x → Knows (set (ports_forgotten seen) a x) stored
-  knows-stored seen x l m h y q g = stored_by_lem (eqb q a) seen x l m h y q g refl
+  pub knows_stored : (seen : List ℕ) (x : ℕ) → length seen ≡ 38 → a < 38 → Knows seen (chip_of registers core) → Known stored a x → Knows (set (ports_forgotten seen) a x) stored
+  knows_stored seen x l m h y q g = stored_by_lem (eqb q a) seen x l m h y q g refl
 
-  pub stored-length : (seen : List ℕ) (x : ℕ) → length seen ≡ 38 → length (set (ports_forgotten seen) a x) ≡ 38
-  stored-length seen x l = length-set (ports_forgotten seen) a x ∙ ports_length seen l
+  pub stored_length : (seen : List ℕ) (x : ℕ) → length seen ≡ 38 → length (set (ports_forgotten seen) a x) ≡ 38
+  stored_length seen x l = length-set (ports_forgotten seen) a x ∙ ports_length seen l
 
 -- ---- how many registers nothing is known of
 

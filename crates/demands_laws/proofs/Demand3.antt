@@ -19,14 +19,14 @@ module _ (c : Chip) (ddc2b : mode_of c.core ≡ Ddc2b) (started : c.core.bus.pha
     (while-low : throughout untouched (observer_of c (since [])) words ≡ true)  -- SDA is touched only while SCL is low
   where
     -- by the step: the answers are the same but for the byte of a read of II DAT, and the states but for II DAT, SDA's level and the bits of an unfinished address
-    pub not-told-apart : (compared_answers words (answers c words) ≡ compared_answers others (answers c others)) × (compared_state (after c words) ≡ compared_state (after c others))
-    not-told-apart =
+    pub not_told_apart : (compared_answers words (answers c words) ≡ compared_answers others (answers c others)) × (compared_state (after c words) ≡ compared_state (after c others))
+    not_told_apart =
         let k = isolation.one_transfer c ddc2b started words others (record { words = same-words; left = for-others; right = too; sda = while-low }) in
-        (k.answers_agree, k.states-agree)
+        (k.answers_agree, k.states_agree)
 
     -- by two list calls that return 0, whatever their answer places hold
-    pub calls-not-told-apart : (places places' : List ℕ) → (run c words places).number ≡ 0 → (run c others places').number ≡ 0
+    pub calls_not_told_apart : (places places' : List ℕ) → (run c words places).number ≡ 0 → (run c others places').number ≡ 0
         → (compared_answers words (run_answers c words places) ≡ compared_answers others (run_answers c others places')) × (compared_state (run c words places).chip ≡ compared_state (run c others places').chip)
-    calls-not-told-apart places places' n n' =
+    calls_not_told_apart places places' n n' =
         let k = isolation.one_transfer_called c ddc2b started words others places places' (record { words = same-words; left = for-others; right = too; sda = while-low }) n n' in
-        (k.answers_agree, k.states-agree)
+        (k.answers_agree, k.states_agree)

@@ -159,15 +159,15 @@ length_of_mode = opcodes.length_by_mode
 
 -- 8, then 22, then 7, before anything runs
 module _ (c : Cpu) (ram rom : List ℕ) (k : Chip) (events places : List ℕ) (n : ℕ) where
-  pub run-ill-formed : is_well_formed c k ≡ false → firmware c ram rom k events places n ≡ not_run 8 c ram k places
-  run-ill-formed = firmware-call.ill-formed c ram rom k events places n
+  pub run_ill_formed : is_well_formed c k ≡ false → firmware c ram rom k events places n ≡ not_run 8 c ram k places
+  run_ill_formed = firmware-call.ill-formed c ram rom k events places n
 
-  pub run-wrong-rom : is_well_formed c k ≡ true → eqb (length rom) 24576 ≡ false → firmware c ram rom k events places n ≡ not_run 22 c ram k places
-  run-wrong-rom = firmware-call.wrong-rom c ram rom k events places n
+  pub run_wrong_rom : is_well_formed c k ≡ true → eqb (length rom) 24576 ≡ false → firmware c ram rom k events places n ≡ not_run 22 c ram k places
+  run_wrong_rom = firmware-call.wrong-rom c ram rom k events places n
 
-  pub run-few-places : is_well_formed c k ≡ true → eqb (length rom) 24576 ≡ true → ltb (length places) (length events) ≡ true
+  pub run_few_places : is_well_formed c k ≡ true → eqb (length rom) 24576 ≡ true → ltb (length places) (length events) ≡ true
       → firmware c ram rom k events places n ≡ not_run 7 c ram k places
-  run-few-places = firmware-call.few-places c ram rom k events places n
+  run_few_places = firmware-call.few-places c ram rom k events places n
 
 -- a run that has begun is refused with 20, 21, 5 or 6, or not at all
 pub run_refusals : (n first : ℕ) (rom events : List ℕ) (m : Machine) → RunNumber (runs n first rom events m).number
@@ -239,7 +239,7 @@ pub block_sent : (c : Chip) → well_formed c ≡ true → (block us vs : List �
     → bytes_written (feed.observer_of c) us ≡ take (length (bytes_written (feed.observer_of c) us)) block  -- the bytes written are those of the block, in order
     → (k j : ℕ) → 9 * k + j < length (levels_put (feed.observer_of c) c us) → edid.number_of (edid.verdict block) ≡ 0 → k < 128 → j < 8
     → (length block ≡ 128) × ((level_at (levels_put (feed.observer_of c) c (us ++ vs)) (9 * k + j)).put ≡ bit (7 - j) (get_or block k 0))
-block_sent c well block us vs kept bytes k j due = feeding.accepted-put c well block us vs (record { kept = kept; bytes = bytes }) k j due
+block_sent c well block us vs kept bytes k j due = feeding.accepted_put c well block us vs (record { kept = kept; bytes = bytes }) k j due
 
 -- ---- Wish 9: how long SCL is held
 
@@ -293,16 +293,16 @@ module _ (c : Chip) (ddc2b : mode_of c.core ≡ Ddc2b) {t : Trace} (begun : Begu
     (too : throughout permitted (observer_of c t) others ≡ true)
     (same-at-high : equal_throughout (observer_of c t) (observer_of c t) words others ≡ true)  -- SDA while SCL is high: the same events, from the same level
   where
-    pub several-not-told-apart : (compared_answers words (answers c words) ≡ compared_answers others (answers c others)) × (compared_state (after c words) ≡ compared_state (after c others))
-    several-not-told-apart =
+    pub several_not_told_apart : (compared_answers words (answers c words) ≡ compared_answers others (answers c others)) × (compared_state (after c words) ≡ compared_state (after c others))
+    several_not_told_apart =
         let k = isolation.several_transfers c ddc2b begun words others (record { words = same-words; left = for-others; right = too; sda = same-at-high }) in
-        (k.answers_agree, k.states-agree)
+        (k.answers_agree, k.states_agree)
 
 -- ---- Wish 14: the state as bytes
 
 -- stepping the bytes is stepping the state that they hold
 pub bytes_stepped : (area : List ℕ) → holds_state area ≡ true → (word : ℕ) → loaded (step_area area word) ≡ holds (step (loaded area).state word).chip
-bytes_stepped = area.stepped-holds
+bytes_stepped = area.stepped_holds
 
 -- unequal states have unequal bytes
 pub bytes_differ : (c d : Chip) → bytes_of c ≡ bytes_of d → c ≡ d

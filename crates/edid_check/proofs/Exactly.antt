@@ -15,7 +15,7 @@ use Rattle.edid_check.specs.Block.{byte_at, length_fits, header_fits, sum_fits, 
 use Rattle.edid_check.specs.declared.Verdict.{Verdict}
 use Rattle.edid_check.specs.declared.Edition.TheVariants.{Revision3, Revision4}
 use Rattle.edid_check.specs.declared.Verdict.TheVariants.{Accepted, Length, Header, Version, Sum, Digital, Depth, Interface}
-use Rattle.edid_check.proofs.Framed.{framed, framed-fits}
+use Rattle.edid_check.proofs.Framed.{framed, framed_fits}
 use Rattle.edid_check.specs.Edid.{version_of, revision_of, input_of, version_fits, digital_fits, depth_fits, interface_fits, input_by3, input_by4, input_verdict, contents, verdict, number_of, edition_of, only_for, digital_rule, depth_rule, interface_rule, rules, Judged, Given, Keeps}
 
 -- ---- the number of the first rule broken
@@ -79,22 +79,22 @@ edition_of_lem block h =
 pub judged : (block : List ℕ) (v : Verdict) → v ≡ verdict block → Judged block v
 judged block v e =
     record {
-      verdict-given = e;
+      verdict_given = e;
       number_given_lem = ap number_of e ∙ number_of_lem block;
-      edition-given = λ h. ap edition_of e ∙ edition_of_lem block (sym (ap number_of e) ∙ h);
+      edition_given = λ h. ap edition_of e ∙ edition_of_lem block (sym (ap number_of e) ∙ h);
     }
 
 -- ---- when each number is given
 
 given_by : (a b c d e f g : Bool) → Given (first_broken ((30, a) ∷ (31, b) ∷ (32, c) ∷ (33, d) ∷ (34, e) ∷ (35, f) ∷ (36, g) ∷ [])) a b c d e f g
-given_by false b c d e f g = record { accepted-0 = refl; length-30 = refl; header-31 = refl; version-32 = refl; sum-33 = refl; digital-34 = refl; depth-35 = refl; interface-36 = refl }
-given_by true false c d e f g = record { accepted-0 = refl; length-30 = refl; header-31 = refl; version-32 = refl; sum-33 = refl; digital-34 = refl; depth-35 = refl; interface-36 = refl }
-given_by true true false d e f g = record { accepted-0 = refl; length-30 = refl; header-31 = refl; version-32 = refl; sum-33 = refl; digital-34 = refl; depth-35 = refl; interface-36 = refl }
-given_by true true true false e f g = record { accepted-0 = refl; length-30 = refl; header-31 = refl; version-32 = refl; sum-33 = refl; digital-34 = refl; depth-35 = refl; interface-36 = refl }
-given_by true true true true false f g = record { accepted-0 = refl; length-30 = refl; header-31 = refl; version-32 = refl; sum-33 = refl; digital-34 = refl; depth-35 = refl; interface-36 = refl }
-given_by true true true true true false g = record { accepted-0 = refl; length-30 = refl; header-31 = refl; version-32 = refl; sum-33 = refl; digital-34 = refl; depth-35 = refl; interface-36 = refl }
-given_by true true true true true true false = record { accepted-0 = refl; length-30 = refl; header-31 = refl; version-32 = refl; sum-33 = refl; digital-34 = refl; depth-35 = refl; interface-36 = refl }
-given_by true true true true true true true = record { accepted-0 = refl; length-30 = refl; header-31 = refl; version-32 = refl; sum-33 = refl; digital-34 = refl; depth-35 = refl; interface-36 = refl }
+given_by false b c d e f g = record { accepted_0 = refl; length_30 = refl; header_31 = refl; version_32 = refl; sum_33 = refl; digital_34 = refl; depth_35 = refl; interface_36 = refl }
+given_by true false c d e f g = record { accepted_0 = refl; length_30 = refl; header_31 = refl; version_32 = refl; sum_33 = refl; digital_34 = refl; depth_35 = refl; interface_36 = refl }
+given_by true true false d e f g = record { accepted_0 = refl; length_30 = refl; header_31 = refl; version_32 = refl; sum_33 = refl; digital_34 = refl; depth_35 = refl; interface_36 = refl }
+given_by true true true false e f g = record { accepted_0 = refl; length_30 = refl; header_31 = refl; version_32 = refl; sum_33 = refl; digital_34 = refl; depth_35 = refl; interface_36 = refl }
+given_by true true true true false f g = record { accepted_0 = refl; length_30 = refl; header_31 = refl; version_32 = refl; sum_33 = refl; digital_34 = refl; depth_35 = refl; interface_36 = refl }
+given_by true true true true true false g = record { accepted_0 = refl; length_30 = refl; header_31 = refl; version_32 = refl; sum_33 = refl; digital_34 = refl; depth_35 = refl; interface_36 = refl }
+given_by true true true true true true false = record { accepted_0 = refl; length_30 = refl; header_31 = refl; version_32 = refl; sum_33 = refl; digital_34 = refl; depth_35 = refl; interface_36 = refl }
+given_by true true true true true true true = record { accepted_0 = refl; length_30 = refl; header_31 = refl; version_32 = refl; sum_33 = refl; digital_34 = refl; depth_35 = refl; interface_36 = refl }
 
 -- each number exactly when its own rule is the first that is broken
 pub exactly : (block : List ℕ) →
@@ -126,7 +126,7 @@ or_true false b h = ⊎_elim (λ e. absurd (true≢false (sym e))) (λ e. e) h
 pub accepted_keeps : (block : List ℕ) → number_of (verdict block) ≡ 0 → Keeps block
 unfolding version_fits digital_fits depth_fits interface_fits
 accepted_keeps block h =
-    let all = sym (exactly block).accepted-0 ∙ eq-eqb _ _ h in
+    let all = sym (exactly block).accepted_0 ∙ eq-eqb _ _ h in
     let size = both (length_fits block) _ all in
     let header = both (header_fits block) _ size.1 in
     let version = both (version_fits block) _ header.1 in
@@ -146,13 +146,13 @@ accepted_keeps block h =
 pub keeps_accepted : (block : List ℕ) → Keeps block → number_of (verdict block) ≡ 0
 unfolding version_fits digital_fits depth_fits interface_fits
 keeps_accepted block k =
-    let f = framed-fits block k.framed in
+    let f = framed_fits block k.framed in
     let revision : (eqb (revision_of block) 3 || eqb (revision_of block) 4) ≡ true =
     or_true _ _ (⊎_elim (λ e. inl (eq-eqb (revision_of block) 3 e)) (λ e. inr (eq-eqb (revision_of block) 4 e)) k.revision) in
     let digital : digital_rule block ≡ true = fits_by _ _ _ (λ r d. eq-eqb _ _ (k.digital (eqb-true _ _ r) d)) in
     let depth : depth_rule block ≡ true = fits_by _ _ _ (λ r d. lt-ltb _ _ (k.depth (eqb-true _ _ r) d)) in
     let interface : interface_rule block ≡ true = fits_by _ _ _ (λ r d. lt-ltb _ _ (k.interface (eqb-true _ _ r) d)) in
-    eqb-true _ _ ((exactly block).accepted-0 ∙ rw (f.size, f.header, f.sum, eq-eqb _ _ k.version, revision, digital, depth, interface))
+    eqb-true _ _ ((exactly block).accepted_0 ∙ rw (f.size, f.header, f.sum, eq-eqb _ _ k.version, revision, digital, depth, interface))
 
 -- an accepted block has 128 bytes
 pub accepted_length : (block : List ℕ) → number_of (verdict block) ≡ 0 → length block ≡ 128

@@ -61,9 +61,9 @@ module _ (block : List ℕ) where
   at_place_lem : (l : List ℕ) → take 8 block ≡ l → (i : ℕ) → i < 8 → byte_at block i ≡ get_or l i 0
   at_place_lem l e i h = sym (get_or-take 8 block i 0 h) ∙ ap (λ (k : List ℕ). get_or k i 0) e
 
-  pub framed-fits : Framed block → Fits block
+  pub framed_fits : Framed block → Fits block
   unfolding header_fits sum_fits
-  framed-fits k =
+  framed_fits k =
       let at = at_place_lem (0 ∷ 0xff ∷ 0xff ∷ 0xff ∷ 0xff ∷ 0xff ∷ 0xff ∷ 0 ∷ []) k.header in
       record {
         size = eq-eqb _ _ k.size;

@@ -102,20 +102,20 @@ rules block =
 -- what the check says of a block, and in the wishes' numbers: that of the first rule which the block breaks; of an accepted
 -- block its revision
 pub record Judged (block : List ℕ) (v : Verdict) : Type 0 where
-  pub verdict-given : v ≡ verdict block
+  pub verdict_given : v ≡ verdict block
   pub number_given_lem : number_of v ≡ first_broken (rules block)
-  pub edition-given : number_of v ≡ 0 → edition_of v ≡ revision_of block
+  pub edition_given : number_of v ≡ 0 → edition_of v ≡ revision_of block
 
 -- when each number is given, over the tests of the rules: its own rule is broken, and those before it are kept
 pub record Given (number : ℕ) (size header version sum digital depth interface : Bool) : Type 0 where
-  pub accepted-0 : eqb number 0 ≡ (size && (header && (version && (sum && (digital && (depth && interface))))))
-  pub length-30 : eqb number 30 ≡ not size
-  pub header-31 : eqb number 31 ≡ (size && not header)
-  pub version-32 : eqb number 32 ≡ (size && (header && not version))
-  pub sum-33 : eqb number 33 ≡ (size && (header && (version && not sum)))
-  pub digital-34 : eqb number 34 ≡ (size && (header && (version && (sum && not digital))))
-  pub depth-35 : eqb number 35 ≡ (size && (header && (version && (sum && (digital && not depth)))))
-  pub interface-36 : eqb number 36 ≡ (size && (header && (version && (sum && (digital && (depth && not interface))))))
+  pub accepted_0 : eqb number 0 ≡ (size && (header && (version && (sum && (digital && (depth && interface))))))
+  pub length_30 : eqb number 30 ≡ not size
+  pub header_31 : eqb number 31 ≡ (size && not header)
+  pub version_32 : eqb number 32 ≡ (size && (header && not version))
+  pub sum_33 : eqb number 33 ≡ (size && (header && (version && not sum)))
+  pub digital_34 : eqb number 34 ≡ (size && (header && (version && (sum && not digital))))
+  pub depth_35 : eqb number 35 ≡ (size && (header && (version && (sum && (digital && not depth)))))
+  pub interface_36 : eqb number 36 ≡ (size && (header && (version && (sum && (digital && (depth && not interface))))))
 
 -- ---- the same without tests
 

@@ -46,17 +46,17 @@ module _ (list old now : List ℕ) (i : ℕ) (d : Filled list old now i) where
 
 -- the places in the end: nothing written, or the whole list
 module _ (list places : List ℕ) where
-  pub placed-short : length places < length list → (0 ≡ placed_count list places) × (places ≡ placed list places)
+  pub placed_short : length places < length list → (0 ≡ placed_count list places) × (places ≡ placed list places)
   unfolding placed_count placed
-  placed-short h = simp (lt-ltb _ _ h) (refl, refl)
+  placed_short h = simp (lt-ltb _ _ h) (refl, refl)
 
-  pub placed-whole : length list ≤ length places → (n : ℕ) → n ≡ length list → (now : List ℕ) → now ≡ list ++ drop (length list) places
+  pub placed_whole : length list ≤ length places → (n : ℕ) → n ≡ length list → (now : List ℕ) → now ≡ list ++ drop (length list) places
       → (n ≡ placed_count list places) × (now ≡ placed list places)
   unfolding placed_count placed
-  placed-whole h n e now f = simp (le-ltb _ _ h) (e, f)
+  placed_whole h n e now f = simp (le-ltb _ _ h) (e, f)
 
-  pub placed-length : length list ≤ length places → (now : List ℕ) → now ≡ list ++ drop (length list) places → length now ≡ length places
-  placed-length h now f = ap length f ∙ length-append list (drop (length list) places) ∙ omega (arith, length-drop (length list) places)
+  pub placed_length : length list ≤ length places → (now : List ℕ) → now ≡ list ++ drop (length list) places → length now ≡ length places
+  placed_length h now f = ap length f ∙ length-append list (drop (length list) places) ∙ omega (arith, length-drop (length list) places)
 
 -- what is written is within its places
 within_by : (list places : List ℕ) (short : Bool) → pick short 0 (length list) ≤ length (pick short places (list ++ drop (length list) places))

@@ -32,7 +32,7 @@ use Rattle.edid_feed.specs.Words.{pulses, clear_watchdog, lead, sending, sending
 use Rattle.edid_feed_laws.specs.Observer.{Observer, observer_of, scl_of, vsynci_of, reset_of, iists_of, mdcon_of, edges_of, watchdog_of, observe, observed, permitted, throughout}
 use Rattle.edid_feed_laws.specs.Levels.{byte_written, bytes_written, shows, sda_put, Level, level, levels_put, level_at, serial, Feeds, Bytes}
 use Rattle.edid_feed_laws.proofs.Tracks.{observer}
-use Rattle.edid_feed_laws.proofs.Theorems.{bytes_put, serial_length, levels_append, accepted-put}
+use Rattle.edid_feed_laws.proofs.Theorems.{bytes_put, serial_length, levels_append, accepted_put}
 
 -- ---- lists one after the other
 
@@ -139,25 +139,25 @@ module _ (c : Chip) (high : reset_of c.core ≡ true) (off : bit ENDDC (iists_of
       rw (at_first, n) (sends_append (lead_sends (scl_of c.core) (vsynci_of c.core) (bit 0 (mdcon_of c.core)) (edges_of c.core) (watchdog_of c.core)) (all_send (scl_of c.core) false block h))
 
   -- the words that send a block keep to the conditions and write its bytes
-  pub feed-feeds : Feeds c block (feed_words block)
-  feed-feeds = record { kept = feed_sends.fits; bytes = rw feed_sends.writes (sym (take-length block)) }
+  pub feed_feeds : Feeds c block (feed_words block)
+  feed_feeds = record { kept = feed_sends.fits; bytes = rw feed_sends.writes (sym (take-length block)) }
 
   -- nine levels for each byte
-  pub feed-levels : length (levels_put (observer_of c) c (feed_words block)) ≡ 9 * length block
-  feed-levels = feed_sends.puts c
+  pub feed_levels : length (levels_put (observer_of c) c (feed_words block)) ≡ 9 * length block
+  feed_levels = feed_sends.puts c
 
   -- and the levels are the block's bits, with the null bits
-  pub feed-put : well_formed c ≡ true → levels_put (observer_of c) c (feed_words block) ≡ serial block
-  feed-put w =
+  pub feed_put : well_formed c ≡ true → levels_put (observer_of c) c (feed_words block) ≡ serial block
+  feed_put w =
       sym (bytes_put c w (feed_words block) feed_sends.fits)
-      ∙ rw (feed-levels, feed_sends.writes, ← (serial_length block)) (take-length (serial block))
+      ∙ rw (feed_levels, feed_sends.writes, ← (serial_length block)) (take-length (serial block))
 
   -- of an accepted block each of the 128 bytes comes out, top bit first
-  pub accepted-fed : well_formed c ≡ true → number_of (verdict block) ≡ 0 → (k j : ℕ) → k < 128 → j < 8
+  pub accepted_fed : well_formed c ≡ true → number_of (verdict block) ≡ 0 → (k j : ℕ) → k < 128 → j < 8
       → (level_at (levels_put (observer_of c) c (feed_words block)) (9 * k + j)).put ≡ bit (7 - j) (get_or block k 0)
-  accepted-fed w a k j n i =
+  accepted_fed w a k j n i =
       ap (λ (ws : List ℕ). (level_at (levels_put (observer_of c) c ws) (9 * k + j)).put) (sym (append-nil (feed_words block)))
-      ∙ (accepted-put c w block (feed_words block) [] feed-feeds k j (omega (arith, feed-levels, accepted_length block a)) a n i).1
+      ∙ (accepted_put c w block (feed_words block) [] feed_feeds k j (omega (arith, feed_levels, accepted_length block a)) a n i).1
 
 -- ---- a fresh chip is such a state
 
@@ -171,7 +171,7 @@ fresh_off = refl
 
 pub fresh_fed : (block : List ℕ) → Bytes block → number_of (verdict block) ≡ 0 → (k j : ℕ) → k < 128 → j < 8
     → (level_at (levels_put (observer_of fresh) fresh (feed_words block)) (9 * k + j)).put ≡ bit (7 - j) (get_or block k 0)
-fresh_fed block h a k j n i = accepted-fed fresh fresh_high fresh_off block h fresh_well_formed a k j n i
+fresh_fed block h a k j n i = accepted_fed fresh fresh_high fresh_off block h fresh_well_formed a k j n i
 
 -- ---- and there are accepted blocks: one of them
 

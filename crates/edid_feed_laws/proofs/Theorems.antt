@@ -143,9 +143,9 @@ module _ (c : Chip) (h : well_formed c ≡ true) (block us vs : List ℕ) (f : F
       ∙ get_or-take (length (bytes_written (observer_of c) us)) block k 0 (omega (arith, few)))
 
   -- an accepted block: bit 7 - j of byte k, of 128
-  pub accepted-put : number_of (verdict block) ≡ 0 → k < 128 → j < 8
+  pub accepted_put : number_of (verdict block) ≡ 0 → k < 128 → j < 8
       → (length block ≡ 128) × ((level_at (levels_put (observer_of c) c (us ++ vs)) (9 * k + j)).put ≡ bit (7 - j) (get_or block k 0))
-  accepted-put a n i =
+  accepted_put a n i =
       (accepted_length block a, ap (λ (l : Level). l.put) (block_put (omega arith)) ∙ rw (lt-ltb j 8 i))
 
 -- ---- the line

@@ -25,7 +25,7 @@ use Rattle.event_text_write.specs.Event.{value_token, kind_tokens, event_tokens,
 use Rattle.event_text_laws.specs.Shown.{valued, shown, meaning}
 use Rattle.event_text_laws.proofs.Tokens.{by}
 use Rattle.event_text_laws.proofs.Meaning.{read_as}
-use Rattle.event_text_laws.proofs.Round.{Reads, shown_some, shown_zero, kind_reads, shown_reads, hex_reads, value-shown}
+use Rattle.event_text_laws.proofs.Round.{Reads, shown_some, shown_zero, kind_reads, shown_reads, hex_reads, value_shown}
 
 never : (p w : ℕ) → Bad p ≡ Word w → ⊥
 never p w e = let z : ◌≡◌ {A = ℕ} 0 1 = cc in omega arith
@@ -51,7 +51,7 @@ pub record Fields (k : ℕ) (vs : List ℕ) (w : ℕ) : Type 0 where
   pub a : ℕ
   pub b : ℕ
   pub a_byte : a < 256
-  pub b-taken : b < bound_b k
+  pub b_taken : b < bound_b k
   pub word : event_word k a b ≡ w
   pub line : vs ≡ token_of k a ∷ digit_tokens k b
 
@@ -73,7 +73,7 @@ module _ (k : ℕ) (w : ℕ) where
         a = a;
         b = unhex (digits_b k) v;
         a_byte = ha;
-        b-taken = rw t h;
+        b_taken = rw t h;
         word = q.1;
         line = rw (t, q.0, hex_unhex (digits_b k) v (limit_small k (unhex (digits_b k) v) h)) refl;
       })
@@ -88,7 +88,7 @@ module _ (k : ℕ) (w : ℕ) where
   unfolding digit_tokens
   without a vs ha m t =
       let q : (vs ≡ []) × (event_word k a 0 ≡ w) = word_ends (event_word k a 0) vs w m in
-      record { a = a; b = 0; a_byte = ha; b-taken = rw t (omega arith); word = q.1; line = rw (t, q.0) refl }
+      record { a = a; b = 0; a_byte = ha; b_taken = rw t (omega arith); word = q.1; line = rw (t, q.0) refl }
 
   at_a : (v : ℕ) (rest : List ℕ) → meaning (at_kind 0 k v) rest ≡ Word w → Fields k (v ∷ rest) w
   unfolding at_kind
@@ -143,11 +143,11 @@ module _ (k a b : ℕ) (lo : 0 < k) (hi : k < 6) (ha : a < 256) (hb : b < bound_
   unfolding kind_tokens value_token digit_tokens
   shown_kind =
       by (takes_b k)
-      (λ t. rw t (shown_some (shown_of k a ∷ hex (digits_b k) b ∷ []) (kind_reads k (omega arith)) ∙ ap (λ (l : List ℕ). kind_name k ∷ l) (shown_some (hex (digits_b k) b ∷ []) (shown_reads k a ha) ∙ ap (λ (l : List ℕ). token_of k a ∷ l) (value-shown k a b lo hi ha))))
+      (λ t. rw t (shown_some (shown_of k a ∷ hex (digits_b k) b ∷ []) (kind_reads k (omega arith)) ∙ ap (λ (l : List ℕ). kind_name k ∷ l) (shown_some (hex (digits_b k) b ∷ []) (shown_reads k a ha) ∙ ap (λ (l : List ℕ). token_of k a ∷ l) (value_shown k a b lo hi ha))))
       (λ t. rw t (shown_some (shown_of k a ∷ 0 ∷ []) (kind_reads k (omega arith)) ∙ ap (λ (l : List ℕ). kind_name k ∷ l) (shown_some (0 ∷ []) (shown_reads k a ha) ∙ ap (λ (l : List ℕ). token_of k a ∷ l) shown_zero)))
 
-  pub shown-word : shown (event_tokens (event_word k a b)) ≡ kind_name k ∷ token_of k a ∷ digit_tokens k b
-  shown-word = ap shown kind_tokens_lem ∙ shown_kind
+  pub shown_word : shown (event_tokens (event_word k a b)) ≡ kind_name k ∷ token_of k a ∷ digit_tokens k b
+  shown_word = ap shown kind_tokens_lem ∙ shown_kind
 
 -- ---- numbers of tokens
 
@@ -168,7 +168,7 @@ of_kind v w rest f g p =
     let lo : 0 < k = positive k f in
     let hi : k < 6 = below_six k (kind_lt v) g in
     let e : shown (event_tokens w) ≡ kind_name k ∷ token_of k p.a ∷ digit_tokens k p.b =
-    ap (λ (x : ℕ). shown (event_tokens x)) (sym p.word) ∙ shown-word k p.a p.b lo hi p.a_byte p.b-taken in
+    ap (λ (x : ℕ). shown (event_tokens x)) (sym p.word) ∙ shown_word k p.a p.b lo hi p.a_byte p.b_taken in
     inl (ap (λ (x : ℕ). x ∷ rest) (kind_token v f) ∙ ap (λ (l : List ℕ). kind_name k ∷ l) p.line ∙ sym e)
 
 of_bare : (v w : ℕ) (rest : List ℕ) → meaning (bare 0 v) rest ≡ Word w → Of (v ∷ rest) w

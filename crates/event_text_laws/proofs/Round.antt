@@ -206,9 +206,9 @@ module _ (k a b : ℕ) (lo : 0 < k) (hi : k < 6) (ha : a < 256) where
   unfolding meaning next at_place
   at_value h = rw (limit_room h, lt-ltb b (limit_b k) h) refl
 
-  pub value-shown : shown (hex (digits_b k) b ∷ []) ≡ hex (digits_b k) b ∷ []
+  pub value_shown : shown (hex (digits_b k) b ∷ []) ≡ hex (digits_b k) b ∷ []
   unfolding shown
-  value-shown = by (eqb k 2) (λ e. rw e (shown_some [] (hex_reads 1 b (omega arith)))) (λ e. rw e (shown_some [] (hex_reads 0 b (omega arith))))
+  value_shown = by (eqb k 2) (λ e. rw e (shown_some [] (hex_reads 1 b (omega arith)))) (λ e. rw e (shown_some [] (hex_reads 0 b (omega arith))))
 
   place_taken : takes_b k ≡ true → pick (takes_b k) (Place k a) (Word (event_word k a 0)) ≡ Place k a
   place_taken t = rw t refl
@@ -223,7 +223,7 @@ module _ (k a b : ℕ) (lo : 0 < k) (hi : k < 6) (ha : a < 256) where
   with_b t h =
       let lim : b < limit_b k = rw t at h in
       rw t
-      (ap (meaning Start) (shown_some (shown_of k a ∷ hex (digits_b k) b ∷ []) (kind_reads k (omega arith)) ∙ ap (λ (l : List ℕ). kind_name k ∷ l) (shown_some (hex (digits_b k) b ∷ []) (shown_reads k a ha) ∙ ap (λ (l : List ℕ). token_of k a ∷ l) value-shown))
+      (ap (meaning Start) (shown_some (shown_of k a ∷ hex (digits_b k) b ∷ []) (kind_reads k (omega arith)) ∙ ap (λ (l : List ℕ). kind_name k ∷ l) (shown_some (hex (digits_b k) b ∷ []) (shown_reads k a ha) ∙ ap (λ (l : List ℕ). token_of k a ∷ l) value_shown))
       ∙ at_kind_lem (token_of k a ∷ hex (digits_b k) b ∷ [])
       ∙ at_field (hex (digits_b k) b ∷ [])
       ∙ ap (λ (e : Event). meaning e (hex (digits_b k) b ∷ [])) (place_taken t)
@@ -242,8 +242,8 @@ module _ (k a b : ℕ) (lo : 0 < k) (hi : k < 6) (ha : a < 256) where
       ∙ word_taken t
       ∙ ap (λ (x : ℕ). Word (event_word k a x)) (sym z))
 
-  pub line-means : b < bound_b k → meaning Start (shown (kind_tokens k a b)) ≡ Word (event_word k a b)
-  line-means h = by (takes_b k) (λ t. with_b t h) (λ t. without_b t h)
+  pub line_means_lem : b < bound_b k → meaning Start (shown (kind_tokens k a b)) ≡ Word (event_word k a b)
+  line_means_lem h = by (takes_b k) (λ t. with_b t h) (λ t. without_b t h)
 
 -- ---- words
 
@@ -255,14 +255,14 @@ module _ (w : ℕ) (t : is_line w ≡ true) where
   pub line_low : 0 < kind w
   line_low = ltb-true 0 (kind w) (both (ltb 0 (kind w)) (ltb (kind w) 6) outer.0).0
 
-  pub line-high : kind w < 6
-  line-high = ltb-true (kind w) 6 (both (ltb 0 (kind w)) (ltb (kind w) 6) outer.0).1
+  pub line_high : kind w < 6
+  line_high = ltb-true (kind w) 6 (both (ltb 0 (kind w)) (ltb (kind w) 6) outer.0).1
 
   line_reserved : reserved w ≡ 0
   line_reserved = eqb-true (reserved w) 0 (both (eqb (reserved w) 0) (ltb (field_b w) (bound_b (kind w))) outer.1).0
 
-  pub line-bound : field_b w < bound_b (kind w)
-  line-bound = ltb-true (field_b w) (bound_b (kind w)) (both (eqb (reserved w) 0) (ltb (field_b w) (bound_b (kind w))) outer.1).1
+  pub line_bound : field_b w < bound_b (kind w)
+  line_bound = ltb-true (field_b w) (bound_b (kind w)) (both (eqb (reserved w) 0) (ltb (field_b w) (bound_b (kind w))) outer.1).1
 
   line_word : event_word (kind w) (field_a w) (field_b w) ≡ w
   line_word =
@@ -272,7 +272,7 @@ module _ (w : ℕ) (t : is_line w ≡ true) where
       omega arith
 
   means_line : meaning Start (shown (kind_tokens (kind w) (field_a w) (field_b w))) ≡ Word w
-  means_line = line-means (kind w) (field_a w) (field_b w) line_low line-high (omega arith) line-bound ∙ ap Word line_word
+  means_line = line_means_lem (kind w) (field_a w) (field_b w) line_low line_high (omega arith) line_bound ∙ ap Word line_word
 
 other_word : (w : ℕ) → w < 4294967296 → is_line w ≡ false → meaning Start (kind_name 6 ∷ hex 8 w ∷ []) ≡ Word w
 unfolding meaning next at_start at_other kind_of kind_name
@@ -313,7 +313,7 @@ unfolding event_tokens kind_tokens
 parse_print w h =
     by (is_line w)
     (λ t.
-    let k : Reads (kind_shown (kind w)) (kind_name (kind w)) = kind_reads (kind w) (omega (arith, line-high w t)) in
+    let k : Reads (kind_shown (kind w)) (kind_name (kind w)) = kind_reads (kind w) (omega (arith, line_high w t)) in
     let a : Reads (shown_of (kind w) (field_a w)) (token_of (kind w) (field_a w)) = shown_reads (kind w) (field_a w) (omega arith) in
     rw t (round_line (kind_shown (kind w)) (shown_of (kind w) (field_a w)) (value_token (kind w) (field_b w)) (cons k.plainly (cons a.plainly (cons (plain_value (kind w) (field_b w)) nil))) (shown_positive k) w (means_line w t)))
     (λ f.

@@ -46,14 +46,14 @@ module _ (w : ℕ) where
   unfolding decode
   number_is = number_first (no_event w) (no_place w) (bad_byte w) (event w) (number_event w)
 
-  pub refused-1 : eqb (number_of (decode w)) 1 ≡ no_event w
-  refused-1 = rw number_is (first_is (no_event w) (no_place w) (bad_byte w)).0
+  pub refused_1 : eqb (number_of (decode w)) 1 ≡ no_event w
+  refused_1 = rw number_is (first_is (no_event w) (no_place w) (bad_byte w)).0
 
-  pub refused-2 : eqb (number_of (decode w)) 2 ≡ (not (no_event w) && no_place w)
-  refused-2 = rw number_is (first_is (no_event w) (no_place w) (bad_byte w)).1
+  pub refused_2 : eqb (number_of (decode w)) 2 ≡ (not (no_event w) && no_place w)
+  refused_2 = rw number_is (first_is (no_event w) (no_place w) (bad_byte w)).1
 
-  pub refused-3 : eqb (number_of (decode w)) 3 ≡ (not (no_event w) && (not (no_place w) && bad_byte w))
-  refused-3 = rw number_is (first_is (no_event w) (no_place w) (bad_byte w)).2
+  pub refused_3 : eqb (number_of (decode w)) 3 ≡ (not (no_event w) && (not (no_place w) && bad_byte w))
+  refused_3 = rw number_is (first_is (no_event w) (no_place w) (bad_byte w)).2
 
   -- number 0: none of the three applies
   pub accepted : eqb (number_of (decode w)) 0 ≡ (not (no_event w) && (not (no_place w) && not (bad_byte w)))

@@ -64,11 +64,11 @@ module _ (cpu ram rom area es places counts : List ℕ) (chip : Chip) (n : ℕ) 
       written cpu ram area counts (firmware (cpu_of cpu) ram rom chip es places n) r (e ∙ ap (λ (d : Called). result_of d) same) (sym h ∙ t)
       cpu' ram' area' answers' counts' k.0 (k.1 ∙ g ∙ ap (λ (d : Called). d.ram) same) k.2 (f ∙ ap (λ (d : Called). d.answers) same) k.3
 
-  pub not-begun : (c : Cpu) (held : List ℕ) → c ≡ cpu_of cpu → held ≡ ram → (r : FirmwareResult) → r ≡ result_of (firmware c held rom chip es places n)
+  pub not_begun : (c : Cpu) (held : List ℕ) → c ≡ cpu_of cpu → held ≡ ram → (r : FirmwareResult) → r ≡ result_of (firmware c held rom chip es places n)
       → (answers' : List ℕ) → answers' ≡ (firmware c held rom chip es places n).answers → (b : Bool) → b ≡ has_begun r.number → b ≡ false
       → left r.number cpu ram area answers' counts ≡ run_in cpu ram rom chip area es places n counts
   unfolding run_in
-  not-begun c held x y r e answers' f b h t =
+  not_begun c held x y r e answers' f b h t =
       let same : firmware c held rom chip es places n ≡ firmware (cpu_of cpu) ram rom chip es places n = rw (x, y) in
       kept cpu ram area counts (firmware (cpu_of cpu) ram rom chip es places n) r (e ∙ ap (λ (d : Called). result_of d) same) (sym h ∙ t) answers' (f ∙ ap (λ (d : Called). d.answers) same)
 

@@ -23,16 +23,16 @@ use Rattle.firmware_machine.specs.Run.{runs, called, is_well_formed, firmware, C
 use Rattle.state_bytes.specs.Layout.{bytes_of}
 use Rattle.state_area.specs.Area.{loaded, holds}
 use Rattle.state_area.specs.declared.Loaded.{Loaded}
-use Rattle.state_area.proofs.Accepted.{load_written, loaded-well, loaded-registers}
+use Rattle.state_area.proofs.Accepted.{load_written, loaded_well, loaded_registers}
 use Rattle.firmware_laws.specs.History.{Given, event_of, chip_after, history}
 use Rattle.firmware_laws.specs.Refused.{write_only_lem, read_only, not_documented, not_mapped, RunNumber, none, refusal}
 use Rattle.firmware_laws.proofs.Numbers.{run_number_lem}
 use Rattle.firmware_laws.proofs.Clocks.{run_counted, run_well_formed}
-use Rattle.firmware_laws.proofs.Calls.{is-run}
+use Rattle.firmware_laws.proofs.Calls.{is_run}
 use Rattle.firmware_isolation_laws.specs.Trace.{Entry, trace, events_of}
 use Rattle.firmware_isolation_laws.specs.Transfers.{ForeignLists, CallsAgree}
 use Rattle.firmware_isolation_laws.specs.Words.{is_unaddressed, keeps_address, is_foreign_list}
-use Rattle.firmware_isolation_laws.proofs.Runs.{firmware-calls-listed}
+use Rattle.firmware_isolation_laws.proofs.Runs.{firmware_calls_listed}
 use Rattle.firmware_isolation_laws.proofs.Words.{firmware_calls_words}
 use Rattle.firmware_capi.specs.Call.{cpu_of, cpu_bytes, Left, left, has_begun, counts_of, left_by, run_in, are_sized, firmware_in}
 use Rattle.firmware_capi_laws.specs.Bytes.{BytesAgree}
@@ -75,7 +75,7 @@ begun_by (refusal not_mapped) = refl
 module _ (cpu ram rom area counts : List ℕ) (n : ℕ) (sized : are_sized (length cpu) (length ram) (length area) (length counts) ≡ true) (held : (loaded area).number ≡ 0)
     (over : ltb (cpu_of cpu).over 32 ≡ true) (whole : length rom ≡ 24576) where
   well : is_well_formed (cpu_of cpu) (loaded area).state ≡ true
-  well = rw (over, loaded-well area held)
+  well = rw (over, loaded_well area held)
 
   left_by_run : (es xs : List ℕ) → ltb (length xs) (length es) ≡ false
       → firmware_in cpu ram rom area es xs n counts
@@ -86,7 +86,7 @@ module _ (cpu ram rom area counts : List ℕ) (n : ℕ) (sized : are_sized (leng
   left_by_run es xs p =
       let k = (loaded area).state in
       let m = machine (cpu_of cpu) ram k in
-      let r = is-run (cpu_of cpu) ram rom k es xs n well (eq-eqb (length rom) 24576 whole) p in
+      let r = is_run (cpu_of cpu) ram rom k es xs n well (eq-eqb (length rom) 24576 whole) p in
       let b : has_begun (firmware (cpu_of cpu) ram rom k es xs n).number ≡ true = ap (λ (d : Called). has_begun d.number) r ∙ begun_by (run_number_lem n 0 rom es m) in
       rw (sized, held, b)
 
@@ -94,7 +94,7 @@ module _ (cpu ram rom area counts : List ℕ) (n : ℕ) (sized : are_sized (leng
       → (loaded (bytes_of (firmware (cpu_of cpu) ram rom (loaded area).state es xs n).chip)).state ≡ (firmware (cpu_of cpu) ram rom (loaded area).state es xs n).chip
   left_read es xs p =
       let k = (loaded area).state in
-      rw (is-run (cpu_of cpu) ram rom k es xs n well (eq-eqb (length rom) 24576 whole) p) (run_read n rom es (machine (cpu_of cpu) ram k) well (loaded-registers area held))
+      rw (is_run (cpu_of cpu) ram rom k es xs n well (eq-eqb (length rom) 24576 whole) p) (run_read n rom es (machine (cpu_of cpu) ram k) well (loaded_registers area held))
 
   -- what agrees of two calls on states agrees of those on bytes
   carried : (es fs xs ys : List ℕ) → ltb (length xs) (length es) ≡ false → ltb (length ys) (length fs) ≡ false → {s t : List Entry}
@@ -116,13 +116,13 @@ module _ (cpu ram rom area counts : List ℕ) (n : ℕ) (sized : are_sized (leng
   module _ (ddc2b : mode_of (loaded area).state.core ≡ Ddc2b) {b : Trace} (begun : Begun (loaded area).state.core.bus.phase b) (es fs xs ys : List ℕ)
       (places : ltb (length xs) (length es) ≡ false) (places' : ltb (length ys) (length fs) ≡ false) where
     -- of the listed events, that they agree
-    pub demand-3-listed : ForeignLists n es fs (observer_of (loaded area).state b) (observer_of (loaded area).state b) (trace n 0 rom es (machine (cpu_of cpu) ram (loaded area).state)) (trace n 0 rom fs (machine (cpu_of cpu) ram (loaded area).state))
+    pub demand_3_listed : ForeignLists n es fs (observer_of (loaded area).state b) (observer_of (loaded area).state b) (trace n 0 rom es (machine (cpu_of cpu) ram (loaded area).state)) (trace n 0 rom fs (machine (cpu_of cpu) ram (loaded area).state))
         → BytesAgree (firmware_in cpu ram rom area es xs n counts) (firmware_in cpu ram rom area fs ys n counts) (trace n 0 rom es (machine (cpu_of cpu) ram (loaded area).state)) (trace n 0 rom fs (machine (cpu_of cpu) ram (loaded area).state))
-    demand-3-listed q = carried es fs xs ys places places' (firmware-calls-listed (cpu_of cpu) ram rom (loaded area).state n well whole ddc2b begun es fs xs ys places places' q)
+    demand_3_listed q = carried es fs xs ys places places' (firmware_calls_listed (cpu_of cpu) ram rom (loaded area).state n well whole ddc2b begun es fs xs ys places places' q)
 
     -- by the words of the two lists alone
-    pub demand-3-words : is_unaddressed (observer_of (loaded area).state b) (trace n 0 rom es (machine (cpu_of cpu) ram (loaded area).state)) ≡ true
+    pub demand_3_words : is_unaddressed (observer_of (loaded area).state b) (trace n 0 rom es (machine (cpu_of cpu) ram (loaded area).state)) ≡ true
         → events_of (trace n 0 rom es (machine (cpu_of cpu) ram (loaded area).state)) ≡ es → keeps_address (trace n 0 rom es (machine (cpu_of cpu) ram (loaded area).state)) ≡ true
         → is_foreign_list es (observer_of (loaded area).state b) fs ≡ true
         → BytesAgree (firmware_in cpu ram rom area es xs n counts) (firmware_in cpu ram rom area fs ys n counts) (trace n 0 rom es (machine (cpu_of cpu) ram (loaded area).state)) (trace n 0 rom fs (machine (cpu_of cpu) ram (loaded area).state))
-    demand-3-words q g u h = carried es fs xs ys places places' (firmware_calls_words (cpu_of cpu) ram rom (loaded area).state n well whole ddc2b begun es fs xs ys places places' q g u h)
+    demand_3_words q g u h = carried es fs xs ys places places' (firmware_calls_words (cpu_of cpu) ram rom (loaded area).state n well whole ddc2b begun es fs xs ys places places' q g u h)

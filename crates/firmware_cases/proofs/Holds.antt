@@ -12,7 +12,7 @@ use Rattle.cpu_instruction.specs.Program.{read_at, write_at}
 use Rattle.firmware_machine.specs.Run.{runs, firmware}
 use Rattle.firmware_isolation_laws.specs.Trace.{trace, accesses_of}
 use Rattle.firmware_isolation_laws.specs.Transfers.{RunsAgree, CallsAgree}
-use Rattle.firmware_isolation_laws.proofs.Runs.{firmware-runs-listed, firmware-runs, foreign_of, firmware-calls-listed}
+use Rattle.firmware_isolation_laws.proofs.Runs.{firmware_runs_listed, firmware_runs, foreign_of, firmware_calls_listed}
 use Rattle.firmware_cases.specs.Firmware.{cpu, ram, started_chip, started_machine, idle_machine, low_machine, interruptible_machine, event, transfer, whole, sda_put, times, polling, polling_rom, servicing_rom}
 use Rattle.firmware_cases.specs.Tests.{tests}
 use Rattle.firmware_cases.specs.Holds.{refusing, serviced, after_low}
@@ -28,13 +28,13 @@ pub transfers_agree : CallsAgree (firmware cpu ram polling_rom started_chip (tra
     (trace 4 0 polling_rom (transfer 0 0xa2) started_machine) (trace 4 0 polling_rom (transfer 0 0x54) started_machine)
 unfolding opened polling_rom
 transfers_agree =
-    firmware-calls-listed cpu ram polling_rom started_chip 4 refl rom_length refl start_seen (transfer 0 0xa2) (transfer 0 0x54) (replicate 28 0) (replicate 28 0) refl refl
+    firmware_calls_listed cpu ram polling_rom started_chip 4 refl rom_length refl start_seen (transfer 0 0xa2) (transfer 0 0x54) (replicate 28 0) (replicate 28 0) refl refl
     (record { events = refl; left = refl; right = refl; sda = refl; unread = refl })
 
 -- SDA is left alone in them while SCL is high
 pub one_transfer_agrees : RunsAgree (runs 4 0 polling (transfer 0 0xa2) started_machine) (runs 4 0 polling (transfer 0 0x54) started_machine) (trace 4 0 polling (transfer 0 0xa2) started_machine) (trace 4 0 polling (transfer 0 0x54) started_machine)
 unfolding opened
-one_transfer_agrees = firmware-runs-listed 4 polling started_machine refl refl start_seen (transfer 0 0xa2) (transfer 0 0x54) (foreign_of (record { events = refl; left = refl; right = refl; sda = refl; unread = refl }))
+one_transfer_agrees = firmware_runs_listed 4 polling started_machine refl refl start_seen (transfer 0 0xa2) (transfer 0 0x54) (foreign_of (record { events = refl; left = refl; right = refl; sda = refl; unread = refl }))
 
 -- the accesses of both
 pub accesses_made : accesses_of (trace 4 0 polling (transfer 0 0xa2) started_machine)
@@ -54,14 +54,14 @@ data_differs = refl
 pub several_agree : RunsAgree (runs 4 0 polling (whole 0 0xa2 ++ whole 2 0x10) idle_machine) (runs 4 0 polling (whole 0 0x54 ++ whole 2 0xee) idle_machine)
     (trace 4 0 polling (whole 0 0xa2 ++ whole 2 0x10) idle_machine) (trace 4 0 polling (whole 0 0x54 ++ whole 2 0xee) idle_machine)
 unfolding opened
-several_agree = firmware-runs-listed 4 polling idle_machine refl refl bus_idle (whole 0 0xa2 ++ whole 2 0x10) (whole 0 0x54 ++ whole 2 0xee) (record { events = refl; left = refl; right = refl; sda = refl; unread = refl })
+several_agree = firmware_runs_listed 4 polling idle_machine refl refl bus_idle (whole 0 0xa2 ++ whole 2 0x10) (whole 0 0x54 ++ whole 2 0xee) (record { events = refl; left = refl; right = refl; sda = refl; unread = refl })
 
 -- ---- an instruction that is refused: NOP, then an opcode that is not documented
 
 -- the lists agree, so that equally many of their events are given: the 18 before the two instructions, of 28
 pub refused_agree : RunsAgree (runs 4 0 refusing (transfer 0 0xa2) started_machine) (runs 4 0 refusing (transfer 0 0x54) started_machine) (trace 4 0 refusing (transfer 0 0xa2) started_machine) (trace 4 0 refusing (transfer 0 0x54) started_machine)
 unfolding opened
-refused_agree = firmware-runs-listed 4 refusing started_machine refl refl start_seen (transfer 0 0xa2) (transfer 0 0x54) (record { events = refl; left = refl; right = refl; sda = refl; unread = refl })
+refused_agree = firmware_runs_listed 4 refusing started_machine refl refl start_seen (transfer 0 0xa2) (transfer 0 0x54) (record { events = refl; left = refl; right = refl; sda = refl; unread = refl })
 
 pub refused_given : ◌≡◌ {A = List ℕ} (length (transfer 0 0xa2) ∷ length (runs 4 0 refusing (transfer 0 0xa2) started_machine).answers ∷ length (runs 4 0 refusing (transfer 0 0x54) started_machine).answers ∷ [])
     (28 ∷ 18 ∷ 18 ∷ [])
@@ -73,12 +73,12 @@ refused_given = refl
 pub past_agree : RunsAgree (runs 4 0 polling (transfer 0 0xa2 ++ (event 4 0x03000000 ∷ [])) started_machine) (runs 4 0 polling (transfer 0 0x54) started_machine)
     (trace 4 0 polling (transfer 0 0xa2 ++ (event 4 0x03000000 ∷ [])) started_machine) (trace 4 0 polling (transfer 0 0x54) started_machine)
 unfolding opened
-past_agree = firmware-runs-listed 4 polling started_machine refl refl start_seen (transfer 0 0xa2 ++ (event 4 0x03000000 ∷ [])) (transfer 0 0x54) (record { events = refl; left = refl; right = refl; sda = refl; unread = refl })
+past_agree = firmware_runs_listed 4 polling started_machine refl refl start_seen (transfer 0 0xa2 ++ (event 4 0x03000000 ∷ [])) (transfer 0 0x54) (record { events = refl; left = refl; right = refl; sda = refl; unread = refl })
 
 pub behind_agree : RunsAgree (runs 4 0 refusing (sda_put 0 0 ++ (event 2 0x03000000 ∷ [])) started_machine) (runs 4 0 refusing (sda_put 0 1) started_machine)
     (trace 4 0 refusing (sda_put 0 0 ++ (event 2 0x03000000 ∷ [])) started_machine) (trace 4 0 refusing (sda_put 0 1) started_machine)
 unfolding opened
-behind_agree = firmware-runs 4 refusing started_machine refl refl start_seen (sda_put 0 0 ++ (event 2 0x03000000 ∷ [])) (sda_put 0 1) (record { events = refl; left = refl; right = refl; sda = refl; unread = refl })
+behind_agree = firmware_runs 4 refusing started_machine refl refl start_seen (sda_put 0 0 ++ (event 2 0x03000000 ∷ [])) (sda_put 0 1) (record { events = refl; left = refl; right = refl; sda = refl; unread = refl })
 
 -- ---- an interrupt is taken, and registers of DDC are read and written as the premises allow
 
@@ -87,7 +87,7 @@ behind_agree = firmware-runs 4 refusing started_machine refl refl start_seen (sd
 pub interrupted_agree : RunsAgree (runs 14 0 servicing_rom (serviced 0x54) interruptible_machine) (runs 14 0 servicing_rom (serviced 0xfe) interruptible_machine)
     (trace 14 0 servicing_rom (serviced 0x54) interruptible_machine) (trace 14 0 servicing_rom (serviced 0xfe) interruptible_machine)
 unfolding opened servicing_rom
-interrupted_agree = firmware-runs-listed 14 servicing_rom interruptible_machine refl refl start_seen (serviced 0x54) (serviced 0xfe) (record { events = refl; left = refl; right = refl; sda = refl; unread = refl })
+interrupted_agree = firmware_runs_listed 14 servicing_rom interruptible_machine refl refl start_seen (serviced 0x54) (serviced 0xfe) (record { events = refl; left = refl; right = refl; sda = refl; unread = refl })
 
 -- the interrupt stands between STA 05 and LDA 15, and RTI leads back to LDA 04
 pub interrupted_accesses : accesses_of (trace 14 0 servicing_rom (serviced 0x54) interruptible_machine)
@@ -108,7 +108,7 @@ interrupted_accesses = refl
 
 pub low_agrees : RunsAgree (runs 5 0 polling (after_low 0xa2) low_machine) (runs 5 0 polling (after_low 0x55) low_machine) (trace 5 0 polling (after_low 0xa2) low_machine) (trace 5 0 polling (after_low 0x55) low_machine)
 unfolding opened
-low_agrees = firmware-runs 5 polling low_machine refl refl start_seen (after_low 0xa2) (after_low 0x55) (record { events = refl; left = refl; right = refl; sda = refl; unread = refl })
+low_agrees = firmware_runs 5 polling low_machine refl refl start_seen (after_low 0xa2) (after_low 0x55) (record { events = refl; left = refl; right = refl; sda = refl; unread = refl })
 
 -- ---- the CPU clears the watchdog: 40 clocks before it does and 40 after are no reset
 

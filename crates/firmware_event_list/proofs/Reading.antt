@@ -24,13 +24,13 @@ check_stop c [] m = refl
 check_stop c (b ∷ bs) m = simp m
 
 module _ (c : Checked) (t : List ℕ) (i : ℕ) where
-  pub check-next : i < length t → c.malformed ≡ false → checked_on (checked_byte c.reader c.line (get_or t i 0)) (drop (i + 1) t) ≡ checked_on c (drop i t)
+  pub check_next : i < length t → c.malformed ≡ false → checked_on (checked_byte c.reader c.line (get_or t i 0)) (drop (i + 1) t) ≡ checked_on c (drop i t)
   unfolding checked_on
-  check-next h m = rw (add-one, drop-cons t i 0 h) (simp m)
+  check_next h m = rw (add-one, drop-cons t i 0 h) (simp m)
 
-  pub check-end : length t ≤ i → c ≡ checked_on c (drop i t)
+  pub check_end : length t ≤ i → c ≡ checked_on c (drop i t)
   unfolding checked_on
-  check-end h = rw (drop_of_length-le t {i = i} h) refl
+  check_end h = rw (drop_of_length-le t {i = i} h) refl
 
 -- a text checked in two blocks
 block_step : (c : Checked) (b : ℕ) (xs ys : List ℕ) (m : Bool) → c.malformed ≡ m
@@ -57,10 +57,10 @@ module _ (r : Reader) (t : List ℕ) (i : ℕ) (h : i < length t) where
   unfolding found_on
   found_nothing e m = rw (drop-cons t i 0 h) (simp (e, m, add-one))
 
-  pub found-something : eqb (get_or t i 0) 10 ≡ true → is_something (meaning_of r.line) ≡ true
+  pub found_something : eqb (get_or t i 0) 10 ≡ true → is_something (meaning_of r.line) ≡ true
       → found_as line_start (i + 1) (meaning_of r.line) ≡ found_on r i (drop i t)
   unfolding found_on
-  found-something e m = rw (drop-cons t i 0 h) (simp (e, m))
+  found_something e m = rw (drop-cons t i 0 h) (simp (e, m))
 
 pub found_end_lem : (r : Reader) (t : List ℕ) (i : ℕ) → length t ≤ i → found_as r i meaning.Nothing ≡ found_on r i (drop i t)
 unfolding found_on

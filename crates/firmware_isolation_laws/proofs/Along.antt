@@ -24,7 +24,7 @@ use Rattle.firmware_isolation_laws.specs.Related.{watch}
 use Rattle.firmware_isolation_laws.specs.Related.{Both}
 use Rattle.firmware_isolation_laws.proofs.Lists.{behind_events, same_number, occurs}
 use Rattle.firmware_isolation_laws.specs.Related.{FedLists}
-use Rattle.firmware_isolation_laws.proofs.Listed.{listed_behind, due-within, same-due, left_alone, right_alone, unfed, more}
+use Rattle.firmware_isolation_laws.proofs.Listed.{listed_behind, due_within, same_due, left_alone, right_alone, unfed, more}
 use Rattle.firmware_isolation_laws.proofs.Runs.{Result, ends_with, turned_by, with_events, agreeing, at_first}
 
 -- the premises on two runs, the second being the first with its events exchanged
@@ -69,11 +69,11 @@ feeds_along rom i n h (e ∷ es) (f ∷ fs) {m} {m'} {o} {p} s k q =
     let v = decode (word_of f) in
     let l = occurred rom m (word_of e) in
     let l' = occurred rom m' (word_of f) in
-    let due = same-due i n h e f (within n es) (within n fs) (ltb (number_of e) n) (ltb (number_of f) n) refl refl q.events in
+    let due = same_due i n h e f (within n es) (within n fs) (ltb (number_of e) n) (ltb (number_of f) n) refl refl q.events in
     pair_by rom i n e f es fs (answered m.chip u) (answered m'.chip v) l l' s k (ltb i (number_of e)) (ltb i (number_of f)) due refl q
     (λ (g : ltb i (number_of e) ≡ false)
     (r : ForeignLists n (e ∷ es) (f ∷ fs) o p (given e (answered m.chip u) ∷ (events_before rom i es l ++ s)) (given f (answered m.chip u) ∷ exchanged (events_before rom i es l ++ s) fs)).
-    let both-in : alike_events (e ∷ within n es) (f ∷ within n fs) ≡ true = rw (due-within i n h e es g, due-within i n h f fs (rw due at g)) at r.events in
+    let both-in : alike_events (e ∷ within n es) (f ∷ within n fs) ≡ true = rw (due_within i n h e es g, due_within i n h f fs (rw due at g)) at r.events in
     let ev = both_true (same_event e f) _ both-in in
     let w = both_true (eqb (number_of e) (number_of f)) (same_but_sda (word_of e) (word_of f)) ev.0 in
     let a = both_true (permitted o u) _ r.left in

@@ -55,15 +55,15 @@ module _ (i n : ℕ) (h : ltb i n ≡ true) where
   later e g = lt-ltb i (number_of e) (omega (arith, ltb-true i n h, ltb-false (number_of e) n g))
 
   -- an event that is due is among those compared
-  pub due-within : (e : ℕ) (es : List ℕ) → ltb i (number_of e) ≡ false → within n (e ∷ es) ≡ e ∷ within n es
-  due-within e es g = ap (λ (b : Bool). pick b (e ∷ within n es) []) (lt-ltb (number_of e) n (omega (arith, ltb-true i n h, ltb-false i (number_of e) g)))
+  pub due_within : (e : ℕ) (es : List ℕ) → ltb i (number_of e) ≡ false → within n (e ∷ es) ≡ e ∷ within n es
+  due_within e es g = ap (λ (b : Bool). pick b (e ∷ within n es) []) (lt-ltb (number_of e) n (omega (arith, ltb-true i n h, ltb-false i (number_of e) g)))
 
-  pub same-due : (e f : ℕ) (x y : List ℕ) (a b : Bool) → ltb (number_of e) n ≡ a → ltb (number_of f) n ≡ b
+  pub same_due : (e f : ℕ) (x y : List ℕ) (a b : Bool) → ltb (number_of e) n ≡ a → ltb (number_of f) n ≡ b
       → alike_events (pick a (e ∷ x) []) (pick b (f ∷ y) []) ≡ true → ltb i (number_of e) ≡ ltb i (number_of f)
-  same-due e f x y true true u v q = ap (ltb i) (same_number e f (both_true (same_event e f) _ q).0)
-  same-due e f x y true false u v q = absurd (true≢false (sym q))
-  same-due e f x y false true u v q = absurd (true≢false (sym q))
-  same-due e f x y false false u v q = rw (later e u, later f v)
+  same_due e f x y true true u v q = ap (ltb i) (same_number e f (both_true (same_event e f) _ q).0)
+  same_due e f x y true false u v q = absurd (true≢false (sym q))
+  same_due e f x y false true u v q = absurd (true≢false (sym q))
+  same_due e f x y false false u v q = rw (later e u, later f v)
 
   pub left_alone : (e : ℕ) (x : List ℕ) (a : Bool) → ltb (number_of e) n ≡ a → alike_events (pick a (e ∷ x) []) [] ≡ true → ltb i (number_of e) ≡ true
   left_alone e x true u q = absurd (true≢false (sym q))
@@ -77,15 +77,15 @@ module _ (i n : ℕ) (h : ltb i n ≡ true) where
 
 -- none is given
 pub unfed : {n : ℕ} {es fs : List ℕ} {m m' : Machine} {o p : Observer} {s t : List Entry} → Both m m' o p → ForeignLists n es fs o p s t → FedLists n es fs [] [] m m' s t
-unfed {o = o} {p = p} k q = record { left-observer = o; right-observer = p; state = k; rest = q; said = refl }
+unfed {o = o} {p = p} k q = record { left_observer = o; right_observer = p; state = k; rest = q; said = refl }
 
 -- one more on each side
 pub more : {n : ℕ} {es fs : List ℕ} {e f x y : ℕ} {a b : List Entry} {m m' : Machine} {s t : List Entry} → number_of e ≡ number_of f
     → compared_answer (decode (word_of e)) x ≡ compared_answer (decode (word_of f)) y → FedLists n es fs a b m m' s t → FedLists n es fs (given e x ∷ a) (given f y ∷ b) m m' s t
 more h g z =
     record {
-      left-observer = z.left-observer;
-      right-observer = z.right-observer;
+      left_observer = z.left_observer;
+      right_observer = z.right_observer;
       state = z.state;
       rest = z.rest;
       said = ap₂ ◌∷◌ (ap₂ given h g) z.said;
@@ -120,11 +120,11 @@ feeds_listed rom i n h (e ∷ es) (f ∷ fs) {m} {m'} {o} {p} s t k q =
     let v = decode (word_of f) in
     let l = occurred rom m (word_of e) in
     let l' = occurred rom m' (word_of f) in
-    let due = same-due i n h e f (within n es) (within n fs) (ltb (number_of e) n) (ltb (number_of f) n) refl refl q.events in
+    let due = same_due i n h e f (within n es) (within n fs) (ltb (number_of e) n) (ltb (number_of f) n) refl refl q.events in
     pair_by rom i n e f es fs (answered m.chip u) (answered m'.chip v) l l' s t k (ltb i (number_of e)) (ltb i (number_of f)) due refl q
     (λ (g : ltb i (number_of e) ≡ false)
     (r : ForeignLists n (e ∷ es) (f ∷ fs) o p (given e (answered m.chip u) ∷ (events_before rom i es l ++ s)) (given f (answered m'.chip v) ∷ (events_before rom i fs l' ++ t))).
-    let both-in : alike_events (e ∷ within n es) (f ∷ within n fs) ≡ true = rw (due-within i n h e es g, due-within i n h f fs (rw due at g)) at r.events in
+    let both-in : alike_events (e ∷ within n es) (f ∷ within n fs) ≡ true = rw (due_within i n h e es g, due_within i n h f fs (rw due at g)) at r.events in
     let ev = both_true (same_event e f) _ both-in in
     let w = both_true (eqb (number_of e) (number_of f)) (same_but_sda (word_of e) (word_of f)) ev.0 in
     let a = both_true (permitted o u) _ r.left in

@@ -125,10 +125,10 @@ right_alone f ys h (not_yet {e = e} g) (first {xs = xs}) q =
 
 -- the events before an instruction, with s and t behind them
 pub record Fed (a b : List Entry) (m m' : Machine) (s t : List Entry) : Type 0 where
-  pub left-observer : Observer
-  pub right-observer : Observer
-  pub state : Both m m' left-observer right-observer
-  pub rest : ForeignRuns left-observer right-observer s t
+  pub left_observer : Observer
+  pub right_observer : Observer
+  pub state : Both m m' left_observer right_observer
+  pub rest : ForeignRuns left_observer right_observer s t
   pub said : compared_trace a ≡ compared_trace b
 
 -- the first event of each list, given where b and b' are false
@@ -140,7 +140,7 @@ module _ (rom : List ℕ) (i : ℕ) (e f : ℕ) (es fs : List ℕ) (x y : ℕ) {
       → Later (left i es) (events_of s) → Later (left i fs) (events_of t)
       → Fed (given e x ∷ events_before rom i es n) (given f y ∷ events_before rom i fs n') (after_events rom i es n) (after_events rom i fs n') s t)
       → Fed (pick b [] (given e x ∷ events_before rom i es n)) (pick b' [] (given f y ∷ events_before rom i fs n')) (pick b m (after_events rom i es n)) (pick b' m' (after_events rom i fs n')) s t
-  pair_by true true h h' l l' q go = record { left-observer = o; right-observer = p; state = k; rest = q; said = refl }
+  pair_by true true h h' l l' q go = record { left_observer = o; right_observer = p; state = k; rest = q; said = refl }
   pair_by true false h h' l l' q go = absurd (right_alone f (events_of (events_before rom i fs n' ++ t)) h' (not_yet h) l q.events)
   pair_by false true h h' l l' q go = absurd (left_alone e (events_of (events_before rom i es n ++ s)) h (not_yet h') l' q.events)
   pair_by false false h h' l l' q go = go q l l'
@@ -148,21 +148,21 @@ module _ (rom : List ℕ) (i : ℕ) (e f : ℕ) (es fs : List ℕ) (x y : ℕ) {
   left_by : (b : Bool) → ltb i (number_of e) ≡ b → Later (pick b (e ∷ es) (left i es)) (events_of s) → Later [] (events_of t)
       → ForeignRuns o p (pick b [] (given e x ∷ events_before rom i es n) ++ s) t
       → Fed (pick b [] (given e x ∷ events_before rom i es n)) [] (pick b m (after_events rom i es n)) m' s t
-  left_by true h l l' q = record { left-observer = o; right-observer = p; state = k; rest = q; said = refl }
+  left_by true h l l' q = record { left_observer = o; right_observer = p; state = k; rest = q; said = refl }
   left_by false h l l' q = absurd (left_alone e (events_of (events_before rom i es n ++ s)) h empty l' q.events)
 
   right_by : (b : Bool) → ltb i (number_of f) ≡ b → Later [] (events_of s) → Later (pick b (f ∷ fs) (left i fs)) (events_of t)
       → ForeignRuns o p s (pick b [] (given f y ∷ events_before rom i fs n') ++ t)
       → Fed [] (pick b [] (given f y ∷ events_before rom i fs n')) m (pick b m' (after_events rom i fs n')) s t
-  right_by true h l l' q = record { left-observer = o; right-observer = p; state = k; rest = q; said = refl }
+  right_by true h l l' q = record { left_observer = o; right_observer = p; state = k; rest = q; said = refl }
   right_by false h l l' q = absurd (right_alone f (events_of (events_before rom i fs n' ++ t)) h empty l q.events)
 
 more : {e f x y : ℕ} {a b : List Entry} {m m' : Machine} {s t : List Entry} → number_of e ≡ number_of f → compared_answer (decode (word_of e)) x ≡ compared_answer (decode (word_of f)) y
     → Fed a b m m' s t → Fed (given e x ∷ a) (given f y ∷ b) m m' s t
 more h g z =
     record {
-      left-observer = z.left-observer;
-      right-observer = z.right-observer;
+      left_observer = z.left_observer;
+      right_observer = z.right_observer;
       state = z.state;
       rest = z.rest;
       said = ap₂ ◌∷◌ (ap₂ given h g) z.said;
@@ -172,7 +172,7 @@ pub feeds : (rom : List ℕ) (i : ℕ) (es fs : List ℕ) {m m' : Machine} {o p 
     → ForeignRuns o p (events_before rom i es m ++ s) (events_before rom i fs m' ++ t)
     → Fed (events_before rom i es m) (events_before rom i fs m') (after_events rom i es m) (after_events rom i fs m') s t
 unfolding events_before after_events left
-feeds rom i [] [] {o = o} {p = p} s t k l l' q = record { left-observer = o; right-observer = p; state = k; rest = q; said = refl }
+feeds rom i [] [] {o = o} {p = p} s t k l l' q = record { left_observer = o; right_observer = p; state = k; rest = q; said = refl }
 feeds rom i [] (f ∷ fs) {m} {m'} s t k l l' q = right_by rom i 0 f [] fs 0 (answered m'.chip (decode (word_of f))) m' (occurred rom m' (word_of f)) s t k (ltb i (number_of f)) refl l l' q
 feeds rom i (e ∷ es) [] {m} {m'} s t k l l' q = left_by rom i e 0 es [] (answered m.chip (decode (word_of e))) 0 (occurred rom m (word_of e)) m s t k (ltb i (number_of e)) refl l l' q
 feeds rom i (e ∷ es) (f ∷ fs) {m} {m'} {o} {p} s t k l l' q =

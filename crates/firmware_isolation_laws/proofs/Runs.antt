@@ -213,14 +213,14 @@ module _ (n : ℕ) (rom : List ℕ) (m : Machine) (well : well_formed m.chip ≡
   at_first = both m.cpu m.ram (self_related m.chip ddc2b (flags_lt m.chip well) begun)
 
   -- Of the events, that those listed agree: demand 3 as the wish has it
-  pub firmware-runs-listed : (es fs : List ℕ) → ForeignLists n es fs (observer_of m.chip b) (observer_of m.chip b) (trace n 0 rom es m) (trace n 0 rom fs m)
+  pub firmware_runs_listed : (es fs : List ℕ) → ForeignLists n es fs (observer_of m.chip b) (observer_of m.chip b) (trace n 0 rom es m) (trace n 0 rom fs m)
       → RunsAgree (runs n 0 rom es m) (runs n 0 rom fs m) (trace n 0 rom es m) (trace n 0 rom fs m)
-  firmware-runs-listed es fs q = agreeing n 0 rom es fs m (two_runs_listed n 0 n (omega arith) rom es fs at_first q)
+  firmware_runs_listed es fs q = agreeing n 0 rom es fs m (two_runs_listed n 0 n (omega arith) rom es fs at_first q)
 
   -- that those given agree
-  pub firmware-runs : (es fs : List ℕ) → ForeignRuns (observer_of m.chip b) (observer_of m.chip b) (trace n 0 rom es m) (trace n 0 rom fs m)
+  pub firmware_runs : (es fs : List ℕ) → ForeignRuns (observer_of m.chip b) (observer_of m.chip b) (trace n 0 rom es m) (trace n 0 rom fs m)
       → RunsAgree (runs n 0 rom es m) (runs n 0 rom fs m) (trace n 0 rom es m) (trace n 0 rom fs m)
-  firmware-runs es fs q = agreeing n 0 rom es fs m (two_runs n 0 rom es fs at_first q)
+  firmware_runs es fs q = agreeing n 0 rom es fs m (two_runs n 0 rom es fs at_first q)
 
 -- ---- one transfer
 
@@ -282,12 +282,12 @@ module _ (c : Cpu) (ram rom : List ℕ) (k : Chip) (n : ℕ) (well : is_well_for
   chip_well = (both_true (ltb c.over 32) (well_formed k) well).1
 
   module _ (ddc2b : mode_of k.core ≡ Ddc2b) {b : Trace} (begun : Begun k.core.bus.phase b) where
-    pub firmware-calls-listed : (es fs xs ys : List ℕ) → ltb (length xs) (length es) ≡ false → ltb (length ys) (length fs) ≡ false
+    pub firmware_calls_listed : (es fs xs ys : List ℕ) → ltb (length xs) (length es) ≡ false → ltb (length ys) (length fs) ≡ false
         → ForeignLists n es fs (observer_of k b) (observer_of k b) (trace n 0 rom es (machine c ram k)) (trace n 0 rom fs (machine c ram k))
         → CallsAgree (firmware c ram rom k es xs n) (firmware c ram rom k fs ys n) (trace n 0 rom es (machine c ram k)) (trace n 0 rom fs (machine c ram k))
-    firmware-calls-listed es fs xs ys p p' q = calling es fs xs ys p p' (firmware-runs-listed n rom (machine c ram k) chip_well ddc2b begun es fs q)
+    firmware_calls_listed es fs xs ys p p' q = calling es fs xs ys p p' (firmware_runs_listed n rom (machine c ram k) chip_well ddc2b begun es fs q)
 
-    pub firmware-calls : (es fs xs ys : List ℕ) → ltb (length xs) (length es) ≡ false → ltb (length ys) (length fs) ≡ false
+    pub firmware_calls : (es fs xs ys : List ℕ) → ltb (length xs) (length es) ≡ false → ltb (length ys) (length fs) ≡ false
         → ForeignRuns (observer_of k b) (observer_of k b) (trace n 0 rom es (machine c ram k)) (trace n 0 rom fs (machine c ram k))
         → CallsAgree (firmware c ram rom k es xs n) (firmware c ram rom k fs ys n) (trace n 0 rom es (machine c ram k)) (trace n 0 rom fs (machine c ram k))
-    firmware-calls es fs xs ys p p' q = calling es fs xs ys p p' (firmware-runs n rom (machine c ram k) chip_well ddc2b begun es fs q)
+    firmware_calls es fs xs ys p p' q = calling es fs xs ys p p' (firmware_runs n rom (machine c ram k) chip_well ddc2b begun es fs q)

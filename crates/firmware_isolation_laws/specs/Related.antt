@@ -33,8 +33,8 @@ pub data Ended (o p : Observer) : Turned → Turned → Type 0 where
 
 -- they come to a and b, with s and t behind them; the lists left are es and fs
 pub record FedLists (n : ℕ) (es fs : List ℕ) (a b : List Entry) (m m' : Machine) (s t : List Entry) : Type 0 where
-  pub left-observer : Observer
-  pub right-observer : Observer
-  pub state : Both m m' left-observer right-observer
-  pub rest : ForeignLists n es fs left-observer right-observer s t
+  pub left_observer : Observer
+  pub right_observer : Observer
+  pub state : Both m m' left_observer right_observer
+  pub rest : ForeignLists n es fs left_observer right_observer s t
   pub said : compared_trace a ≡ compared_trace b

@@ -24,25 +24,25 @@ use Rattle.firmware_laws.proofs.Parts.{run_in_parts_lem}
 
 module _ (c : Cpu) (ram rom : List ℕ) (k : Chip) (es places : List ℕ) (n : ℕ) where
   -- 8: the state is ill formed
-  pub ill-formed : is_well_formed c k ≡ false → firmware c ram rom k es places n ≡ not_run 8 c ram k places
+  pub ill_formed_lem : is_well_formed c k ≡ false → firmware c ram rom k es places n ≡ not_run 8 c ram k places
   unfolding firmware
-  ill-formed h = rw h
+  ill_formed_lem h = rw h
 
   -- 22: the ROM is not 24,576 bytes
-  pub wrong-rom : is_well_formed c k ≡ true → eqb (length rom) 24576 ≡ false → firmware c ram rom k es places n ≡ not_run 22 c ram k places
+  pub wrong_rom : is_well_formed c k ≡ true → eqb (length rom) 24576 ≡ false → firmware c ram rom k es places n ≡ not_run 22 c ram k places
   unfolding firmware
-  wrong-rom h g = rw (h, g)
+  wrong_rom h g = rw (h, g)
 
   -- 7: fewer answer places than events
-  pub few-places : is_well_formed c k ≡ true → eqb (length rom) 24576 ≡ true → ltb (length places) (length es) ≡ true → firmware c ram rom k es places n ≡ not_run 7 c ram k places
+  pub few_places : is_well_formed c k ≡ true → eqb (length rom) 24576 ≡ true → ltb (length places) (length es) ≡ true → firmware c ram rom k es places n ≡ not_run 7 c ram k places
   unfolding firmware
-  few-places h g p = rw (h, g, p)
+  few_places h g p = rw (h, g, p)
 
   -- else it is run
-  pub is-run : is_well_formed c k ≡ true → eqb (length rom) 24576 ≡ true → ltb (length places) (length es) ≡ false
+  pub is_run : is_well_formed c k ≡ true → eqb (length rom) 24576 ≡ true → ltb (length places) (length es) ≡ false
       → firmware c ram rom k es places n ≡ called (runs n 0 rom es (machine c ram k)) places
   unfolding firmware
-  is-run h g p = rw (h, g, p)
+  is_run h g p = rw (h, g, p)
 
   -- ---- and these numbers are given in no other case: a run has none of them
 
@@ -85,18 +85,18 @@ module _ (c : Cpu) (ram rom : List ℕ) (k : Chip) (es places : List ℕ) (n : �
   seven_by true false p h = absurd (omega arith)
   seven_by false r p h = absurd (omega arith)
 
-  pub only-ill-formed : (firmware c ram rom k es places n).number ≡ 8 → is_well_formed c k ≡ false
+  pub only_ill_formed : (firmware c ram rom k es places n).number ≡ 8 → is_well_formed c k ≡ false
   unfolding firmware
-  only-ill-formed h = eight_by (is_well_formed c k) (eqb (length rom) 24576) (ltb (length places) (length es)) h
+  only_ill_formed h = eight_by (is_well_formed c k) (eqb (length rom) 24576) (ltb (length places) (length es)) h
 
-  pub only-wrong-rom : (firmware c ram rom k es places n).number ≡ 22 → (is_well_formed c k ≡ true) × (eqb (length rom) 24576 ≡ false)
+  pub only_wrong_rom : (firmware c ram rom k es places n).number ≡ 22 → (is_well_formed c k ≡ true) × (eqb (length rom) 24576 ≡ false)
   unfolding firmware
-  only-wrong-rom h = twenty_two_by (is_well_formed c k) (eqb (length rom) 24576) (ltb (length places) (length es)) h
+  only_wrong_rom h = twenty_two_by (is_well_formed c k) (eqb (length rom) 24576) (ltb (length places) (length es)) h
 
-  pub only-few-places : (firmware c ram rom k es places n).number ≡ 7
+  pub only_few_places : (firmware c ram rom k es places n).number ≡ 7
       → (is_well_formed c k ≡ true) × (eqb (length rom) 24576 ≡ true) × (ltb (length places) (length es) ≡ true)
   unfolding firmware
-  only-few-places h = seven_by (is_well_formed c k) (eqb (length rom) 24576) (ltb (length places) (length es)) h
+  only_few_places h = seven_by (is_well_formed c k) (eqb (length rom) 24576) (ltb (length places) (length es)) h
 
   run_by : (w r p : Bool) → RunNumber (tested w r p).number → (w ≡ true) × (r ≡ true) × (p ≡ false)
   run_by true true true h = absurd (not_by h 7 (inl refl) refl)
@@ -105,10 +105,10 @@ module _ (c : Cpu) (ram rom : List ℕ) (k : Chip) (es places : List ℕ) (n : �
   run_by false r p h = absurd (not_by h 8 (inr (inl refl)) refl)
 
   -- 0 and the numbers of instructions are given by a run alone
-  pub only-run : RunNumber (firmware c ram rom k es places n).number
+  pub only_run : RunNumber (firmware c ram rom k es places n).number
       → (is_well_formed c k ≡ true) × (eqb (length rom) 24576 ≡ true) × (ltb (length places) (length es) ≡ false)
   unfolding firmware
-  only-run h = run_by (is_well_formed c k) (eqb (length rom) 24576) (ltb (length places) (length es)) h
+  only_run h = run_by (is_well_formed c k) (eqb (length rom) 24576) (ltb (length places) (length es)) h
 
   -- ---- a well formed state is left well formed
 
@@ -119,9 +119,9 @@ module _ (c : Cpu) (ram rom : List ℕ) (k : Chip) (es places : List ℕ) (n : �
   kept_by true false p h g = h
   kept_by false r p h g = absurd (true≢false (sym g))
 
-  pub call-well-formed : is_well_formed c k ≡ true → is_well_formed (firmware c ram rom k es places n).cpu (firmware c ram rom k es places n).chip ≡ true
+  pub call_well_formed : is_well_formed c k ≡ true → is_well_formed (firmware c ram rom k es places n).cpu (firmware c ram rom k es places n).chip ≡ true
   unfolding firmware
-  call-well-formed h = kept_by (is_well_formed c k) (eqb (length rom) 24576) (ltb (length places) (length es)) h h
+  call_well_formed h = kept_by (is_well_formed c k) (eqb (length rom) 24576) (ltb (length places) (length es)) h h
 
 -- ---- a call in two parts
 
@@ -163,7 +163,7 @@ second_by : (n k : ℕ) (rom es places : List ℕ) (a : Ended) (t : Bool) → eq
 second_by n k rom es places a true e w r p =
     let g = length a.answers in
     called_followed a (runs k 0 rom (renumbered n (drop g es)) a.machine) places
-    ∙ ap (followed_call (called a places)) (sym (is-run a.machine.cpu a.machine.ram rom a.machine.chip (renumbered n (drop g es)) (drop g places) k (w e) r (room_left n g es places p)))
+    ∙ ap (followed_call (called a places)) (sym (is_run a.machine.cpu a.machine.ram rom a.machine.chip (renumbered n (drop g es)) (drop g places) k (w e) r (room_left n g es places p)))
 second_by n k rom es places a false e w r p = refl
 
 parts_run : (n k : ℕ) (c : Cpu) (ram rom : List ℕ) (x : Chip) (es places : List ℕ) → is_well_formed c x ≡ true → eqb (length rom) 24576 ≡ true → ltb (length places) (length es) ≡ false
@@ -171,19 +171,19 @@ parts_run : (n k : ℕ) (c : Cpu) (ram rom : List ℕ) (x : Chip) (es places : L
 parts_run n k c ram rom x es places w r p =
     let m = machine c ram x in
     let a = runs n 0 rom es m in
-    is-run c ram rom x es places (n + k) w r p ∙ ap (λ (e : Ended). called e places) (run_in_parts_lem n k rom es m)
+    is_run c ram rom x es places (n + k) w r p ∙ ap (λ (e : Ended). called e places) (run_in_parts_lem n k rom es m)
     ∙ second_by n k rom es places a (eqb a.number 0) refl (λ (h : eqb a.number 0 ≡ true). run_well_formed n 0 rom es m w) r p
-    ∙ ap (λ (y : Called). calling_on y n k rom es places) (sym (is-run c ram rom x es places n w r p))
+    ∙ ap (λ (y : Called). calling_on y n k rom es places) (sym (is_run c ram rom x es places n w r p))
 
 parts_by : (n k : ℕ) (c : Cpu) (ram rom : List ℕ) (x : Chip) (es places : List ℕ) (w r p : Bool) → is_well_formed c x ≡ w → eqb (length rom) 24576 ≡ r → ltb (length places) (length es) ≡ p
     → firmware c ram rom x es places (n + k) ≡ call_in_parts n k c ram rom x es places
 parts_by n k c ram rom x es places true true true e f g =
-    few-places c ram rom x es places (n + k) e f g ∙ ap (λ (y : Called). calling_on y n k rom es places) (sym (few-places c ram rom x es places n e f g))
+    few_places c ram rom x es places (n + k) e f g ∙ ap (λ (y : Called). calling_on y n k rom es places) (sym (few_places c ram rom x es places n e f g))
 parts_by n k c ram rom x es places true true false e f g = parts_run n k c ram rom x es places e f g
 parts_by n k c ram rom x es places true false p e f g =
-    wrong-rom c ram rom x es places (n + k) e f ∙ ap (λ (y : Called). calling_on y n k rom es places) (sym (wrong-rom c ram rom x es places n e f))
+    wrong_rom c ram rom x es places (n + k) e f ∙ ap (λ (y : Called). calling_on y n k rom es places) (sym (wrong_rom c ram rom x es places n e f))
 parts_by n k c ram rom x es places false r p e f g =
-    ill-formed c ram rom x es places (n + k) e ∙ ap (λ (y : Called). calling_on y n k rom es places) (sym (ill-formed c ram rom x es places n e))
+    ill_formed_lem c ram rom x es places (n + k) e ∙ ap (λ (y : Called). calling_on y n k rom es places) (sym (ill_formed_lem c ram rom x es places n e))
 
 -- A call for n + k instructions is one for n and then, unless that is refused, one for k with the events and answer places that are left
 pub call_in_parts_lem : (n k : ℕ) (c : Cpu) (ram rom : List ℕ) (x : Chip) (es places : List ℕ) → firmware c ram rom x es places (n + k) ≡ call_in_parts n k c ram rom x es places

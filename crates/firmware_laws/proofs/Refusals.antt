@@ -17,7 +17,7 @@ use Rattle.firmware_laws.specs.Refused.{RefusedCall, RefusedNumber, write_only_l
 use Rattle.firmware_laws.specs.Refused.{RefusedCall, Refused}
 use Rattle.firmware_laws.proofs.Numbers.{instruct_number, turn_refused}
 use Rattle.firmware_laws.proofs.Parts.{run_on}
-use Rattle.firmware_laws.proofs.Calls.{is-run, only-run}
+use Rattle.firmware_laws.proofs.Calls.{is_run, only_run}
 
 -- ---- a turn
 
@@ -117,13 +117,13 @@ not_zero not_mapped = refl
 module _ (c : Cpu) (ram rom : List ℕ) (x : Chip) (es places : List ℕ) where
   as_run : (k : ℕ) → RunNumber (firmware c ram rom x es places k).number → (n : ℕ) → firmware c ram rom x es places n ≡ called (runs n 0 rom es (machine c ram x)) places
   as_run k h n =
-      let o = only-run c ram rom x es places k h in
-      is-run c ram rom x es places n o.0 o.1 o.2
+      let o = only_run c ram rom x es places k h in
+      is_run c ram rom x es places n o.0 o.1 o.2
 
   -- the same of the call: where it gives 0 for k instructions and the next has a number, it gives that number for every longer run
-  pub call-refused-at : (k n : ℕ) → k < n → (firmware c ram rom x es places k).number ≡ 0 → eqb (turn_number rom (machine_past k 0 rom es (machine c ram x))) 0 ≡ false
+  pub call_refused_at : (k n : ℕ) → k < n → (firmware c ram rom x es places k).number ≡ 0 → eqb (turn_number rom (machine_past k 0 rom es (machine c ram x))) 0 ≡ false
       → firmware c ram rom x es places n ≡ called (refused_past k 0 rom es (machine c ram x)) places
-  call-refused-at k n l z h =
+  call_refused_at k n l z h =
       let r = as_run k (subst RunNumber (sym z) none) in
       let b = ap (λ (y : Called). eqb y.number 0) (sym (r k)) ∙ ap (λ (a : ℕ). eqb a 0) z in
       r n ∙ ap (λ (e : Ended). called e places) (run_refused_at k n 0 rom es (machine c ram x) l b h)
@@ -132,8 +132,8 @@ module _ (c : Cpu) (ram rom : List ℕ) (x : Chip) (es places : List ℕ) where
   refused_run n h = ap (λ (y : Called). eqb y.number 0) (sym (as_run n (refusal h) n)) ∙ not_zero h
 
   -- it gives 20, 21, 5 and 6 in no other case
-  pub call-refused : (n : ℕ) → RefusedNumber (firmware c ram rom x es places n).number → RefusedCall c ram rom x es places n
-  call-refused n h =
+  pub call_refused : (n : ℕ) → RefusedNumber (firmware c ram rom x es places n).number → RefusedCall c ram rom x es places n
+  call_refused n h =
       let z = run_refused n 0 rom es (machine c ram x) (refused_run n h) in
       let r = as_run n (refusal h) in
       record {
@@ -145,6 +145,6 @@ module _ (c : Cpu) (ram rom : List ℕ) (x : Chip) (es places : List ℕ) where
       }
 
   -- and the number is that of the instruction at PC of the CPU, with RAM and chip, as the call leaves them
-  pub call-told : (n : ℕ) → RefusedNumber (firmware c ram rom x es places n).number → (firmware c ram rom x es places n).number
+  pub call_told : (n : ℕ) → RefusedNumber (firmware c ram rom x es places n).number → (firmware c ram rom x es places n).number
       ≡ instruction_number rom (machine (firmware c ram rom x es places n).cpu (firmware c ram rom x es places n).ram (firmware c ram rom x es places n).chip)
-  call-told n h = rw (as_run n (refusal h) n) (run_told n 0 rom es (machine c ram x) (refused_run n h))
+  call_told n h = rw (as_run n (refusal h) n) (run_told n 0 rom es (machine c ram x) (refused_run n h))

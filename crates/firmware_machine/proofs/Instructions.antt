@@ -74,7 +74,7 @@ module _ (seen : List ℕ) (c : Cpu) (ram : List ℕ) (k : Chip) where
   shows_result (refuses n) y (waits r h u g) l =
       let z : n ≡ 64 + r = cc in
       let y : n - 64 ≡ r = omega arith in
-      rw (le-ltb n 64 (omega arith), y) (refl, record { below-38 = h; not_seen = u })
+      rw (le-ltb n 64 (omega arith), y) (refl, record { below_38 = h; not_seen = u })
 
   shows_instruct : (rom : List ℕ) → Knows seen k
       → Shows seen c ram k (turn_with (perform (memory seen ram rom) (instruction c))) (ram_with (perform (memory seen ram rom) (instruction c)) ram) (instruct rom (machine c ram k))
@@ -87,16 +87,16 @@ module _ (seen : List ℕ) (c : Cpu) (ram : List ℕ) (k : Chip) where
   turn_by rom m x a b h g = rw (h, g)
 
   -- with RESET high and no interrupt to be taken a turn is its instruction
-  pub turn-plain : (rom : List ℕ) → k.core.reset ≡ true → is_interrupted (is_requesting k) c ≡ false → turn rom (machine c ram k) ≡ instruct rom (machine c ram k)
+  pub turn_plain : (rom : List ℕ) → k.core.reset ≡ true → is_interrupted (is_requesting k) c ≡ false → turn rom (machine c ram k) ≡ instruct rom (machine c ram k)
   unfolding turn after_interrupt
-  turn-plain rom h g = turn_by rom (machine c ram k) (interrupt_taken rom (machine c ram k)) k.core.reset (is_interrupted (is_requesting k) c) h g
+  turn_plain rom h g = turn_by rom (machine c ram k) (interrupt_taken rom (machine c ram k)) k.core.reset (is_interrupted (is_requesting k) c) h g
 
   shows_turn : (rom : List ℕ) → Knows seen k → k.core.reset ≡ true → (b : Bool) → is_interrupted (is_requesting k) c ≡ b
       → Shows seen c ram k (pick b Interrupt (turn_with (perform (memory seen ram rom) (instruction c)))) (pick b ram (ram_with (perform (memory seen ram rom) (instruction c)) ram)) (turn rom (machine c ram k))
   shows_turn rom h r true e = (refl, e)
   shows_turn rom h r false e =
       subst (λ (t : Turned). Shows seen c ram k (turn_with (perform (memory seen ram rom) (instruction c))) (ram_with (perform (memory seen ram rom) (instruction c)) ram) t)
-      (sym (turn-plain rom r e)) (shows_instruct rom h)
+      (sym (turn_plain rom r e)) (shows_instruct rom h)
 
   pub shows : (rom : List ℕ) → Knows seen k → k.core.reset ≡ true
       → Shows seen c ram k (turn_of opcodes seen rom (is_requesting k) c ram) (ram_after opcodes seen rom (is_requesting k) c ram) (turn rom (machine c ram k))

@@ -17,7 +17,7 @@ use Rattle.cpu_instruction.specs.Instruction.{trap, interrupted}
 use Rattle.cpu_execution.specs.Execution.{destination, stored}
 use Rattle.cpu_step.specs.InstructionTurn.{cycles_with, counted, is_interrupted}
 use Rattle.firmware_machine.specs.Machine.{Machine, machine, turned, load, clock_after, instruct, is_requesting, interrupt_taken, after_interrupt, turn}
-use Rattle.firmware_machine.proofs.Instructions.{turn-plain}
+use Rattle.firmware_machine.proofs.Instructions.{turn_plain}
 
 -- PC and P are pushed, I is set, PC is loaded from FFFE, seven cycles are counted
 pub interrupt_is : (rom : List ℕ) (c : Cpu) (ram : List ℕ) (k : Chip)
@@ -58,5 +58,5 @@ interrupt_turn rom c ram k h g =
     let l = clock_after (cycles_with (interrupted rom c)) k in
     let s = stored ram (interrupted rom c).store in
     turn_taken rom (machine c ram k) h g ∙ ap (instruct rom) (interrupt_is rom c ram k)
-    ∙ sym (turn-plain [] d s l rom (clock_reset (cycles_with (interrupted rom c)) k h) (not_taken (is_requesting l) d (interrupted_masks rom c)))
+    ∙ sym (turn_plain [] d s l rom (clock_reset (cycles_with (interrupted rom c)) k h) (not_taken (is_requesting l) d (interrupted_masks rom c)))
     ∙ ap (turn rom) (sym (interrupt_is rom c ram k))

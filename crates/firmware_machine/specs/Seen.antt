@@ -21,5 +21,5 @@ Knows seen k = (r : ℕ) → r < 38 → Known k r (get_or seen r 0)
 
 -- nothing is known of the register r
 pub record Waiting (seen : List ℕ) (r : ℕ) : Type 0 where
-  pub below-38 : r < 38
+  pub below_38 : r < 38
   pub not_seen : get_or seen r 0 ≡ not_seen r

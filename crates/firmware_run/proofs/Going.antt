@@ -125,8 +125,8 @@ module _ (n : ℕ) (rom es places : List ℕ) (whole : Ended) (answers ram seen 
     pub some : given < length es
     some = until_some n i es given more due
 
-    pub afterEvents-less : measure n es i (given + 1) < measure n es i given
-    afterEvents-less = omega (arith, some)
+    pub after_events_less : measure n es i (given + 1) < measure n es i given
+    after_events_less = omega (arith, some)
 
     goes_set : (w : ℕ) → w ≡ word_of (get_or es given 0) → (o : Occurred) (r s : List ℕ) → o ≡ occurred_with rom c (chip_of registers core) w
         → r ≡ (next (chip_of registers core) (decode w)).registers → s ≡ seen_after_event seen (decode w)
@@ -150,10 +150,10 @@ module _ (n : ℕ) (rom es places : List ℕ) (whole : Ended) (answers ram seen 
           size = rw u (event_length seen (decode w) h.size);
         }
 
-    pub afterEvents-goes : (v : ℕ) → v ≡ get_or es given 0 → (w : ℕ) → w ≡ word_of v → (o : Occurred) (r s a : List ℕ) → o ≡ occurred_with rom c (chip_of registers core) w
+    pub after_events_goes : (v : ℕ) → v ≡ get_or es given 0 → (w : ℕ) → w ≡ word_of v → (o : Occurred) (r s a : List ℕ) → o ≡ occurred_with rom c (chip_of registers core) w
         → r ≡ (next (chip_of registers core) (decode w)).registers → s ≡ seen_after_event seen (decode w) → a ≡ set answers given o.answer
         → Going n rom es places whole a ram s r o.core o.cpu i (given + 1)
-    afterEvents-goes v x w e o r s a p q u y = rw y (goes_set w (e ∙ ap word_of x) o r s p q u)
+    after_events_goes v x w e o r s a p q u y = rw y (goes_set w (e ∙ ap word_of x) o r s p q u)
 
   -- instructions were done
   module _ (to : ℕ) (at : to ≡ until n (drop given es)) (later : i < to) (s : Settled) (r ram' : List ℕ)
@@ -172,11 +172,11 @@ module _ (n : ℕ) (rom es places : List ℕ) (whole : Ended) (answers ram seen 
         let w : i + (to - i) ≡ to = omega (arith, later) in
         ap (λ (x : Ended). x.next) e ∙ runs_next (to - i) i rom (machine c ram (chip_of registers core)) y ∙ w
 
-    pub on-less : eqb s.refusal 0 ≡ true → measure n es s.number given < measure n es i given
-    on-less z = rw (reaches z) (omega (arith, later, most))
+    pub on_less : eqb s.refusal 0 ≡ true → measure n es s.number given < measure n es i given
+    on_less z = rw (reaches z) (omega (arith, later, most))
 
-    pub on-goes : eqb s.refusal 0 ≡ true → (seen' : List ℕ) → Knows seen' (chip_of r s.core) → length seen' ≡ 38 → Going n rom es places whole answers ram' seen' r s.core s.cpu s.number given
-    on-goes z seen' known sized =
+    pub on_goes : eqb s.refusal 0 ≡ true → (seen' : List ℕ) → Knows seen' (chip_of r s.core) → length seen' ≡ 38 → Going n rom es places whole answers ram' seen' r s.core s.cpu s.number given
+    on_goes z seen' known sized =
         record {
           within = rw (reaches z) most;
           listed = h.listed;
@@ -187,8 +187,8 @@ module _ (n : ℕ) (rom es places : List ℕ) (whole : Ended) (answers ram seen 
           size = sized;
         }
 
-    pub on-ends : eqb s.refusal 0 ≡ false → whole ≡ prepended (take given answers) (ended (machine s.cpu ram' (chip_of r s.core)) s.refusal s.number [])
-    on-ends z = h.total ∙ ap (prepended (take given answers)) (on ∙ (rw z))
+    pub on_ends : eqb s.refusal 0 ≡ false → whole ≡ prepended (take given answers) (ended (machine s.cpu ram' (chip_of r s.core)) s.refusal s.number [])
+    on_ends z = h.total ∙ ap (prepended (take given answers)) (on ∙ (rw z))
 
 -- ---- the end
 

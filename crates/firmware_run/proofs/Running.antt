@@ -135,8 +135,8 @@ module _ (rom : List ℕ) (from to : ℕ) (start : Machine) (ram seen registers 
             → Running rom from to start ram seen' registers (with_bus (with_sync core s) b) c (i + 1) true request
         ticks s u p v b w = rw (ticked_parts core h.high hsel x s u p v b w, y, x) ticks_at
 
-        pub ticks-less : measure to (i + 1) true c seen' < measure to i clocked c seen
-        ticks-less = rw e (omega (arith, l, clear_le c, unseen_38 seen' (rw y (clock_length seen hsel core.sync h.size))))
+        pub ticks_less : measure to (i + 1) true c seen' < measure to i clocked c seen
+        ticks_less = rw e (omega (arith, l, clear_le c, unseen_38 seen' (rw y (clock_length seen hsel core.sync h.size))))
 
     -- a turn
     module _ (e : clocked ≡ true) (table : List ℕ) (tabled : table ≡ opcodes) (t : Turn) (ram' : List ℕ) (p : t ≡ turn_of table seen rom request c ram) (p' : ram' ≡ ram_after table seen rom request c ram) where
@@ -153,8 +153,8 @@ module _ (rom : List ℕ) (from to : ℕ) (start : Machine) (ram seen registers 
       on d q =
           rw e (record { small = h.small; total = after (turned (machine d ram' k) 0) (rw q at seen_turn); knows = h.knows; size = h.size; high = h.high; asked = h.asked; begun = λ z. absurd (true≢false z) })
 
-      pub on-less : (d : Cpu) → measure to (i + 1) clocked d seen < measure to i clocked c seen
-      on-less d = rw e (omega (arith, l, clear_le d, unseen_38 seen h.size))
+      pub on_less : (d : Cpu) → measure to (i + 1) clocked d seen < measure to i clocked c seen
+      on_less d = rw e (omega (arith, l, clear_le d, unseen_38 seen h.size))
 
       pub due : (d : Cpu) → t ≡ Clock d → Running rom from to start ram' seen registers core d i false request
       due d q =
@@ -168,8 +168,8 @@ module _ (rom : List ℕ) (from to : ℕ) (start : Machine) (ram seen registers 
             begun = λ z. l;
           }
 
-      pub due-less : (to - i) * 160 < measure to i clocked c seen
-      due-less = rw e (omega arith)
+      pub due_less : (to - i) * 160 < measure to i clocked c seen
+      due_less = rw e (omega arith)
 
       -- an interrupt
       module _ (q : t ≡ Interrupt) where
@@ -196,8 +196,8 @@ module _ (rom : List ℕ) (from to : ℕ) (start : Machine) (ram seen registers 
             → (a : Bool) → a ≡ is_requesting (chip_of registers x.core) → Running rom from to start ram₂ s registers x.core x.cpu i clocked a
         interrupts x u ram₂ v s w a z = rw (e, z, w, v, u, struck.0) interrupts_at
 
-        pub interrupts-less : (x : Interrupted) → x ≡ after_interrupted rom core c → (s : List ℕ) → s ≡ none_seen → measure to i clocked x.cpu s < measure to i clocked c seen
-        interrupts-less x u s w =
+        pub interrupts_less : (x : Interrupted) → x ≡ after_interrupted rom core c → (s : List ℕ) → s ≡ none_seen → measure to i clocked x.cpu s < measure to i clocked c seen
+        interrupts_less x u s w =
             rw (e, u, w) (omega (arith, clear_clear c (taken_clear (is_requesting k) c struck.1), clear_set (counted (interrupted rom c)) (interrupted_masks rom c), unseen_le none_seen))
 
       -- a refusal
@@ -238,8 +238,8 @@ module _ (rom : List ℕ) (from to : ℕ) (start : Machine) (ram seen registers 
           wrote_less_by true d = rw e (omega (arith, l, clear_le d, unseen_38 seen' g.size))
           wrote_less_by false d = rw e (omega arith)
 
-          pub wrote-less : (x : ℕ) (d : Cpu) → d ≡ set_over (x % 32) q → (f : Bool) → f ≡ ltb x 32 → (j : ℕ) → j ≡ pick f (i + 1) i → measure to j f d seen' < measure to i clocked c seen
-          wrote-less x d v f m j o = rw o (wrote_less_by f d)
+          pub wrote_less : (x : ℕ) (d : Cpu) → d ≡ set_over (x % 32) q → (f : Bool) → f ≡ ltb x 32 → (j : ℕ) → j ≡ pick f (i + 1) i → measure to j f d seen' < measure to i clocked c seen
+          wrote_less x d v f m j o = rw o (wrote_less_by f d)
 
         -- refused by the chip
         refused_by_lem : (x : Bool) → eqb (write_number core.reset r) 0 ≡ x → x ≡ false → written seen c ram k q n r b ≡ turned (machine c ram k) (write_number core.reset r)
@@ -275,7 +275,7 @@ module _ (rom : List ℕ) (from to : ℕ) (start : Machine) (ram seen registers 
               begun = λ z. absurd (true≢false z);
             })
 
-        pub waits-less : (x : Reading) → x ≡ reading k r → (v : ℕ) → v ≡ known_reading x → (s : List ℕ) → s ≡ set seen r v → measure to i clocked c s < measure to i clocked c seen
-        waits-less x y v z s u =
+        pub waits_less : (x : Reading) → x ≡ reading k r → (v : ℕ) → v ≡ known_reading x → (s : List ℕ) → s ≡ set seen r v → measure to i clocked c s < measure to i clocked c seen
+        waits_less x y v z s u =
             let m = waiting.1 in
-            rw (u, z, y, e) (omega (arith, unseen_set seen k r (omega (arith, m.below-38, h.size)) m.not_seen))
+            rw (u, z, y, e) (omega (arith, unseen_set seen k r (omega (arith, m.below_38, h.size)) m.not_seen))

@@ -48,10 +48,10 @@ left_by true false x m h = refl
 left_by false q x m h = refl
 
 module _ (rom ram : List ℕ) (c : Cpu) (k : Chip) where
-  pub before-taken : is_due c k ≡ true
+  pub before_taken : is_due c k ≡ true
       → before_instruction rom (machine c ram k) ≡ machine (counted (interrupted rom c)) (stored ram (interrupted rom c).store) (clock_after (cycles_with (interrupted rom c)) k)
   unfolding before_instruction after_interrupt
-  before-taken h =
+  before_taken h =
       taken_by k.core.reset (is_interrupted (is_requesting k) c) (interrupt_taken rom (machine c ram k)) (machine c ram k) (sym (due_is c k) ∙ h)
       ∙ interrupt_is rom c ram k
 
@@ -64,7 +64,7 @@ module _ (rom ram : List ℕ) (c : Cpu) (k : Chip) where
   pub takes : is_due c k ≡ true
       → (interrupted_with (machine (counted (interrupted rom c)) ram (clock_after (cycles_with (interrupted rom c)) k)) true ≡ interrupted_by rom ram c k)
       × (stored ram (interrupted rom c).store ≡ (before_instruction rom (machine c ram k)).ram)
-  takes h = (ap₂ interrupted_with (sym (before-taken h)) (sym h), ap (λ (m : Machine). m.ram) (sym (before-taken h)))
+  takes h = (ap₂ interrupted_with (sym (before_taken h)) (sym h), ap (λ (m : Machine). m.ram) (sym (before_taken h)))
 
   pub leaves : is_due c k ≡ false → (interrupted_with (machine c ram k) false ≡ interrupted_by rom ram c k) × (ram ≡ (before_instruction rom (machine c ram k)).ram)
   leaves h = (ap₂ interrupted_with (sym (before_left h)) (sym h), ap (λ (m : Machine). m.ram) (sym (before_left h)))

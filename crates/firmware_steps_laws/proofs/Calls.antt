@@ -21,7 +21,7 @@ use Rattle.cpu_instruction.specs.Instruction.{reset_cpu}
 use Rattle.firmware_machine.specs.Machine.{Machine, machine, Turned, turn}
 use Rattle.firmware_machine.specs.Run.{number_of, word_of, occurred, after_events, answers_before, left, Ended, ended, prepended, runs, called, is_well_formed}
 use Rattle.firmware_laws.proofs.Clocks.{run_well_formed}
-use Rattle.firmware_laws.proofs.Calls.{is-run}
+use Rattle.firmware_laws.proofs.Calls.{is_run}
 use Rattle.firmware_steps.specs.Steps.{power_up}
 use Rattle.firmware_steps_laws.specs.Steps.{up_to, least, on_event, in_steps}
 use Rattle.firmware_steps_laws.specs.Calls.{ended_by, call_to, in_calls}
@@ -57,7 +57,7 @@ pub call_to_lem : (t i : ℕ) (rom : List ℕ) (m : Machine) → is_well_formed 
 call_to_lem t i rom m h g =
     let x = runs (t - i) 0 rom [] m in
     let z : i + 0 ≡ i = omega arith in
-    ap (ended_by i) (is-run m.cpu m.ram rom m.chip [] [] (t - i) h g refl)
+    ap (ended_by i) (is_run m.cpu m.ram rom m.chip [] [] (t - i) h g refl)
     ∙ ap (ended x.machine x.number (i + x.next)) (kept_none x.answers)
     ∙ sym (runs_moved (t - i) i 0 rom m)
     ∙ ap (λ (a : ℕ). runs (t - i) a rom [] m) z

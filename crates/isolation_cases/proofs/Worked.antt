@@ -53,13 +53,13 @@ answers_apart p place a = ap (λ (l : List ℕ). get_or l place 0) a.answers_agr
 pub needed : (k : Premise) → Needed k (pair_for k)
 unfolding opened observe untouched keeps_on keeps_ddc2b matches_none keeps_reset watchdog_waits idle_state started_state gathered_state late_state pair_for
 needed in_ddc2b_lem = record { alone = refl; differ = λ a. let e : ◌≡◌ {A = ℕ} 0 1 = answers_apart (pair_for in_ddc2b_lem) 2 a in omega arith }
-needed start_or_idle = record { alone = refl; differ = λ a. let e : ◌≡◌ {A = ℕ} 40 32 = ap (λ (c : Chip). c.core.irqx) a.states-agree in omega arith }
-needed equal_lengths = record { alone = refl; differ = λ a. let e : ◌≡◌ {A = ℕ} 0 1 = ap (λ (c : Chip). c.core.watchdog) a.states-agree in omega arith }
-needed equal_words = record { alone = refl; differ = λ a. let e : ◌≡◌ {A = ℕ} 0 1 = ap (λ (c : Chip). c.core.watchdog) a.states-agree in omega arith }
+needed start_or_idle = record { alone = refl; differ = λ a. let e : ◌≡◌ {A = ℕ} 40 32 = ap (λ (c : Chip). c.core.irqx) a.states_agree in omega arith }
+needed equal_lengths = record { alone = refl; differ = λ a. let e : ◌≡◌ {A = ℕ} 0 1 = ap (λ (c : Chip). c.core.watchdog) a.states_agree in omega arith }
+needed equal_words = record { alone = refl; differ = λ a. let e : ◌≡◌ {A = ℕ} 0 1 = ap (λ (c : Chip). c.core.watchdog) a.states_agree in omega arith }
 needed ddc_on_lem = record { alone = refl; differ = λ a. let e : ◌≡◌ {A = ℕ} 0 1 = answers_apart (pair_for ddc_on_lem) 3 a in omega arith }
-needed no_ddc1 = record { alone = refl; differ = λ a. let e : ◌≡◌ {A = ℕ} 0xa2 0x54 = ap (λ (c : Chip). c.core.bus.shifter.register) a.states-agree in omega arith }
-needed no_match = record { alone = refl; differ = λ a. let e : ◌≡◌ {A = ℕ} 32 40 = ap (λ (c : Chip). c.core.irqx) a.states-agree in omega arith }
+needed no_ddc1 = record { alone = refl; differ = λ a. let e : ◌≡◌ {A = ℕ} 0xa2 0x54 = ap (λ (c : Chip). c.core.bus.shifter.register) a.states_agree in omega arith }
+needed no_match = record { alone = refl; differ = λ a. let e : ◌≡◌ {A = ℕ} 32 40 = ap (λ (c : Chip). c.core.irqx) a.states_agree in omega arith }
 needed no_reset = record { alone = refl; differ = λ a. let e : ◌≡◌ {A = ℕ} 0 1 = answers_apart (pair_for no_reset) 4 a in omega arith }
 needed no_watchdog = record { alone = refl; differ = λ a. let e : ◌≡◌ {A = ℕ} 0 1 = answers_apart (pair_for no_watchdog) 3 a in omega arith }
-needed same_events = record { alone = refl; differ = λ a. let e : ◌≡◌ {A = ℕ} 0x20 0 = ap (λ (c : Chip). c.core.bus.iists) a.states-agree in omega arith }
-needed equal_sda = record { alone = refl; differ = λ a. let e : ◌≡◌ {A = ℕ} 0 0x20 = ap (λ (c : Chip). c.core.bus.iists) a.states-agree in omega arith }
+needed same_events = record { alone = refl; differ = λ a. let e : ◌≡◌ {A = ℕ} 0x20 0 = ap (λ (c : Chip). c.core.bus.iists) a.states_agree in omega arith }
+needed equal_sda = record { alone = refl; differ = λ a. let e : ◌≡◌ {A = ℕ} 0 0x20 = ap (λ (c : Chip). c.core.bus.iists) a.states_agree in omega arith }

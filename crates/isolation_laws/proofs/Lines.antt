@@ -24,7 +24,7 @@ unfolding sda_pulled scl_pulled
 related_free (chips rs (related g z s x x' y y' k o)) =
     let l = left_released k in
     let r = right_released k in
-    (record { sda-level = rw (o.ddc2b, l.sda_free_lem); scl-level = rw (o.ddc2b, l.scl_free_lem) }, record { sda-level = rw (o.ddc2b, r.sda_free_lem); scl-level = rw (o.ddc2b, r.scl_free_lem) })
+    (record { sda_level_lem = rw (o.ddc2b, l.sda_free_lem); scl_level = rw (o.ddc2b, l.scl_free_lem) }, record { sda_level_lem = rw (o.ddc2b, r.sda_free_lem); scl_level = rw (o.ddc2b, r.scl_free_lem) })
 
 -- an ill formed state stays as it is
 ill_formed_free : (c : Chip) → well_formed c ≡ false → LinesFree c → (ws : List ℕ) → FreeThroughout c ws
@@ -55,7 +55,7 @@ begun_released bus_idle = record { sda_free_lem = refl; scl_free_lem = refl }
 
 begun_free : (c : Chip) → mode_of c.core ≡ Ddc2b → Released c.core.bus.phase → LinesFree c
 unfolding sda_pulled scl_pulled
-begun_free c h q = record { sda-level = rw (h, q.sda_free_lem); scl-level = rw (h, q.scl_free_lem) }
+begun_free c h q = record { sda_level_lem = rw (h, q.sda_free_lem); scl_level = rw (h, q.scl_free_lem) }
 
 lines_by : (c : Chip) → mode_of c.core ≡ Ddc2b → {t : Trace} → Begun c.core.bus.phase t → (ws vs : List ℕ) → SeveralTransfers (observer_of c t) (observer_of c t) ws vs
     → (well : Bool) → well_formed c ≡ well → FreeThroughout c ws × FreeThroughout c vs

@@ -53,8 +53,8 @@ module _ (g : Core) (x x' : Bool) (y y' : ℕ) {n : ℕ} (ls ls' : List Bool) (e
       rw (few, gathered_level ls x h, gathered_level ls' x' (rw e h), add-one (length ls))
       (related (raised g 0) true true x x' y y' (address (x ∷ ls) (x' ∷ ls') (ap suc e) (lt-ltb (suc (length ls)) 8 (omega (arith, ltb-true (length ls) 7 few)))) (kept_raised 0 (omega arith) o))
   gather_related true l a a' =
-      let foreign = matches_by_bits g.bus.iiadr n (byte_of (x ∷ ls)) o.address-bits ∙ a in
-      let foreign' = matches_by_bits g.bus.iiadr n (byte_of (x' ∷ ls')) o.address-bits ∙ a' in
+      let foreign = matches_by_bits g.bus.iiadr n (byte_of (x ∷ ls)) o.address_bits_lem ∙ a in
+      let foreign' = matches_by_bits g.bus.iiadr n (byte_of (x' ∷ ls')) o.address_bits_lem ∙ a' in
       rw (eqb-true (length ls) 7 l, gathered_level ls x h, gathered_level ls' x' (rw e h), none_foreign g.bus.iiadr _ foreign, none_foreign g.bus.iiadr _ foreign', foreign, foreign')
       (related (raised g 0) true true x x' (byte_of (x ∷ ls)) (byte_of (x' ∷ ls')) (ignoring (x ∷ ls) (x' ∷ ls')) (kept_raised 0 (omega arith) o))
 

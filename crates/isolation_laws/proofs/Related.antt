@@ -52,19 +52,19 @@ md_low {iists} {mdcon} k = md_of (bit 3 iists) (bit 0 mdcon) k.ddc2b
 -- DDC2B stays where both bits are 0
 pub kept_status : {iists mdcon iiadr irqx own : ℕ} (new : ℕ) → bit 3 new ≡ false → Kept iists mdcon iiadr irqx own → Kept new mdcon iiadr irqx own
 unfolding mode
-kept_status new h k = record { ddc2b = rw (h, md_low k); address-bits = k.address-bits; flags = k.flags }
+kept_status new h k = record { ddc2b = rw (h, md_low k); address_bits_lem = k.address_bits_lem; flags = k.flags }
 
 pub kept_mdcon : {iists mdcon iiadr irqx own : ℕ} (new : ℕ) → bit 0 new ≡ false → Kept iists mdcon iiadr irqx own → Kept iists new iiadr irqx own
 unfolding mode
-kept_mdcon new h k = record { ddc2b = rw (h, enddc_low k); address-bits = k.address-bits; flags = k.flags }
+kept_mdcon new h k = record { ddc2b = rw (h, enddc_low k); address_bits_lem = k.address_bits_lem; flags = k.flags }
 
 -- IRQX stays a byte where flags are set or cleared
 pub kept_raised : {iists mdcon iiadr irqx own : ℕ} (flags : ℕ) → flags < 256 → Kept iists mdcon iiadr irqx own → Kept iists mdcon iiadr (bit_or irqx flags) own
-kept_raised {irqx = irqx} flags h k = record { ddc2b = k.ddc2b; address-bits = k.address-bits; flags = or_lt 8 irqx flags k.flags h }
+kept_raised {irqx = irqx} flags h k = record { ddc2b = k.ddc2b; address_bits_lem = k.address_bits_lem; flags = or_lt 8 irqx flags k.flags h }
 
 pub kept_raised_if : {iists mdcon iiadr irqx own : ℕ} (t : Bool) (k : ℕ) → Kept iists mdcon iiadr irqx own → Kept iists mdcon iiadr (bit_or irqx (weight_if t k)) own
 kept_raised_if true k o = kept_raised (2 ^ (k % 8)) (weight_lt (k % 8) (omega arith)) o
 kept_raised_if false k o = kept_raised 0 (omega arith) o
 
 pub kept_cleared : {iists mdcon iiadr irqx own : ℕ} (mask : ℕ) → Kept iists mdcon iiadr irqx own → Kept iists mdcon iiadr (bit_and irqx mask) own
-kept_cleared {irqx = irqx} mask k = record { ddc2b = k.ddc2b; address-bits = k.address-bits; flags = omega (arith, k.flags, and_le_l irqx mask) }
+kept_cleared {irqx = irqx} mask k = record { ddc2b = k.ddc2b; address_bits_lem = k.address_bits_lem; flags = omega (arith, k.flags, and_le_l irqx mask) }

@@ -58,13 +58,13 @@ carried {o = o} {o' = o'} r w v ws vs p =
 pub advanced_agree : {c d : Chip} {o o' : Observer} → RelatedChips c d o o' → (ws vs : List ℕ) → SeveralTransfers o o' ws vs
     → Agree ws vs (advanced_answers c ws) (advanced_answers d vs) (advanced c ws) (advanced d vs)
 unfolding advance
-advanced_agree r [] [] p = record { answers_agree = refl; states-agree = related_agree r }
+advanced_agree r [] [] p = record { answers_agree = refl; states_agree = related_agree r }
 advanced_agree r [] (v ∷ vs) p = absurd (true≢false (sym p.words))
 advanced_agree r (w ∷ ws) [] p = absurd (true≢false (sym p.words))
 advanced_agree {c} {d} {o} {o'} r (w ∷ ws) (v ∷ vs) p =
     let one = carried r w v ws vs p in
     let rest = advanced_agree {c = next c (decode w)} {d = next d (decode v)} {o = observe o (decode w)} {o' = observe o' (decode v)} one.still ws vs one.rest in
-    record { answers_agree = ap₂ ◌∷◌ one.answer rest.answers_agree; states-agree = rest.states-agree }
+    record { answers_agree = ap₂ ◌∷◌ one.answer rest.answers_agree; states_agree = rest.states_agree }
 
 -- ---- runs by the step: related chips are both well formed or both ill formed
 
@@ -110,17 +110,17 @@ ill_formed_runs c d h h' (w ∷ ws) (v ∷ vs) a =
 stepped_agree : {c d : Chip} {o o' : Observer} → RelatedChips c d o o' → (t : Bool) → well_formed c ≡ t → (ws vs : List ℕ) → SeveralTransfers o o' ws vs
     → Agree ws vs (answers c ws) (answers d vs) (after c ws) (after d vs)
 unfolding advance step
-stepped_agree r t k [] [] p = record { answers_agree = refl; states-agree = related_agree r }
+stepped_agree r t k [] [] p = record { answers_agree = refl; states_agree = related_agree r }
 stepped_agree r t k [] (v ∷ vs) p = absurd (true≢false (sym p.words))
 stepped_agree r t k (w ∷ ws) [] p = absurd (true≢false (sym p.words))
 stepped_agree {c} {d} r false k (w ∷ ws) (v ∷ vs) p =
     let ill = ill_formed_runs c d k (sym (well_formed_equal r) ∙ k) (w ∷ ws) (v ∷ vs) p.words in
-    record { answers_agree = ill.0; states-agree = ap compared_state ill.1 ∙ related_agree r ∙ sym (ap compared_state ill.2) }
+    record { answers_agree = ill.0; states_agree = ap compared_state ill.1 ∙ related_agree r ∙ sym (ap compared_state ill.2) }
 stepped_agree {c} {d} {o} {o'} r true k (w ∷ ws) (v ∷ vs) p =
     let one = carried r w v ws vs p in
     let rest = stepped_agree {c = next c (decode w)} {d = next d (decode v)} {o = observe o (decode w)} {o' = observe o' (decode v)} one.still _ refl ws vs one.rest in
     let well : well_formed d ≡ true = sym (well_formed_equal r) ∙ k in
-    rw (k, well) (record { answers_agree = ap₂ ◌∷◌ one.answer rest.answers_agree; states-agree = rest.states-agree })
+    rw (k, well) (record { answers_agree = ap₂ ◌∷◌ one.answer rest.answers_agree; states_agree = rest.states_agree })
 
 pub run_agree : {c d : Chip} {o o' : Observer} → RelatedChips c d o o' → (ws vs : List ℕ) → SeveralTransfers o o' ws vs → Agree ws vs (answers c ws) (answers d vs) (after c ws) (after d vs)
 run_agree {c} r ws vs p = stepped_agree r (well_formed c) refl ws vs p

@@ -31,7 +31,7 @@ apart bus_idle = idle
 pub self_related : (c : Chip) → mode_of c.core ≡ Ddc2b → c.core.irqx < 256 → {t : Trace} → Begun c.core.bus.phase t → RelatedChips c c (observer_of c t) (observer_of c t)
 self_related c h f b =
     let r = c.core in
-    chips c.registers (related r r.reset r.scl r.sda r.sda r.bus.iidat r.bus.iidat (apart b) (record { ddc2b = h; address-bits = refl; flags = f }))
+    chips c.registers (related r r.reset r.scl r.sda r.sda r.bus.iidat r.bus.iidat (apart b) (record { ddc2b = h; address_bits_lem = refl; flags = f }))
 
 -- ---- by the step
 
@@ -39,7 +39,7 @@ self_related c h f b =
 pub ill_formed_transfer : (c : Chip) → well_formed c ≡ false → (ws vs : List ℕ) → alike ws vs ≡ true → RunsAgree c ws vs
 ill_formed_transfer c k ws vs a =
     let ill = ill_formed_runs c c k k ws vs a in
-    record { answers_agree = ill.0; states-agree = ap compared_state ill.1 ∙ sym (ap compared_state ill.2) }
+    record { answers_agree = ill.0; states_agree = ap compared_state ill.1 ∙ sym (ap compared_state ill.2) }
 
 -- IRQX of a well formed state is a byte
 flags_by : (c : Chip) (t : Bool) → ltb c.core.irqx 64 ≡ t → well_formed c ≡ true → c.core.irqx < 256
@@ -111,7 +111,7 @@ several_transfers_called c h b ws vs xs ys p n n' =
     let both = advanced_agree (self_related c h (flags_lt c one.formed) b) ws vs p in
     record {
       answers_agree = one.answer ∙ both.answers_agree ∙ sym other.answer;
-      states-agree = ap compared_state one.state ∙ both.states-agree ∙ sym (ap compared_state other.state);
+      states_agree = ap compared_state one.state ∙ both.states_agree ∙ sym (ap compared_state other.state);
     }
 
 pub one_transfer_called : (c : Chip) → mode_of c.core ≡ Ddc2b → c.core.bus.phase ≡ start_phase → (ws vs xs ys : List ℕ) → OneTransfer (observer_of c (since [])) ws vs

@@ -45,7 +45,7 @@ written_related g s x x' y y' k o at_hvcon b off md = related (with_polarity g (
 written_related g s x x' y y' k o at_clrflg b off md = related (clrflg_written g b) true s x x' y y' k (kept_cleared (255 - b) o)
 written_related g s x x' y y' k o at_clrwdt b off md = related (clrwdt_written g b) true s x x' y y' k o
 written_related g s x x' y y' k o at_iiadr b off md =
-    related (iiadr_written g b) true s x x' y y' k (record { ddc2b = o.ddc2b; address-bits = address_written g.bus.iiadr b; flags = o.flags })
+    related (iiadr_written g b) true s x x' y y' k (record { ddc2b = o.ddc2b; address_bits_lem = address_written g.bus.iiadr b; flags = o.flags })
 written_related g s x x' y y' k o at_iidat b off md =
     rw ((left_released k).scl_free_lem, (right_released k).scl_free_lem) (related g true s x x' (updated IIDAT y b) (updated IIDAT y' b) k o)
 written_related g s x x' y y' k o at_iists b off md =

@@ -249,7 +249,7 @@ compared_state c = chip_of c.registers (compared_core c.core)
 -- two runs agree: through the words ws and vs, with the answers xs and ys, to the states c and d
 pub record Agree (ws vs xs ys : List ℕ) (c d : Chip) : Type 0 where
   pub answers_agree : compared_answers ws xs ≡ compared_answers vs ys
-  pub states-agree : compared_state c ≡ compared_state d
+  pub states_agree : compared_state c ≡ compared_state d
 
 -- the two runs by the step from one state
 abbrev pub RunsAgree : Chip → List ℕ → List ℕ → Type 0

@@ -13,8 +13,8 @@ scl_line_of c = line (scl_pulled (mode_of c.core) c.core.bus.phase) c.core.scl
 
 -- both lines are at their outside levels
 pub record LinesFree (c : Chip) : Type 0 where
-  pub sda-level : sda_line_of c ≡ c.core.sda
-  pub scl-level : scl_line_of c ≡ c.core.scl
+  pub sda_level_lem : sda_line_of c ≡ c.core.sda
+  pub scl_level : scl_line_of c ≡ c.core.scl
 
 -- before each word of a run, and after the last
 abbrev pub FreeThroughout : Chip → List ℕ → Type 0

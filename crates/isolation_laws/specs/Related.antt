@@ -42,7 +42,7 @@ pub data Apart : Phase → Phase → Trace → Trace → Type 0 where
 -- DDC2B by II STS and MDCON, II ADR with the address bits of the byte last written, and IRQX a byte
 pub record Kept (iists mdcon iiadr irqx own : ℕ) : Type 0 where
   pub ddc2b : mode iists mdcon ≡ Ddc2b
-  pub address-bits : address_bits iiadr ≡ address_bits own
+  pub address_bits_lem : address_bits iiadr ≡ address_bits own
   pub flags : irqx < 256
 
 abbrev pub KeptBy : Core → ℕ → Type 0

@@ -12,7 +12,7 @@ use lib.Seq.{drop-cons, set_at, length-take-le}
 use borrow.Author.Tests.{eq-eqb, ne_eqb, lt-ltb, le-ltb}
 use Rattle.bits.specs.Byte.{pick}
 use Rattle.bits.proofs.Level.{pick_by}
-use Rattle.list_laws.proofs.Place.{put-take, put-drop, put-length, drop_later}
+use Rattle.list_laws.proofs.Place.{put_take, put_drop, put_length, drop_later}
 use Rattle.line_tokens.specs.Written.{written, piece, pieces, line_of}
 use Rattle.line_text.specs.Line.{Put, size, content, line_size, line_content}
 
@@ -51,14 +51,14 @@ module _ (old : List ℕ) (at : ℕ) (part : List ℕ) (e : ℕ) (new : List ℕ
 
 module _ {old : List ℕ} {at : ℕ} {p : List ℕ} {e : ℕ} {mid : List ℕ} {q : List ℕ} {f : ℕ} {new : List ℕ} (a : Put old at p e mid) (b : Put mid e q f new) (h : at + length p ≤ length old) where
   taken : take e mid ≡ take at old ++ p
-  taken = rw (a.ends, a.stands) (put-take old p at h)
+  taken = rw (a.ends, a.stands) (put_take old p at h)
 
   kept : drop e mid ≡ drop e old
-  kept = rw (a.ends, a.stands) (put-drop old p at h)
+  kept = rw (a.ends, a.stands) (put_drop old p at h)
 
   -- a part after a part is one part
-  pub put-join : Put old at (p ++ q) f new
-  put-join =
+  pub put_join : Put old at (p ++ q) f new
+  put_join =
       let n : length (p ++ q) ≡ length p + length q = length-append p q in
       let k : e + length q ≡ at + length (p ++ q) = omega (arith, a.ends) in
       record {
@@ -73,7 +73,7 @@ module _ {old : List ℕ} {at : ℕ} {p : List ℕ} {e : ℕ} {mid : List ℕ} {
       }
 
 pub put_size : {old : List ℕ} {at : ℕ} {p : List ℕ} {e : ℕ} {new : List ℕ} → Put old at p e new → at + length p ≤ length old → length new ≡ length old
-put_size {old} {at} {p} {e} {new} u h = rw u.stands (put-length old p at h)
+put_size {old} {at} {p} {e} {new} u h = rw u.stands (put_length old p at h)
 
 -- ---- a token as it is written
 
@@ -119,7 +119,7 @@ piece_none old at v e = rw e (put_none old at)
 pub piece_some : (old : List ℕ) (at v f : ℕ) (new : List ℕ) → (v ≡ 0 → ⊥) → at + 9 ≤ length old → Put (set old at 32) (at + 1) (written 8 v) f new → Put old at (piece v) f new
 unfolding piece
 piece_some old at v f new g h p =
-    rw (ne_eqb v 0 g) (put-join (put_byte old at [] at old (put_none old at) 32 (omega arith)) p (omega arith))
+    rw (ne_eqb v 0 g) (put_join (put_byte old at [] at old (put_none old at) 32 (omega arith)) p (omega arith))
 
 pub piece_length : (v : ℕ) → length (piece v) ≤ 9
 unfolding piece
@@ -164,7 +164,7 @@ pub standing_next : {old tokens : List ℕ} {i at : ℕ} {mid : List ℕ} {end :
 standing_next {old} {tokens} {i} {at} {mid} {end} {new} h k s p = record {
   so_far = omega arith;
   room = omega (arith, p.ends, s.room, piece_length (get_or tokens i 0));
-  put = rw (pieces_more tokens i h) (put-join s.put p (omega (arith, s.put.ends, s.room)));
+  put = rw (pieces_more tokens i h) (put_join s.put p (omega (arith, s.put.ends, s.room)));
 }
 
 take_all : (l : List ℕ) (n : ℕ) → length l ≤ n → take n l ≡ l

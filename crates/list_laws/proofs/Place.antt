@@ -39,14 +39,14 @@ module _ (old l : List ℕ) (at : ℕ) (h : at + length l ≤ length old) where
   apart : put old at l ≡ (take at old ++ l) ++ drop (at + length l) old
   apart = sym (append_assoc (take at old) l (drop (at + length l) old))
 
-  pub put-take : take (at + length l) (put old at l) ≡ take at old ++ l
-  put-take = ap (take (at + length l)) apart ∙ take_at (take at old ++ l) (drop (at + length l) old) (at + length l) front
+  pub put_take : take (at + length l) (put old at l) ≡ take at old ++ l
+  put_take = ap (take (at + length l)) apart ∙ take_at (take at old ++ l) (drop (at + length l) old) (at + length l) front
 
-  pub put-drop : drop (at + length l) (put old at l) ≡ drop (at + length l) old
-  put-drop = ap (drop (at + length l)) apart ∙ drop_at (take at old ++ l) (drop (at + length l) old) (at + length l) front
+  pub put_drop : drop (at + length l) (put old at l) ≡ drop (at + length l) old
+  put_drop = ap (drop (at + length l)) apart ∙ drop_at (take at old ++ l) (drop (at + length l) old) (at + length l) front
 
-  pub put-length : length (put old at l) ≡ length old
-  put-length = ap length apart ∙ length-append (take at old ++ l) (drop (at + length l) old) ∙ omega (arith, front, length-drop (at + length l) old)
+  pub put_length : length (put old at l) ≡ length old
+  put_length = ap length apart ∙ length-append (take at old ++ l) (drop (at + length l) old) ∙ omega (arith, front, length-drop (at + length l) old)
 
 -- what is equal from an index on is equal from a later one on
 pub drop_later : (a b : List ℕ) (at n : ℕ) → drop at a ≡ drop at b → drop (at + n) a ≡ drop (at + n) b

@@ -109,11 +109,11 @@ module _ (own : ℕ) (cs : List ℕ) (s n m : ℕ) (t : Transfer) (h : s < lengt
   length_left : length (left own cs s) ≡ num (has_address t) + length (pick (ends_by own t) [] (left own cs (s + 1)))
   length_left = ap length (left_of own cs s t h e) ∙ length_by (has_address t) (found own t.byte) (pick (ends_by own t) [] (left own cs (s + 1)))
 
-  pub count-more : ends_by own t ≡ false → m + length (left own cs (s + 1)) ≡ length (addresses own cs)
-  count-more f = omega (arith, rw f at length_left)
+  pub count_more : ends_by own t ≡ false → m + length (left own cs (s + 1)) ≡ length (addresses own cs)
+  count_more f = omega (arith, rw f at length_left)
 
-  pub count-last : ends_by own t ≡ true → m ≡ length (addresses own cs)
-  count-last f = omega (arith, rw f at length_left)
+  pub count_last_lem : ends_by own t ≡ true → m ≡ length (addresses own cs)
+  count_last_lem f = omega (arith, rw f at length_left)
 
   pub count_within : n ≤ s → m ≤ s + 1
   count_within w = omega (arith, num_lt (has_address t))
@@ -157,8 +157,8 @@ all_put all old now n l =
 
 module _ (own : ℕ) (cs old now : List ℕ) (n s : ℕ) (t : Transfer) (h : s < length cs) (e : t ≡ transfer_at cs s) (k : length (addresses own cs) ≤ length old)
     (l : Listing (addresses own cs) old now n (left own cs s)) where
-  pub room-place : n + num (has_address t) ≤ length now
-  room-place =
+  pub room_place : n + num (has_address t) ≤ length now
+  room_place =
       let z = ap length (left_of own cs s t h e) ∙ length_by (has_address t) (found own t.byte) (pick (ends_by own t) [] (left own cs (s + 1))) in
       omega (arith, z, l.same, l.count)
 
@@ -166,11 +166,11 @@ module _ (own : ℕ) (cs old now : List ℕ) (n s : ℕ) (t : Transfer) (h : s <
     listing_place : Listing (addresses own cs) old new m (pick (ends_by own t) [] (left own cs (s + 1)))
     listing_place = rw (p, q) (put_one (addresses own cs) old now n (has_address t) (found own t.byte) (pick (ends_by own t) [] (left own cs (s + 1))) k (rw (left_of own cs s t h e) at l))
 
-    pub listing-more : ends_by own t ≡ false → Listing (addresses own cs) old new m (left own cs (s + 1))
-    listing-more f = rw f at listing_place
+    pub listing_more : ends_by own t ≡ false → Listing (addresses own cs) old new m (left own cs (s + 1))
+    listing_more f = rw f at listing_place
 
-    pub listing-last : ends_by own t ≡ true → Listing (addresses own cs) old new m []
-    listing-last f = rw f at listing_place
+    pub listing_last : ends_by own t ≡ true → Listing (addresses own cs) old new m []
+    listing_last f = rw f at listing_place
 
 pub listing_end : (own : ℕ) (cs old now : List ℕ) (n s : ℕ) → length cs ≤ s → Listing (addresses own cs) old now n (left own cs s)
     → now ≡ map word_of (addresses own cs) ++ drop (length (addresses own cs)) old

@@ -33,7 +33,7 @@ use Rattle.plain_bus.specs.Plain.{line_of, level_of, line_at, high_at, level_bef
 use Rattle.plain_bus.specs.Reading.{fault_of, or_else, first_fault}
 use Rattle.plain_bus_laws.specs.Stepping.{event_of, completed_by, Begins}
 use Rattle.plain_bus_laws.proofs.Sampled.{Kind, At, sda_kind, scl_kind, at_sda, at_scl, Sampled, nothing, sampled_next, found_next, stops_next, found_in, read_in, turn, last_turn, Few, end_found, end_reads}
-use Rattle.plain_bus_laws.proofs.Follows.{idle, few, Follows, follows, completes_core, Moved, sda-follows, scl-follows, stop_completes}
+use Rattle.plain_bus_laws.proofs.Follows.{idle, few, Follows, follows, completes_core, Moved, sda_follows, scl_follows, stop_completes}
 
 -- ---- a change with no fault
 
@@ -103,11 +103,11 @@ module _ (c : Chip) (w : well_formed c ≡ true) (change : ℕ) where
 
 sda_moved_lem : {own : ℕ} {c : Core} {s x : Bool} {h : Sampled} (l : Bool) → Follows own c s x h
     → Moved own c (sda_moved c l) s l (sampled_next own (sda_kind s x l) h) (found_next own (sda_kind s x l) h)
-sda_moved_lem l (follows g s x y p k) = sda-follows g y k s x l p
+sda_moved_lem l (follows g s x y p k) = sda_follows g y k s x l p
 
 scl_moved_lem : {own : ℕ} {c : Core} {s x : Bool} {h : Sampled} (l : Bool) → Follows own c s x h → stops_next (scl_kind s x l) h ≡ false
     → Moved own c (scl_moved c l) l x (sampled_next own (scl_kind s x l) h) (found_next own (scl_kind s x l) h)
-scl_moved_lem l (follows g s x y p k) e = scl-follows g x y k s l p e
+scl_moved_lem l (follows g s x y p k) e = scl_follows g x y k s l p e
 
 follows_few : {own : ℕ} {c : Core} {s x : Bool} {h : Sampled} → Follows own c s x h → Few h
 follows_few (follows g s x y p k) = few p
@@ -193,10 +193,10 @@ first_by : {own : ℕ} (c : Chip) (q : Phase) (s x z : Bool) → Begins own c �
     → Follows own (frame c.core z s x q c.core.bus.iidat) true true nothing
 first_by c q s x z b e h i j =
     rw (e, h, i, j)
-    (follows c.core true true c.core.bus.iidat (idle true) (record { ddc2b = b.ddc2b; address-bits = b.address; flags = flags_lt c b.well }))
+    (follows c.core true true c.core.bus.iidat (idle true) (record { ddc2b = b.ddc2b; address_bits_lem = b.address; flags = flags_lt c b.well }))
 
 first : {own : ℕ} (c : Chip) → Begins own c → Follows own c.core true true nothing
-first c b = first_by c c.core.bus.phase c.core.scl c.core.sda c.core.reset b b.idle b.scl-high b.sda-high b.reset-high
+first c b = first_by c c.core.bus.phase c.core.scl c.core.sda c.core.reset b b.idle b.scl_high_lem b.sda_high b.reset_high
 
 -- the addresses that the plain reading lists, their order and their outcomes are those that the stepping engine completes, up to the stop
 pub agree : (own : ℕ) (c : Chip) → Begins own c → (cs : List ℕ) → first_fault cs ≡ NoFault

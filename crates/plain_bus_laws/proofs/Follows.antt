@@ -117,20 +117,20 @@ stays (pulls matched byte) flag y = refl
 -- ---- SDA
 
 module _ {own : ℕ} (g : Core) (y : ℕ) (k : KeptBy g own) where
-  pub sda-follows : (s x l : Bool) {q : Phase} {h : Sampled} → Phased s q h
+  pub sda_follows : (s x l : Bool) {q : Phase} {h : Sampled} → Phased s q h
       → Moved own (frame g true s x q y) (sda_moved (frame g true s x q y) l) s l (sampled_next own (sda_kind s x l) h) (found_next own (sda_kind s x l) h)
   unfolding sda_moved on_sda on_sda_ddc2b sda_pulled scl_pulled started stopped
-  sda-follows false x l p = rw (k.ddc2b, scl_free_lem p, unmoved_at_low) (record { core = follows g false l y p k; same = stays p _ y })
-  sda-follows true true true p = rw (k.ddc2b, scl_free_lem p, sda_free_lem p) (record { core = follows g true true y p k; same = stays p _ y })
-  sda-follows true false false p = rw (k.ddc2b, scl_free_lem p, sda_free_lem p) (record { core = follows g true false y p k; same = stays p _ y })
-  sda-follows true true false {q} p =
+  sda_follows false x l p = rw (k.ddc2b, scl_free_lem p, unmoved_at_low) (record { core = follows g false l y p k; same = stays p _ y })
+  sda_follows true true true p = rw (k.ddc2b, scl_free_lem p, sda_free_lem p) (record { core = follows g true true y p k; same = stays p _ y })
+  sda_follows true false false p = rw (k.ddc2b, scl_free_lem p, sda_free_lem p) (record { core = follows g true false y p k; same = stays p _ y })
+  sda_follows true true false {q} p =
       rw (k.ddc2b, scl_free_lem p, sda_free_lem p)
       (record {
         core = follows (with_bus g (bus_of (start_status g.bus.iists) g.bus.iiadr 0 Idle g.bus.shifter)) true false y (gathers true [] refl)
             (kept_status (start_status g.bus.iists) (rw (bit_or_lem, start_enddc, enddc_low k)) k);
         same = pick_none (lacks_one q);
       })
-  sda-follows true false true {q} p =
+  sda_follows true false true {q} p =
       rw (k.ddc2b, scl_free_lem p, sda_free_lem p)
       (record {
         core = follows (with_bus g (bus_of (stop_status g.bus.iists) g.bus.iiadr 0 Idle g.bus.shifter)) true true y (idle true)
@@ -186,10 +186,10 @@ module _ {own : ℕ} (g : Core) (x : Bool) (y : ℕ) (k : KeptBy g own) where
       (sampled_eight (is_own outcome)) (told (byte_of (ls ++ (x ∷ []))) outcome ∷ [])
   unfolding scl_rise bus_at_rise phase_at_rise data_at_rise matches_at_rise status_at_rise pulls_sda
   gather_last ls f l None m =
-      rw (eqb-true (length ls) 7 l, gathered_level ls x f, ← own_matches g.bus.iiadr (byte_of (ls ++ (x ∷ []))), compared_by_bits g.bus.iiadr own (byte_of (ls ++ (x ∷ []))) k.address-bits, m)
+      rw (eqb-true (length ls) 7 l, gathered_level ls x f, ← own_matches g.bus.iiadr (byte_of (ls ++ (x ∷ []))), compared_by_bits g.bus.iiadr own (byte_of (ls ++ (x ∷ []))) k.address_bits_lem, m)
       (record { core = follows (raised g 0) true x (byte_of (ls ++ (x ∷ []))) (ignores true) (kept_raised 0 (omega arith) k); same = refl })
   gather_last ls f l (Own matched) m =
-      rw (eqb-true (length ls) 7 l, gathered_level ls x f, ← own_matches g.bus.iiadr (byte_of (ls ++ (x ∷ []))), compared_by_bits g.bus.iiadr own (byte_of (ls ++ (x ∷ []))) k.address-bits, m)
+      rw (eqb-true (length ls) 7 l, gathered_level ls x f, ← own_matches g.bus.iiadr (byte_of (ls ++ (x ∷ []))), compared_by_bits g.bus.iiadr own (byte_of (ls ++ (x ∷ []))) k.address_bits_lem, m)
       (record { core = follows (raised g 0x08) true x (byte_of (ls ++ (x ∷ []))) (waits matched (byte_of (ls ++ (x ∷ [])))) (kept_raised 0x08 (omega arith) k); same = rw (flag_raised g.irqx) })
 
   gather_follows : (ls : List Bool) (f : ltb (length ls) 8 ≡ true) (last : Bool) → eqb (length ls) 7 ≡ last
@@ -207,13 +207,13 @@ module _ {own : ℕ} (g : Core) (x : Bool) (y : ℕ) (k : KeptBy g own) where
   rise_follows (gathers s ls f) e = gather_follows ls f (eqb (length ls) 7) refl
   rise_follows (pulls matched byte) e = absurd (true≢false e)
 
-  pub scl-follows : (s l : Bool) {q : Phase} {h : Sampled} → Phased s q h → stops_next (scl_kind s x l) h ≡ false
+  pub scl_follows : (s l : Bool) {q : Phase} {h : Sampled} → Phased s q h → stops_next (scl_kind s x l) h ≡ false
       → Moved own (frame g true s x q y) (scl_moved (frame g true s x q y) l) l x (sampled_next own (scl_kind s x l) h) (found_next own (scl_kind s x l) h)
   unfolding scl_moved on_scl on_scl_ddc2b scl_pulled
-  scl-follows true true p e = rw (k.ddc2b, scl_free_lem p) (record { core = follows g true x y p k; same = stays p _ y })
-  scl-follows false false p e = rw (k.ddc2b, scl_free_lem p) (record { core = follows g false x y p k; same = stays p _ y })
-  scl-follows true false p e = rw (k.ddc2b, scl_free_lem p) (fall_follows p)
-  scl-follows false true p e = rw (k.ddc2b, scl_free_lem p) (rise_follows p e)
+  scl_follows true true p e = rw (k.ddc2b, scl_free_lem p) (record { core = follows g true x y p k; same = stays p _ y })
+  scl_follows false false p e = rw (k.ddc2b, scl_free_lem p) (record { core = follows g false x y p k; same = stays p _ y })
+  scl_follows true false p e = rw (k.ddc2b, scl_free_lem p) (fall_follows p)
+  scl_follows false true p e = rw (k.ddc2b, scl_free_lem p) (rise_follows p e)
 
 -- at the stop nothing is completed
 pub stop_completes : {s : Bool} {q : Phase} {h : Sampled} → Phased s q h → (i : Kind) → stops_next i h ≡ true → lacks_one q ≡ false

@@ -30,4 +30,4 @@ example_completed c b = sym (agree 0x6e c b example example_good) ∙ example_fo
 -- a fresh chip with DDC2B turned on and II ADR written is such a state
 pub ready_begins : Begins 0x6e ready
 unfolding opened ready
-ready_begins = record { well = refl; ddc2b = refl; idle = refl; scl-high = refl; sda-high = refl; reset-high = refl; address = refl }
+ready_begins = record { well = refl; ddc2b = refl; idle = refl; scl_high_lem = refl; sda_high = refl; reset_high = refl; address = refl }

@@ -52,7 +52,7 @@ pub record Begins (own : ℕ) (c : Chip) : Type 0 where
   pub well : well_formed c ≡ true
   pub ddc2b : mode_of c.core ≡ Ddc2b
   pub idle : c.core.bus.phase ≡ Idle
-  pub scl-high : c.core.scl ≡ true
-  pub sda-high : c.core.sda ≡ true
-  pub reset-high : c.core.reset ≡ true
+  pub scl_high_lem : c.core.scl ≡ true
+  pub sda_high : c.core.sda ≡ true
+  pub reset_high : c.core.reset ≡ true
   pub address : address_bits c.core.bus.iiadr ≡ address_bits own

@@ -15,7 +15,7 @@ use Rattle.firmware_isolation_laws.specs.Words.{is_foreign_list}
 use Rattle.recall_laws.specs.Host.{sda, read}
 use Rattle.recall_laws.specs.Wait.{power_up, Waits, is_among}
 use Rattle.recall_laws.proofs.Bytes.{Foreign, foreign_timed, observer, levels, one, byte, level_byte, refused}
-use Rattle.recall_laws.proofs.Forever.{stays_on, answers-on}
+use Rattle.recall_laws.proofs.Forever.{stays_on, answers_on}
 use Rattle.recall_image_laws.specs.Image.{rom, waiting, is_waiting}
 use Rattle.recall_image_laws.specs.Lists.{said, times, transfer, stored, is_foreign, heard}
 use Rattle.recall_image_laws.proofs.Opened.{image}
@@ -32,7 +32,7 @@ stays_dark fs h n = stays_on is_waiting rom stored (power_up rom) 15 2138 boots 
 -- PT0 reads FE before the transfer and after it, and no answer between shows a request
 pub answers_dark : (fs : List ℕ) → is_foreign fs ≡ true → (n : ℕ) → (runs (2153 + n) 0 rom fs (power_up rom)).answers ≡ heard
 unfolding is_foreign waiting
-answers_dark fs h n = answers-on is_waiting rom stored (power_up rom) 15 2138 boots begins stored_run InWait turns test_holds reached fs h n reads_no_data ∙ end_answers
+answers_dark fs h n = answers_on is_waiting rom stored (power_up rom) 15 2138 boots begins stored_run InWait turns test_holds reached fs h n reads_no_data ∙ end_answers
 
 -- ---- every address but the chip's, and every two bytes after it
 
@@ -47,8 +47,8 @@ words_foreign own a c d e g h z =
     (byte own 0 true true d e x y _ _ refl refl refl refl refl refl refl refl refl
     (byte own 0 true true g h x' y' _ _ refl refl refl refl refl refl refl refl refl
     (one own 0 true true false false (since (true ∷ (levels g ++ x'))) (since (true ∷ (levels h ++ y'))) (sda true ∷ read 0 ∷ []) (sda true ∷ read 0 ∷ []) refl
-    (record { left-words = refl; right-words = refl; same = refl; right = refl; sda = refl })))) in
-    record { left-words = q.left-words; right-words = q.right-words; same = q.same; right = q.right; sda = q.sda }
+    (record { left_words = refl; right_words = refl; same = refl; right = refl; sda = refl })))) in
+    record { left_words = q.left_words; right_words = q.right_words; same = q.same; right = q.right; sda = q.sda }
 
 waiting_observer : observer_of waiting.chip none ≡ observer waiting.chip.core.bus.iiadr 0 true none
 unfolding image

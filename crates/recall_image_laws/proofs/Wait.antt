@@ -18,7 +18,7 @@ use Rattle.firmware_machine.specs.Run.{runs}
 use Rattle.firmware_isolation_laws.specs.Trace.{instruction_accesses}
 use Rattle.recall_laws.specs.Wait.{is_uninterrupted, holds_at}
 use Rattle.recall_laws.proofs.Forever.{TurnStays}
-use Rattle.recall_laws.proofs.Quiet.{Quiet, quiet, quiet-registers, silence, quiet_of, quiet-after, quiet-cleared, quiet-turn, quiet-accesses}
+use Rattle.recall_laws.proofs.Quiet.{Quiet, quiet, quiet_registers, silence, quiet_of, quiet_after, quiet_cleared, quiet_turn, quiet_accesses}
 use Rattle.recall_image_laws.specs.Image.{rom, waiting, is_waiting}
 use Rattle.recall_image_laws.specs.Lists.{stored}
 use Rattle.recall_image_laws.proofs.Opened.{image}
@@ -38,23 +38,23 @@ pub data InWait : Machine → Type 0 where
 instructs : (m : Machine) → InWait m → ((instruct rom m).number ≡ 0) × (is_uninterrupted (instruction_accesses rom m) ≡ true) × InWait (instruct rom m).machine
 unfolding image
 instructs _ (at_constant a x y s over n v d z c ram rs k q h g) =
-    (refl, refl, at_store x y s ((over + 2) % 32) false v d false c ram rs (pick (ltb (over + 2) 32) k (next k (Clock 0))) (quiet-after k q (ltb (over + 2) 32)) h g)
+    (refl, refl, at_store x y s ((over + 2) % 32) false v d false c ram rs (pick (ltb (over + 2) 32) k (next k (Clock 0))) (quiet_after k q (ltb (over + 2) 32)) h g)
 instructs _ (at_store x y s over n v d z c ram rs k (quiet irqx mdcon polarity bt watchdog sync bus pins sda scl e) h g) =
     let k' = next k (Write CLRWDT 0x55) in
-    let q = quiet-cleared k (quiet irqx mdcon polarity bt watchdog sync bus pins sda scl e) in
-    (refl, refl, at_load 0x55 x y s ((over + 3) % 32) n v d z c ram rs (pick (ltb (over + 3) 32) k' (next k' (Clock 0))) (quiet-after k' q (ltb (over + 3) 32)) h g)
+    let q = quiet_cleared k (quiet irqx mdcon polarity bt watchdog sync bus pins sda scl e) in
+    (refl, refl, at_load 0x55 x y s ((over + 3) % 32) n v d z c ram rs (pick (ltb (over + 3) 32) k' (next k' (Clock 0))) (quiet_after k' q (ltb (over + 3) 32)) h g)
 instructs _ (at_load a x y s over n v d z c ram rs k q h g) =
-    rw h (refl, refl, at_branch 0 x y s ((over + 3) % 32) false v d c ram rs (pick (ltb (over + 3) 32) k (next k (Clock 0))) (quiet-after k q (ltb (over + 3) 32)) h g)
+    rw h (refl, refl, at_branch 0 x y s ((over + 3) % 32) false v d c ram rs (pick (ltb (over + 3) 32) k (next k (Clock 0))) (quiet_after k q (ltb (over + 3) 32)) h g)
 instructs _ (at_branch a x y s over n v d c ram rs k q h g) =
-    (refl, refl, at_constant a x y s ((over + 3) % 32) n v d true c ram rs (pick (ltb (over + 3) 32) k (next k (Clock 0))) (quiet-after k q (ltb (over + 3) 32)) h g)
+    (refl, refl, at_constant a x y s ((over + 3) % 32) n v d true c ram rs (pick (ltb (over + 3) 32) k (next k (Clock 0))) (quiet_after k q (ltb (over + 3) 32)) h g)
 
 turn_by : (c : Cpu) (ram rs : List ℕ) (k : Chip) → Quiet rs k → InWait (machine c ram k) → TurnStays InWait rom (machine c ram k)
 turn_by c ram rs k q w =
     let z = instructs (machine c ram k) w in
     record {
-      number = rw (quiet-turn rom c ram k q) z.0;
-      accesses = rw (quiet-accesses rom c ram k q) z.1;
-      machine = rw (quiet-turn rom c ram k q) z.2;
+      number = rw (quiet_turn rom c ram k q) z.0;
+      accesses = rw (quiet_accesses rom c ram k q) z.1;
+      machine = rw (quiet_turn rom c ram k q) z.2;
     }
 
 pub turns : (m : Machine) → InWait m → TurnStays InWait rom m
@@ -64,10 +64,10 @@ turns _ (at_load a x y s over n v d z c ram rs k q h g) = turn_by _ ram rs k q (
 turns _ (at_branch a x y s over n v d c ram rs k q h g) = turn_by _ ram rs k q (at_branch a x y s over n v d c ram rs k q h g)
 
 pub test_holds : (m : Machine) → InWait m → holds_at is_waiting m ≡ true
-test_holds _ (at_constant a x y s over n v d z c ram rs k q h g) = rw (quiet-registers k q, h, g)
-test_holds _ (at_store x y s over n v d z c ram rs k q h g) = rw (quiet-registers k q, h, g)
-test_holds _ (at_load a x y s over n v d z c ram rs k q h g) = rw (quiet-registers k q, h, g)
-test_holds _ (at_branch a x y s over n v d c ram rs k q h g) = rw (quiet-registers k q, h, g)
+test_holds _ (at_constant a x y s over n v d z c ram rs k q h g) = rw (quiet_registers k q, h, g)
+test_holds _ (at_store x y s over n v d z c ram rs k q h g) = rw (quiet_registers k q, h, g)
+test_holds _ (at_load a x y s over n v d z c ram rs k q h g) = rw (quiet_registers k q, h, g)
+test_holds _ (at_branch a x y s over n v d c ram rs k q h g) = rw (quiet_registers k q, h, g)
 
 -- the end of the stored run is in it, and so is that of every run that agrees
 pub reached : (m : Machine) → (runs 2138 15 rom stored waiting).machine.cpu ≡ m.cpu → (runs 2138 15 rom stored waiting).machine.ram ≡ m.ram

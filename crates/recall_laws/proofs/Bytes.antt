@@ -58,8 +58,8 @@ timed_alike (i ∷ is) (w ∷ ws) (v ∷ vs) g h q =
 -- ---- two lists of words
 
 pub record Foreign (o p : Observer) (ws vs : List ℕ) : Type 0 where
-  pub left-words : are_words ws ≡ true
-  pub right-words : are_words vs ≡ true
+  pub left_words : are_words ws ≡ true
+  pub right_words : are_words vs ≡ true
   pub same : alike ws vs ≡ true
   pub right : throughout permitted p vs ≡ true
   pub sda : equal_throughout o p ws vs ≡ true
@@ -67,7 +67,7 @@ pub record Foreign (o p : Observer) (ws vs : List ℕ) : Type 0 where
 -- the same words before the same instructions
 pub foreign_timed : (is : List ℕ) (o : Observer) (ws vs : List ℕ) → same_length is ws ≡ true → same_length is vs ≡ true → Foreign o o ws vs → is_foreign_list (timed is ws) o (timed is vs) ≡ true
 foreign_timed is o ws vs l k q =
-    rw (timed_alike is ws vs q.left-words q.right-words q.same, timed_words is ws l q.left-words, timed_words is vs k q.right-words, q.right, q.sda)
+    rw (timed_alike is ws vs q.left_words q.right_words q.same, timed_words is ws l q.left_words, timed_words is vs k q.right_words, q.right, q.sda)
 
 -- ---- bits and bytes
 
@@ -84,10 +84,10 @@ module _ (own dog : ℕ) where
   pub one : (s t b c : Bool) (x y : Trace) (ws vs : List ℕ) → completes_match own c y ≡ false
       → Foreign (observer own dog b (gather b x)) (observer own dog c (gather c y)) ws vs → Foreign (observer own dog s x) (observer own dog t y) (bit_words b ++ ws) (bit_words c ++ vs)
   unfolding decode word.event word.no_event word.no_place word.bad_byte observe permitted untouched
-  one s t true true x y ws vs h q = record { left-words = q.left-words; right-words = q.right-words; same = q.same; right = rw h q.right; sda = q.sda }
-  one s t true false x y ws vs h q = record { left-words = q.left-words; right-words = q.right-words; same = q.same; right = rw h q.right; sda = q.sda }
-  one s t false true x y ws vs h q = record { left-words = q.left-words; right-words = q.right-words; same = q.same; right = rw h q.right; sda = q.sda }
-  one s t false false x y ws vs h q = record { left-words = q.left-words; right-words = q.right-words; same = q.same; right = rw h q.right; sda = q.sda }
+  one s t true true x y ws vs h q = record { left_words = q.left_words; right_words = q.right_words; same = q.same; right = rw h q.right; sda = q.sda }
+  one s t true false x y ws vs h q = record { left_words = q.left_words; right_words = q.right_words; same = q.same; right = rw h q.right; sda = q.sda }
+  one s t false true x y ws vs h q = record { left_words = q.left_words; right_words = q.right_words; same = q.same; right = rw h q.right; sda = q.sda }
+  one s t false false x y ws vs h q = record { left_words = q.left_words; right_words = q.right_words; same = q.same; right = rw h q.right; sda = q.sda }
 
   -- a byte in both, with x and y gathered before; no bit of it completes the chip's address
   pub byte : (s t : Bool) (a c : ℕ) (x y : List Bool) (ws vs : List ℕ)

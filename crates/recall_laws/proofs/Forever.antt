@@ -17,7 +17,7 @@ use Rattle.firmware_isolation_laws.specs.Trace.{Entry, entries, turn_accesses, e
 use Rattle.firmware_isolation_laws.specs.Words.{is_foreign_list, lists_no_data}
 use Rattle.firmware_isolation_laws.proofs.Parts.{trace_on}
 use Rattle.recall_laws.specs.Wait.{Waits, is_uninterrupted, holds_at}
-use Rattle.recall_laws.proofs.Stored.{Boots, Stored, begins_at, uninterrupted_append, agrees, run-parts, stays, answers, none_left}
+use Rattle.recall_laws.proofs.Stored.{Boots, Stored, begins_at, uninterrupted_append, agrees, run_parts, stays, answers, none_left}
 
 -- the turn of an instruction from a machine of which W holds: not refused, with no interrupt, to another one
 pub record TurnStays (W : Machine → Type 0) (rom : List ℕ) (m : Machine) : Type 0 where
@@ -37,12 +37,12 @@ entries_accesses [] = refl
 entries_accesses (x ∷ a) = ap (◌∷◌ x) (entries_accesses a)
 
 module _ (W : Machine → Type 0) (rom : List ℕ) (turns : (m : Machine) → W m → TurnStays W rom m) where
-  pub run-stays : (n i : ℕ) (m : Machine) → W m → RunStays W n i rom m
+  pub run_stays : (n i : ℕ) (m : Machine) → W m → RunStays W n i rom m
   unfolding runs trace after_events answers_before left events_before
-  run-stays zero i m w = record { number = refl; answers = refl; machine = w; accesses = refl }
-  run-stays (suc n) i m w =
+  run_stays zero i m w = record { number = refl; answers = refl; machine = w; accesses = refl }
+  run_stays (suc n) i m w =
       let t = turns m w in
-      let z = run-stays n (i + 1) (turn rom m).machine t.machine in
+      let z = run_stays n (i + 1) (turn rom m).machine t.machine in
       let a = turn_accesses rom m in
       record {
         number = rw t.number z.number;
@@ -61,13 +61,13 @@ module _ (test : Cpu → List ℕ → List ℕ → Bool) (rom es : List ℕ) (st
     ended_waiting : W (runs (l + n) 0 rom fs start).machine
     ended_waiting =
         let z = agrees test rom es start l n boots begins stored fs h in
-        subst (λ (e : Ended). W e.machine) (sym (run-parts test rom es start l n boots begins stored fs h)) (reached _ z.cpu z.ram z.chip)
+        subst (λ (e : Ended). W e.machine) (sym (run_parts test rom es start l n boots begins stored fs h)) (reached _ z.cpu z.ram z.chip)
 
     unrefused : eqb (runs (l + n) 0 rom fs start).number 0 ≡ true
     unrefused = ap (λ (x : ℕ). eqb x 0) (stays test rom es start l n boots begins stored fs h).unrefused
 
     more : RunStays W k (0 + (l + n)) rom (runs (l + n) 0 rom fs start).machine
-    more = run-stays W rom turns k (0 + (l + n)) (runs (l + n) 0 rom fs start).machine ended_waiting
+    more = run_stays W rom turns k (0 + (l + n)) (runs (l + n) 0 rom fs start).machine ended_waiting
 
     goes_on : runs (l + n + k) 0 rom fs start ≡ prepended (runs (l + n) 0 rom fs start).answers (runs k (0 + (l + n)) rom [] (runs (l + n) 0 rom fs start).machine)
     goes_on =
@@ -95,7 +95,7 @@ module _ (test : Cpu → List ℕ → List ℕ → Bool) (rom es : List ℕ) (st
     append_none [] = refl
     append_none (x ∷ s) = ap (◌∷◌ x) (append_none s)
 
-    pub answers-on : lists_no_data es ≡ true → (runs (l + n + k) 0 rom fs start).answers ≡ (runs n l rom es (runs l 0 rom [] start).machine).answers
-    answers-on g =
+    pub answers_on : lists_no_data es ≡ true → (runs (l + n + k) 0 rom fs start).answers ≡ (runs n l rom es (runs l 0 rom [] start).machine).answers
+    answers_on g =
         ap (λ (e : Ended). e.answers) goes_on ∙ ap (◌++◌ (runs (l + n) 0 rom fs start).answers) more.answers ∙ append_none (runs (l + n) 0 rom fs start).answers
         ∙ answers test rom es start l n boots begins stored fs h g

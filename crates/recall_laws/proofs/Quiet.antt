@@ -34,27 +34,27 @@ quiet_of k h =
     (quiet k.core.irqx k.core.mdcon k.core.polarity k.core.bt k.core.watchdog k.core.sync k.core.bus k.core.pins k.core.sda k.core.scl (ap (λ (x : Bool × Bool). x.1) h))
 
 module _ {rs : List ℕ} where
-  pub quiet-registers : (k : Chip) → Quiet rs k → k.registers ≡ rs
-  quiet-registers _ (quiet irqx mdcon polarity bt watchdog sync bus pins sda scl h) = refl
+  pub quiet_registers : (k : Chip) → Quiet rs k → k.registers ≡ rs
+  quiet_registers _ (quiet irqx mdcon polarity bt watchdog sync bus pins sda scl h) = refl
 
   quiet_clock : (k : Chip) → Quiet rs k → Quiet rs (next k (Clock 0))
   unfolding opened
   quiet_clock _ (quiet irqx mdcon polarity bt watchdog sync bus pins sda scl h) = quiet irqx mdcon polarity bt watchdog _ _ pins sda scl h
 
   -- an instruction whose cycles fill 32, or not
-  pub quiet-after : (k : Chip) → Quiet rs k → (b : Bool) → Quiet rs (pick b k (next k (Clock 0)))
-  quiet-after k q true = q
-  quiet-after k q false = quiet_clock k q
+  pub quiet_after : (k : Chip) → Quiet rs k → (b : Bool) → Quiet rs (pick b k (next k (Clock 0)))
+  quiet_after k q true = q
+  quiet_after k q false = quiet_clock k q
 
   -- 55H to CLRWDT
-  pub quiet-cleared : (k : Chip) → Quiet rs k → Quiet rs (next k (Write CLRWDT 0x55))
+  pub quiet_cleared : (k : Chip) → Quiet rs k → Quiet rs (next k (Write CLRWDT 0x55))
   unfolding opened
-  quiet-cleared _ (quiet irqx mdcon polarity bt watchdog sync bus pins sda scl h) = quiet irqx mdcon polarity bt 0 sync bus pins sda scl h
+  quiet_cleared _ (quiet irqx mdcon polarity bt watchdog sync bus pins sda scl h) = quiet irqx mdcon polarity bt 0 sync bus pins sda scl h
 
-  pub quiet-turn : (rom : List ℕ) (c : Cpu) (ram : List ℕ) (k : Chip) → Quiet rs k → turn rom (machine c ram k) ≡ instruct rom (machine c ram k)
+  pub quiet_turn : (rom : List ℕ) (c : Cpu) (ram : List ℕ) (k : Chip) → Quiet rs k → turn rom (machine c ram k) ≡ instruct rom (machine c ram k)
   unfolding turn after_interrupt is_requesting
-  quiet-turn rom c ram _ (quiet irqx mdcon polarity bt watchdog sync bus pins sda scl h) = rw h
+  quiet_turn rom c ram _ (quiet irqx mdcon polarity bt watchdog sync bus pins sda scl h) = rw h
 
-  pub quiet-accesses : (rom : List ℕ) (c : Cpu) (ram : List ℕ) (k : Chip) → Quiet rs k → turn_accesses rom (machine c ram k) ≡ instruction_accesses rom (machine c ram k)
+  pub quiet_accesses : (rom : List ℕ) (c : Cpu) (ram : List ℕ) (k : Chip) → Quiet rs k → turn_accesses rom (machine c ram k) ≡ instruction_accesses rom (machine c ram k)
   unfolding turn_accesses interrupt_accesses after_interrupt is_requesting
-  quiet-accesses rom c ram _ (quiet irqx mdcon polarity bt watchdog sync bus pins sda scl h) = rw h
+  quiet_accesses rom c ram _ (quiet irqx mdcon polarity bt watchdog sync bus pins sda scl h) = rw h

@@ -29,7 +29,7 @@ use Rattle.recall_laws.specs.Short.{rom, waiting, is_waiting, has_picture, said,
 use Rattle.recall_laws.proofs.Bytes.{Foreign, foreign_timed, observer, levels, one, byte, level_byte, refused}
 use Rattle.recall_laws.proofs.Stored.{Boots, Stored, begins_at}
 use Rattle.recall_laws.proofs.Forever.{TurnStays, stays_on}
-use Rattle.recall_laws.proofs.Quiet.{Quiet, quiet, quiet-registers, silence, quiet_of, quiet-after, quiet-turn, quiet-accesses}
+use Rattle.recall_laws.proofs.Quiet.{Quiet, quiet, quiet_registers, silence, quiet_of, quiet_after, quiet_turn, quiet_accesses}
 
 -- the image opened beside what a run goes through
 unfoldable image : ℕ
@@ -93,17 +93,17 @@ data InWait : Machine → Type 0 where
 instructs : (m : Machine) → InWait m → ((instruct rom m).number ≡ 0) × (is_uninterrupted (instruction_accesses rom m) ≡ true) × InWait (instruct rom m).machine
 unfolding image
 instructs _ (at_load a x y s over n v d z c ram rs k q h g) =
-    rw h (refl, refl, at_branch 0 x y s ((over + 3) % 32) false v d c ram rs (pick (ltb (over + 3) 32) k (next k (Clock 0))) (quiet-after k q (ltb (over + 3) 32)) h g)
+    rw h (refl, refl, at_branch 0 x y s ((over + 3) % 32) false v d c ram rs (pick (ltb (over + 3) 32) k (next k (Clock 0))) (quiet_after k q (ltb (over + 3) 32)) h g)
 instructs _ (at_branch a x y s over n v d c ram rs k q h g) =
-    (refl, refl, at_load a x y s ((over + 3) % 32) n v d true c ram rs (pick (ltb (over + 3) 32) k (next k (Clock 0))) (quiet-after k q (ltb (over + 3) 32)) h g)
+    (refl, refl, at_load a x y s ((over + 3) % 32) n v d true c ram rs (pick (ltb (over + 3) 32) k (next k (Clock 0))) (quiet_after k q (ltb (over + 3) 32)) h g)
 
 turn_by : (c : Cpu) (ram rs : List ℕ) (k : Chip) → Quiet rs k → InWait (machine c ram k) → TurnStays InWait rom (machine c ram k)
 turn_by c ram rs k q w =
     let z = instructs (machine c ram k) w in
     record {
-      number = rw (quiet-turn rom c ram k q) z.0;
-      accesses = rw (quiet-accesses rom c ram k q) z.1;
-      machine = rw (quiet-turn rom c ram k q) z.2;
+      number = rw (quiet_turn rom c ram k q) z.0;
+      accesses = rw (quiet_accesses rom c ram k q) z.1;
+      machine = rw (quiet_turn rom c ram k q) z.2;
     }
 
 turns : (m : Machine) → InWait m → TurnStays InWait rom m
@@ -111,8 +111,8 @@ turns _ (at_load a x y s over n v d z c ram rs k q h g) = turn_by _ ram rs k q (
 turns _ (at_branch a x y s over n v d c ram rs k q h g) = turn_by _ ram rs k q (at_branch a x y s over n v d c ram rs k q h g)
 
 test_holds : (m : Machine) → InWait m → holds_at is_waiting m ≡ true
-test_holds _ (at_load a x y s over n v d z c ram rs k q h g) = rw (quiet-registers k q, h, g)
-test_holds _ (at_branch a x y s over n v d c ram rs k q h g) = rw (quiet-registers k q, h, g)
+test_holds _ (at_load a x y s over n v d z c ram rs k q h g) = rw (quiet_registers k q, h, g)
+test_holds _ (at_branch a x y s over n v d c ram rs k q h g) = rw (quiet_registers k q, h, g)
 
 -- ---- the end of the stored run is in it
 
@@ -156,8 +156,8 @@ words_foreign own a c d e h =
     let q = byte own 0 false false a c [] [] _ _ refl refl refl refl refl refl refl h refl
     (byte own 0 true true d e (true ∷ (levels a ++ [])) (true ∷ (levels c ++ [])) _ _ refl refl refl refl refl refl refl refl refl
     (one own 0 true true false false (since (true ∷ (levels d ++ (true ∷ (levels a ++ []))))) (since (true ∷ (levels e ++ (true ∷ (levels c ++ []))))) (sda true ∷ []) (sda true ∷ []) refl
-    (record { left-words = refl; right-words = refl; same = refl; right = refl; sda = refl }))) in
-    record { left-words = q.left-words; right-words = q.right-words; same = q.same; right = q.right; sda = q.sda }
+    (record { left_words = refl; right_words = refl; same = refl; right = refl; sda = refl }))) in
+    record { left_words = q.left_words; right_words = q.right_words; same = q.same; right = q.right; sda = q.sda }
 
 waiting_observer : observer_of waiting.chip none ≡ observer waiting.chip.core.bus.iiadr 0 true none
 unfolding image

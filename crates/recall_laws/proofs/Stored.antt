@@ -105,8 +105,8 @@ module _ (test : Cpu → List ℕ → List ℕ → Bool) (rom es : List ℕ) (st
     agrees = firmware_runs_words n l rom (runs l 0 rom [] start).machine stored.well stored.ddc2b stored.idle es fs stored.unaddressed stored.given_all stored.keeps_address_lem h
 
     -- from the start on
-    pub run-parts : runs (l + n) 0 rom fs start ≡ runs n l rom fs (runs l 0 rom [] start).machine
-    run-parts =
+    pub run_parts : runs (l + n) 0 rom fs start ≡ runs n l rom fs (runs l 0 rom [] start).machine
+    run_parts =
         let e = runs l 0 rom [] start in
         let a : l + n - 0 ≡ l + n = omega arith in
         let b : l - 0 ≡ l = omega arith in
@@ -118,7 +118,7 @@ module _ (test : Cpu → List ℕ → List ℕ → Bool) (rom es : List ℕ) (st
     pub stays : Waits test (runs (l + n) 0 rom fs start) (trace (l + n) 0 rom fs start)
     stays =
         let q = waits_same agrees stored.waits in
-        rw (run-parts, trace_split l n 0 l rom fs start (omega arith) later unrefused)
+        rw (run_parts, trace_split l n 0 l rom fs start (omega arith) later unrefused)
         (record {
           unrefused = q.unrefused;
           uninterrupted = uninterrupted_append (trace l 0 rom [] start) (trace n l rom fs (runs l 0 rom [] start).machine) boots.uninterrupted q.uninterrupted;
@@ -127,7 +127,7 @@ module _ (test : Cpu → List ℕ → List ℕ → Bool) (rom es : List ℕ) (st
 
     -- where no listed event reads II DAT, every answer is that of the stored run
     pub answers : lists_no_data es ≡ true → (runs (l + n) 0 rom fs start).answers ≡ (runs n l rom es (runs l 0 rom [] start).machine).answers
-    answers g = ap (λ (e : Ended). e.answers) run-parts ∙ sym (answers_same n l rom es fs (runs l 0 rom [] start).machine agrees stored.waits.unrefused alike g)
+    answers g = ap (λ (e : Ended). e.answers) run_parts ∙ sym (answers_same n l rom es fs (runs l 0 rom [] start).machine agrees stored.waits.unrefused alike g)
 
     -- all events are given
     pub none_left : drop (length (runs (l + n) 0 rom fs start).answers) fs ≡ []
@@ -135,5 +135,5 @@ module _ (test : Cpu → List ℕ → List ℕ → Bool) (rom es : List ℕ) (st
         let m = (runs l 0 rom [] start).machine in
         let s = trace n l rom es m in
         let z : length (runs (l + n) 0 rom fs start).answers ≡ length fs
-        = ap (λ (e : Ended). length e.answers) run-parts ∙ sym agrees.events_given ∙ ap length (sym (trace_answers n l rom es m)) ∙ events_length s ∙ ap length stored.given_all ∙ alike_length es fs alike in
+        = ap (λ (e : Ended). length e.answers) run_parts ∙ sym agrees.events_given ∙ ap length (sym (trace_answers n l rom es m)) ∙ events_length s ∙ ap length stored.given_all ∙ alike_length es fs alike in
         ap (λ (k : ℕ). drop k fs) z ∙ drop-length fs

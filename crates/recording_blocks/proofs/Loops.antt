@@ -11,7 +11,7 @@ use lib.ListN.{length, take, drop, get_or, set, replicate, length-append, length
 use lib.Seq.{drop-cons, take-suc, take-suc-set, drop-set-lt, drop-drop, take_all}
 use Rattle.recording_blocks.specs.Bytes.{four_bytes, words_bytes, all_zero, sum}
 use Rattle.recording_blocks.specs.Block.{padded}
-use Rattle.list_laws.proofs.Place.{put-take, put-drop, put-length, drop_later}
+use Rattle.list_laws.proofs.Place.{put_take, put_drop, put_length, drop_later}
 
 -- ---- the sum: of the bytes bs, i are added up
 
@@ -82,18 +82,18 @@ put_more ws old now i w d h n m e new z =
     let l = four_bytes w in
     let next : 4 + 4 * (i + 1) ≡ at + 4 = omega arith in
     let fits : at + 4 ≤ length now = omega (arith, d.same) in
-    let front : take (4 + 4 * (i + 1)) new ≡ take at now ++ l = ap₂ take next z ∙ put-take now l at fits in
+    let front : take (4 + 4 * (i + 1)) new ≡ take at now ++ l = ap₂ take next z ∙ put_take now l at fits in
     let more : words_bytes (take (i + 1) ws) ≡ words_bytes (take i ws) ++ l =
     rw (add-one, take-suc ws i 0 (omega (arith, n)), ← e) (bytes_append (take i ws) (w ∷ [])) in
     record {
       within = omega arith;
-      same = ap length z ∙ put-length now l at fits ∙ d.same;
+      same = ap length z ∙ put_length now l at fits ∙ d.same;
       written =
           front
           ∙ ap (λ (t : List ℕ). t ++ l) d.written
           ∙ append_assoc (take 4 old) (words_bytes (take i ws)) l
           ∙ ap (λ (t : List ℕ). take 4 old ++ t) (sym more);
-      rest = ap₂ drop next z ∙ put-drop now l at fits ∙ drop_later now old at 4 d.rest ∙ ap (λ (m : ℕ). drop m old) (sym next);
+      rest = ap₂ drop next z ∙ put_drop now l at fits ∙ drop_later now old at 4 d.rest ∙ ap (λ (m : ℕ). drop m old) (sym next);
     }
 
 pub put_all : (ws old now : List ℕ) (i : ℕ) → Put ws old now i → 126 ≤ i → length ws ≡ 126 → now ≡ take 4 old ++ (words_bytes ws ++ drop 508 old)

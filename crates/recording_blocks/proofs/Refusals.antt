@@ -70,49 +70,49 @@ good due b e =
 
 -- the number that each way through the tests gives
 module _ (due : ℕ) (b : List ℕ) where
-  pub gives-ten : length b < 512 → 10 ≡ refusal due b
+  pub gives_ten : length b < 512 → 10 ≡ refusal due b
   unfolding refusal
-  gives-ten h = rw (lt-ltb _ _ h)
+  gives_ten h = rw (lt-ltb _ _ h)
 
   module _ (full : 512 ≤ length b) (x s : ℕ) (p : x ≡ sum_of b) (q : s ≡ sum (take 508 b)) where
-    pub gives-eleven : (x ≡ s → ⊥) → 11 ≡ refusal due b
+    pub gives_eleven : (x ≡ s → ⊥) → 11 ≡ refusal due b
     unfolding refusal
-    gives-eleven h = rw (le-ltb _ _ full, ne_eqb (sum_of b) (sum (take 508 b)) (λ e. h (p ∙ e ∙ sym q)))
+    gives_eleven h = rw (le-ltb _ _ full, ne_eqb (sum_of b) (sum (take 508 b)) (λ e. h (p ∙ e ∙ sym q)))
 
     module _ (added : x ≡ s) (n : ℕ) (r : n ≡ number_of b) where
       sums : eqb (sum_of b) (sum (take 508 b)) ≡ true
       sums = eq-eqb _ _ (sym p ∙ added ∙ q)
 
-      pub gives-twelve : (n ≡ due → ⊥) → 12 ≡ refusal due b
+      pub gives_twelve : (n ≡ due → ⊥) → 12 ≡ refusal due b
       unfolding refusal
-      gives-twelve h = rw (le-ltb _ _ full, sums, ne_eqb (number_of b) due (λ e. h (r ∙ e)))
+      gives_twelve h = rw (le-ltb _ _ full, sums, ne_eqb (number_of b) due (λ e. h (r ∙ e)))
 
       module _ (numbered : n ≡ due) (k : ℕ) (c : k ≡ count_of b) where
-        pub gives-thirteen : 127 ≤ k → 13 ≡ refusal due b
+        pub gives_thirteen : 127 ≤ k → 13 ≡ refusal due b
         unfolding refusal
-        gives-thirteen h = rw (le-ltb _ _ full, sums, eq-eqb (number_of b) due (sym r ∙ numbered), le-ltb (count_of b) 127 (rw c at h))
+        gives_thirteen h = rw (le-ltb _ _ full, sums, eq-eqb (number_of b) due (sym r ∙ numbered), le-ltb (count_of b) 127 (rw c at h))
 
-        pub gives-rest : k < 127 → (zero : Bool) → zero ≡ all_zero (drop k (all_words b)) → pick zero 0 14 ≡ refusal due b
+        pub gives_rest : k < 127 → (zero : Bool) → zero ≡ all_zero (drop k (all_words b)) → pick zero 0 14 ≡ refusal due b
         unfolding refusal
-        gives-rest h zero z =
+        gives_rest h zero z =
             let u : all_zero (unused b) ≡ zero = ap (λ (j : ℕ). all_zero (drop j (all_words b))) (sym c) ∙ sym z in
             rw (le-ltb _ _ full, sums, eq-eqb (number_of b) due (sym r ∙ numbered), lt-ltb (count_of b) 127 (rw c at h), u)
 
 -- what the reader gives and leaves
 module _ (due : ℕ) (b places : List ℕ) (n : ℕ) (p : n ≡ refusal due b) where
-  pub read-refused : (n ≡ 0 → ⊥) → (Refused n ≡ block_read due b places) × (places ≡ places_left due b places)
+  pub read_refused : (n ≡ 0 → ⊥) → (Refused n ≡ block_read due b places) × (places ≡ places_left due b places)
   unfolding block_read places_left
-  read-refused h = rw (← p, ne_eqb n 0 h) (refl, refl)
+  read_refused h = rw (← p, ne_eqb n 0 h) (refl, refl)
 
   module _ (none : n ≡ 0) (k : ℕ) (c : k ≡ count_of b) where
-    pub read-seven : length places < k → (Refused 7 ≡ block_read due b places) × (places ≡ places_left due b places)
+    pub read_seven : length places < k → (Refused 7 ≡ block_read due b places) × (places ≡ places_left due b places)
     unfolding block_read places_left
-    read-seven h = rw (← p, eq-eqb n 0 none, ← c, lt-ltb _ _ h) (refl, refl)
+    read_seven h = rw (← p, eq-eqb n 0 none, ← c, lt-ltb _ _ h) (refl, refl)
 
-    pub read-words : k ≤ length places → (new : List ℕ) → new ≡ take k (all_words b) ++ drop k places
+    pub read_words_lem : k ≤ length places → (new : List ℕ) → new ≡ take k (all_words b) ++ drop k places
         → (Words k ≡ block_read due b places) × (new ≡ places_left due b places)
     unfolding block_read places_left
-    read-words h new e = rw (← p, eq-eqb n 0 none, ← c, le-ltb _ _ h) (refl, e)
+    read_words_lem h new e = rw (← p, eq-eqb n 0 none, ← c, le-ltb _ _ h) (refl, e)
 
 -- an answer with the number 0 is the words
 words_by : (none short : Bool) (n k : ℕ) → eqb n 0 ≡ none → number_given (pick none (pick short (Refused 7) (Words k)) (Refused n)) ≡ 0

@@ -15,7 +15,7 @@ use Rattle.recording_blocks.proofs.Words.{length_bytes, words_back, bytes_back, 
 use Rattle.recording_blocks.proofs.Loops.{length_padded, padded_at}
 use Rattle.recording_blocks.proofs.Parts.{length_front, length_block}
 use Rattle.recording_blocks.specs.Refusals.{Good}
-use Rattle.recording_blocks.proofs.Refusals.{good, gives-rest}
+use Rattle.recording_blocks.proofs.Refusals.{good, gives_rest}
 
 -- ---- written, then read
 
@@ -28,13 +28,13 @@ zeros_zero zero = refl
 zeros_zero (suc n) = zeros_zero n
 
 module _ (number : ℕ) (ws : List ℕ) (h : length ws ≤ 126) where
-  pub number-back : number_of (block_of number ws) ≡ number
+  pub number_back : number_of (block_of number ws) ≡ number
   unfolding number_of block_of front
-  number-back = two_back number
+  number_back = two_back number
 
-  pub count-back : count_of (block_of number ws) ≡ length ws
+  pub count_back : count_of (block_of number ws) ≡ length ws
   unfolding count_of block_of front
-  count-back = two_back (length ws)
+  count_back = two_back (length ws)
 
   pub all_back : all_words (block_of number ws) ≡ padded ws
   unfolding all_words block_of front
@@ -42,11 +42,11 @@ module _ (number : ℕ) (ws : List ℕ) (h : length ws ≤ 126) where
       ap words_of (take_at (words_bytes (padded ws)) (four_bytes (sum (front number ws))) 504 (length_bytes (padded ws) ∙ omega (arith, length_padded ws h)))
       ∙ words_back (padded ws)
 
-  pub words-of-block : block_words (block_of number ws) ≡ ws
-  words-of-block = ap₂ take count-back all_back ∙ take_at ws (replicate (126 - length ws) 0) (length ws) refl
+  pub words_of_block : block_words (block_of number ws) ≡ ws
+  words_of_block = ap₂ take count_back all_back ∙ take_at ws (replicate (126 - length ws) 0) (length ws) refl
 
   unused_of_block : unused (block_of number ws) ≡ replicate (126 - length ws) 0
-  unused_of_block = ap₂ drop count-back all_back ∙ drop_at ws (replicate (126 - length ws) 0) (length ws) refl
+  unused_of_block = ap₂ drop count_back all_back ∙ drop_at ws (replicate (126 - length ws) 0) (length ws) refl
 
   first_part : take 508 (block_of number ws) ≡ front number ws
   unfolding block_of
@@ -66,8 +66,8 @@ module _ (number : ℕ) (ws : List ℕ) (h : length ws ≤ 126) where
   pub block_accepted : refusal number (block_of number ws) ≡ 0
   block_accepted =
       let b = block_of number ws in
-      sym (gives-rest number b (omega (arith, length_block number ws h)) (sum_of b) (sum (take 508 b)) refl refl (sum_back ∙ sym (ap sum first_part))
-      (number_of b) refl number-back (count_of b) refl (omega (arith, count-back)) true
+      sym (gives_rest number b (omega (arith, length_block number ws h)) (sum_of b) (sum (take 508 b)) refl refl (sum_back ∙ sym (ap sum first_part))
+      (number_of b) refl number_back (count_of b) refl (omega (arith, count_back)) true
       (sym (ap all_zero unused_of_block ∙ zeros_zero (126 - length ws))))
 
 -- ---- accepted, then written
@@ -113,14 +113,14 @@ module _ (due : ℕ) (b : List ℕ) (k : Bytes b) (e : refusal due b ≡ 0) wher
   part_bytes : Bytes (take 504 (drop 4 b))
   part_bytes = taken_bytes 504 (drop 4 b) (dropped_bytes 4 b k)
 
-  pub count-words : length (block_words b) ≡ count_of b
-  count-words = length-take-le (count_of b) (all_words b) (omega (arith, length_all b g.full, g.counted))
+  pub count_words : length (block_words b) ≡ count_of b
+  count_words = length-take-le (count_of b) (all_words b) (omega (arith, length_all b g.full, g.counted))
 
   -- the words are those that the block holds, and zeros
   all_padded : all_words b ≡ padded (block_words b)
   all_padded =
       let n : length (unused b) ≡ 126 - length (block_words b) =
-      length-drop (count_of b) (all_words b) ∙ omega (arith, length_all b g.full, count-words) in
+      length-drop (count_of b) (all_words b) ∙ omega (arith, length_all b g.full, count_words) in
       sym (take-append-drop (count_of b) (all_words b))
       ∙ ap (λ (t : List ℕ). block_words b ++ t) (all_zeros (unused b) g.zero ∙ ap (λ (m : ℕ). replicate m 0) n)
 
@@ -134,7 +134,7 @@ module _ (due : ℕ) (b : List ℕ) (k : Bytes b) (e : refusal due b ≡ 0) wher
   unfolding number_of count_of
   head =
       let p : two_bytes due ≡ get_or b 0 0 ∷ get_or b 1 0 ∷ [] = ap two_bytes (sym g.numbered) ∙ two_of (get_or b 0 0) (get_or b 1 0) (k 0) in
-      let q : two_bytes (length (block_words b)) ≡ get_or b 2 0 ∷ get_or b 3 0 ∷ [] = ap two_bytes count-words ∙ two_of (get_or b 2 0) (get_or b 3 0) (k 2) in
+      let q : two_bytes (length (block_words b)) ≡ get_or b 2 0 ∷ get_or b 3 0 ∷ [] = ap two_bytes count_words ∙ two_of (get_or b 2 0) (get_or b 3 0) (k 2) in
       first_four b (omega (arith, g.full)) ∙ sym (ap₂ (λ (x y : List ℕ). x ++ y) p q)
 
   front_back : take 508 b ≡ front due (block_words b)

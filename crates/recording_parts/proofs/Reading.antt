@@ -16,7 +16,7 @@ use Rattle.recording_blocks.specs.Block.{refusal, number_of, count_of, sum_of, a
 use Rattle.recording_blocks.specs.declared.BlockRead.{BlockRead}
 use Rattle.recording_blocks.specs.declared.BlockRead.TheVariants.{Words, Refused}
 use Rattle.recording_blocks.proofs.Refusals.{good}
-use Rattle.recording_blocks.proofs.Round.{count-words, number_small, dropped_bytes}
+use Rattle.recording_blocks.proofs.Round.{count_words, number_small, dropped_bytes}
 use Rattle.recording_parts.specs.Recording.{blocks_of, read_words, read_number, read_next}
 use Rattle.recording_parts.specs.declared.BlocksRead.{BlocksRead}
 use Rattle.recording_parts.proofs.Pieces.{blocks_cons, blocks_nil}
@@ -54,32 +54,32 @@ module _ (b : List ℕ) where
   unfolding sum_of
   sum_first = rw (at_first 508 (omega arith), at_first 509 (omega arith), at_first 510 (omega arith), at_first 511 (omega arith))
 
-  pub words-first : block_words (take 512 b) ≡ block_words b
-  words-first = ap₂ take count_first all_first
+  pub words_first : block_words (take 512 b) ≡ block_words b
+  words_first = ap₂ take count_first all_first
 
-  pub refusal-first : (due : ℕ) → refusal due (take 512 b) ≡ refusal due b
+  pub refusal_first : (due : ℕ) → refusal due (take 512 b) ≡ refusal due b
   unfolding refusal
-  refusal-first due =
+  refusal_first due =
       rw (shorter b (ltb (length b) 512) refl, sum_first, number_first, count_first, all_first, take-take 508 512 b (omega arith))
 
 -- ---- reading a list, by its first block
 
 module _ (due : ℕ) (bytes : List ℕ) (h : 0 < length bytes) where
-  pub good-first : refusal due bytes ≡ 0
+  pub good_first : refusal due bytes ≡ 0
       → (read_words due (blocks_of bytes) ≡ block_words bytes ++ read_words (due + 1) (blocks_of (drop 512 bytes)))
       × (read_number due (blocks_of bytes) ≡ read_number (due + 1) (blocks_of (drop 512 bytes)))
       × (read_next due (blocks_of bytes) ≡ read_next (due + 1) (blocks_of (drop 512 bytes)))
   unfolding read_words read_number read_next
-  good-first e =
-      let t : eqb (refusal due (take 512 bytes)) 0 ≡ true = eq-eqb _ _ (refusal-first bytes due ∙ e) in
-      rw (blocks_cons bytes h, t, words-first bytes) (refl, refl, refl)
+  good_first e =
+      let t : eqb (refusal due (take 512 bytes)) 0 ≡ true = eq-eqb _ _ (refusal_first bytes due ∙ e) in
+      rw (blocks_cons bytes h, t, words_first bytes) (refl, refl, refl)
 
-  pub bad-first : (refusal due bytes ≡ 0 → ⊥)
+  pub bad_first : (refusal due bytes ≡ 0 → ⊥)
       → (read_words due (blocks_of bytes) ≡ []) × (read_number due (blocks_of bytes) ≡ refusal due bytes) × (read_next due (blocks_of bytes) ≡ due)
   unfolding read_words read_number read_next
-  bad-first e =
-      let t : eqb (refusal due (take 512 bytes)) 0 ≡ false = ne_eqb _ _ (λ k. e (sym (refusal-first bytes due) ∙ k)) in
-      rw (blocks_cons bytes h, t) (refl, refusal-first bytes due, refl)
+  bad_first e =
+      let t : eqb (refusal due (take 512 bytes)) 0 ≡ false = ne_eqb _ _ (λ k. e (sym (refusal_first bytes due) ∙ k)) in
+      rw (blocks_cons bytes h, t) (refl, refusal_first bytes due, refl)
 
 -- ---- what the reader of a block gave
 
@@ -94,16 +94,16 @@ refused_case true false k m n h e = absurd (let z : ◌≡◌ {A = ℕ} 0 1 = cc
 refused_case false s k m n h e = (refl, cc)
 
 module _ (due : ℕ) (b places : List ℕ) (n : ℕ) where
-  pub gave-words : block_read due b places ≡ Words n → (refusal due b ≡ 0) × (count_of b ≡ n) × (places_left due b places ≡ block_words b ++ drop (count_of b) places)
+  pub gave_words : block_read due b places ≡ Words n → (refusal due b ≡ 0) × (count_of b ≡ n) × (places_left due b places ≡ block_words b ++ drop (count_of b) places)
   unfolding block_read places_left
-  gave-words e =
+  gave_words e =
       let t = words_case (eqb (refusal due b) 0) (ltb (length places) (count_of b)) (count_of b) (refusal due b) n e in
       (eqb-true _ _ t.0, t.2, rw (t.0, t.1))
 
-  pub gave-refusal : (refusal due b ≡ 0 → 126 ≤ length places) → block_read due b places ≡ Refused n
+  pub gave_refusal : (refusal due b ≡ 0 → 126 ≤ length places) → block_read due b places ≡ Refused n
       → (refusal due b ≡ 0 → ⊥) × (refusal due b ≡ n) × (places_left due b places ≡ places)
   unfolding block_read places_left
-  gave-refusal h e =
+  gave_refusal h e =
       let room : eqb (refusal due b) 0 ≡ true → ltb (length places) (count_of b) ≡ false =
       λ k. (let z : refusal due b ≡ 0 = eqb-true _ _ k in le-ltb (length places) (count_of b) (omega (arith, h z, (good due b z).counted))) in
       let t = refused_case (eqb (refusal due b) 0) (ltb (length places) (count_of b)) (count_of b) (refusal due b) n room e in
@@ -184,18 +184,18 @@ module _ (due : ℕ) (bytes old now : List ℕ) (next count at : ℕ) (d : Readi
     refused f =
         let enough : refusal next (drop at bytes) ≡ 0 → 126 ≤ length (drop count now) =
         λ z. omega (arith, (good next (drop at bytes) z).full, length-drop at bytes, length-drop count now, d.room, d.same) in
-        let t = gave-refusal next (drop at bytes) (drop count now) n enough (given ∙ f) in
+        let t = gave_refusal next (drop at bytes) (drop count now) n enough (given ∙ f) in
         let same : new ≡ now = v ∙ ap (λ (l : List ℕ). take count now ++ l) (kept ∙ t.2) ∙ take-append-drop count now in
-        let b = bad-first next (drop at bytes) some t.0 in
+        let b = bad_first next (drop at bytes) some t.0 in
         rw same (ended n b.0 (b.1 ∙ t.1) b.2)
 
     -- the next block is good
     pub more : Bytes bytes → r ≡ Words n → More due bytes old new next count at n
     more k f =
-        let t = gave-words next (drop at bytes) (drop count now) n (given ∙ f) in
+        let t = gave_words next (drop at bytes) (drop count now) n (given ∙ f) in
         let g = good next (drop at bytes) t.0 in
         let b = block_words (drop at bytes) in
-        let size : length b ≡ n = count-words next (drop at bytes) (dropped_bytes at bytes k) t.0 ∙ t.1 in
+        let size : length b ≡ n = count_words next (drop at bytes) (dropped_bytes at bytes k) t.0 ∙ t.1 in
         let fits : at + 512 ≤ length bytes = omega (arith, g.full, length-drop at bytes) in
         let places-left : count + n ≤ length old = omega (arith, d.room, g.counted, t.1) in
         let front : length (take count now ++ b) ≡ count + n =
@@ -205,7 +205,7 @@ module _ (due : ℕ) (bytes old now : List ℕ) (next count at : ℕ) (d : Readi
         ∙ ap (λ (l : List ℕ). take count now ++ l) (kept ∙ t.2 ∙ ap (λ (m : ℕ). b ++ drop m (drop count now)) t.1)
         ∙ sym (append_assoc (take count now) b (drop n (drop count now))) in
         let onward : drop 512 (drop at bytes) ≡ drop (at + 512) bytes = drop-drop 512 at bytes in
-        let first = good-first next (drop at bytes) some t.0 in
+        let first = good_first next (drop at bytes) some t.0 in
         record {
           fits = fits;
           small = number_small next (drop at bytes) (dropped_bytes at bytes k) t.0;

@@ -12,7 +12,7 @@ use Rattle.bits.specs.Byte.{pick}
 use Rattle.recording_blocks.specs.Bytes.{Bytes, Words32}
 use Rattle.recording_blocks.specs.Block.{block_of, block_words, refusal}
 use Rattle.recording_blocks.proofs.Parts.{length_block}
-use Rattle.recording_blocks.proofs.Round.{block_accepted, words-of-block, block_written, number_small, block_bytes_lem, bytes_append, taken_bytes, dropped_bytes}
+use Rattle.recording_blocks.proofs.Round.{block_accepted, words_of_block, block_written, number_small, block_bytes_lem, bytes_append, taken_bytes, dropped_bytes}
 use Rattle.recording_parts.specs.Recording.{cut, parts, blocks_of, joined, numbered, recording_of, read_words, read_number}
 use Rattle.recording_parts.proofs.Pieces.{Sized, AtMost, joined_parts, parts_at_most, cut_at_most, blocks_joined, joined_blocks}
 
@@ -32,7 +32,7 @@ pub read_numbered : (number : ℕ) (lists : List (List ℕ)) → AtMost 126 list
 unfolding numbered read_words joined
 read_numbered number [] h = refl
 read_numbered number (ws ∷ rest) h =
-    rw (eq-eqb _ _ (block_accepted number ws (h 0))) (ap₂ (λ (x y : List ℕ). x ++ y) (words-of-block number ws (h 0)) (read_numbered (number + 1) rest (λ j. h (suc j))))
+    rw (eq-eqb _ _ (block_accepted number ws (h 0))) (ap₂ (λ (x y : List ℕ). x ++ y) (words_of_block number ws (h 0)) (read_numbered (number + 1) rest (λ j. h (suc j))))
 
 pub accept_numbered : (number : ℕ) (lists : List (List ℕ)) → AtMost 126 lists → read_number number (numbered number lists) ≡ 0
 unfolding numbered read_number

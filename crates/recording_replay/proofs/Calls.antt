@@ -11,10 +11,10 @@ use Rattle.chip_well_formed.specs.WellFormed.{well_formed}
 use Rattle.list_call.specs.Run.{advanced, advanced_answers, run, run_answers}
 
 module _ (c : Chip) (ws places : List ℕ) (t : well_formed c ≡ true) (h : length ws ≤ length places) where
-  pub call-chip : (run c ws places).chip ≡ advanced c ws
+  pub call_chip : (run c ws places).chip ≡ advanced c ws
   unfolding run
-  call-chip = rw (t, le-ltb _ _ h)
+  call_chip = rw (t, le-ltb _ _ h)
 
-  pub call-answers : run_answers c ws places ≡ advanced_answers c ws ++ drop (length ws) places
+  pub call_answers : run_answers c ws places ≡ advanced_answers c ws ++ drop (length ws) places
   unfolding run_answers
-  call-answers = rw (t, le-ltb _ _ h)
+  call_answers = rw (t, le-ltb _ _ h)

@@ -10,7 +10,7 @@ use lib.Seq.{take-suc, take_all}
 use Rattle.hex_digits.specs.Hex.{hex_line}
 use Rattle.hex_digits.proofs.Line.{length_line}
 use Rattle.recording_replay.specs.Replay.{hex_lines}
-use Rattle.list_laws.proofs.Place.{put, put-take, put-drop, put-length, drop_later}
+use Rattle.list_laws.proofs.Place.{put, put_take, put_drop, put_length, drop_later}
 
 pub length_lines : (xs : List ℕ) → length (hex_lines xs) ≡ 9 * length xs
 unfolding hex_lines
@@ -33,14 +33,14 @@ module _ (old : List ℕ) (at a : ℕ) (h : at + 9 ≤ length old) (new : List �
   to_end : at + 9 ≡ at + length (hex_line a)
   to_end = omega (arith, length_line a)
 
-  pub line-take : take (at + 9) new ≡ take at old ++ hex_line a
-  line-take = ap₂ take to_end as_put ∙ put-take old (hex_line a) at line_fits
+  pub line_take : take (at + 9) new ≡ take at old ++ hex_line a
+  line_take = ap₂ take to_end as_put ∙ put_take old (hex_line a) at line_fits
 
-  pub line-drop : drop (at + 9) new ≡ drop (at + 9) old
-  line-drop = ap₂ drop to_end as_put ∙ put-drop old (hex_line a) at line_fits ∙ ap (λ (m : ℕ). drop m old) (sym to_end)
+  pub line_drop : drop (at + 9) new ≡ drop (at + 9) old
+  line_drop = ap₂ drop to_end as_put ∙ put_drop old (hex_line a) at line_fits ∙ ap (λ (m : ℕ). drop m old) (sym to_end)
 
-  pub line-length : length new ≡ length old
-  line-length = ap length as_put ∙ put-length old (hex_line a) at line_fits
+  pub line_length : length new ≡ length old
+  line_length = ap length as_put ∙ put_length old (hex_line a) at line_fits
 
 -- the lines of the first i answers stand at the start of the text, which held old
 pub record Written (xs old now : List ℕ) (i : ℕ) : Type 0 where
@@ -57,13 +57,13 @@ more xs old now i a d h k e new z =
     let fits : 9 * i + 9 ≤ length now = omega (arith, d.same) in
     record {
       within = omega arith;
-      same = line-length now (9 * i) a fits new z ∙ d.same;
+      same = line_length now (9 * i) a fits new z ∙ d.same;
       written =
           ap (λ (m : ℕ). take m new) next
-          ∙ line-take now (9 * i) a fits new z
+          ∙ line_take now (9 * i) a fits new z
           ∙ ap₂ (λ (x y : List ℕ). x ++ y) d.written (sym (append-nil (hex_line a)))
           ∙ rw (add-one, take-suc xs i 0 h, ← e) (sym (lines_append (take i xs) (a ∷ [])));
-      rest = ap (λ (m : ℕ). drop m new) next ∙ line-drop now (9 * i) a fits new z ∙ drop_later now old (9 * i) 9 d.rest ∙ ap (λ (m : ℕ). drop m old) (sym next);
+      rest = ap (λ (m : ℕ). drop m new) next ∙ line_drop now (9 * i) a fits new z ∙ drop_later now old (9 * i) 9 d.rest ∙ ap (λ (m : ℕ). drop m old) (sym next);
     }
 
 pub all : (xs old now : List ℕ) (i : ℕ) → Written xs old now i → length xs ≤ i → now ≡ hex_lines xs ++ drop (9 * length xs) old

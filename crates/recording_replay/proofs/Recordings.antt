@@ -23,7 +23,7 @@ use Rattle.recording_parts.proofs.Joined.{accepted_words, onward, stopped, bad_b
 use Rattle.recording_replay.specs.Replay.{words_from, number_from, last_answer, block_answers, hex_lines, block_text, refused_replay, replayed, text_left}
 use Rattle.recording_replay.specs.declared.Replayed.{Replayed}
 use Rattle.recording_replay.proofs.Lines.{lines_append}
-use Rattle.recording_replay.proofs.Calls.{call-chip, call-answers}
+use Rattle.recording_replay.proofs.Calls.{call_chip, call_answers}
 use Rattle.recording_replay.proofs.Replaying.{no_last, one_last}
 
 -- ---- the list call
@@ -37,8 +37,8 @@ unfolding block_answers
 by_list_call c due bytes places t h =
     let ws = words_from due bytes in (
       ap (λ (l : List ℕ). l ++ last_answer (number_from due bytes))
-          (sym (ap (take (length ws)) (call-answers c ws places t h) ∙ take_at (advanced_answers c ws) (drop (length ws) places) (length ws) (length_advanced_answers c ws))),
-      sym (call-chip c ws places t h),
+          (sym (ap (take (length ws)) (call_answers c ws places t h) ∙ take_at (advanced_answers c ws) (drop (length ws) places) (length ws) (length_advanced_answers c ws))),
+      sym (call_chip c ws places t h),
     )
 
 -- an accepted recording: the words of all its blocks, joined, and no last answer
@@ -81,11 +81,11 @@ wrong_sum_line = refl
 
 module _ (c : Chip) (due n : ℕ) (xs ys : List ℕ) (h : length xs ≡ 512 * n) where
   -- an accepted part: the next goes on from the chip and the number that it left
-  pub parts-answers : number_from due xs ≡ 0
+  pub parts_answers : number_from due xs ≡ 0
       → (block_answers c due (xs ++ ys) ≡ block_answers c due xs ++ block_answers (advanced c (words_from due xs)) (read_next due (blocks_of xs)) ys)
       × (advanced c (words_from due (xs ++ ys)) ≡ advanced (advanced c (words_from due xs)) (words_from (read_next due (blocks_of xs)) ys))
   unfolding block_answers
-  parts-answers e =
+  parts_answers e =
       let o = onward due (blocks_of xs) (blocks_of ys) e in
       let b = blocks_append n xs ys h in
       let ws = words_from due xs in
@@ -100,17 +100,17 @@ module _ (c : Chip) (due n : ℕ) (xs ys : List ℕ) (h : length xs ≡ 512 * n)
         ap (advanced c) words ∙ advanced_append c ws vs,
       )
 
-  pub parts-text : number_from due xs ≡ 0
+  pub parts_text_lem : number_from due xs ≡ 0
       → block_text c due (xs ++ ys) ≡ block_text c due xs ++ block_text (advanced c (words_from due xs)) (read_next due (blocks_of xs)) ys
   unfolding block_text
-  parts-text e =
-      ap hex_lines (parts-answers e).0 ∙ lines_append (block_answers c due xs) (block_answers (advanced c (words_from due xs)) (read_next due (blocks_of xs)) ys)
+  parts_text_lem e =
+      ap hex_lines (parts_answers e).0 ∙ lines_append (block_answers c due xs) (block_answers (advanced c (words_from due xs)) (read_next due (blocks_of xs)) ys)
 
   -- a bad block ends it: the next part is not looked at
-  pub ended-answers : (number_from due xs ≡ 0 → ⊥)
+  pub ended_answers : (number_from due xs ≡ 0 → ⊥)
       → (block_answers c due (xs ++ ys) ≡ block_answers c due xs) × (advanced c (words_from due (xs ++ ys)) ≡ advanced c (words_from due xs))
   unfolding block_answers
-  ended-answers e =
+  ended_answers e =
       let s = stopped due (blocks_of xs) (blocks_of ys) e in
       let b = blocks_append n xs ys h in
       let ws : words_from due (xs ++ ys) ≡ words_from due xs = ap (read_words due) b ∙ s.words in (

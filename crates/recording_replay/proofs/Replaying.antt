@@ -36,8 +36,8 @@ one_last number e = rw (ne_eqb _ _ e)
 -- ---- the text of answers and a number
 
 module _ (xs old now : List ℕ) (number : ℕ) (e : now ≡ hex_lines xs ++ drop (9 * length xs) old) where
-  pub text-plain : number ≡ 0 → now ≡ hex_lines (xs ++ last_answer number) ++ drop (length (hex_lines (xs ++ last_answer number))) old
-  text-plain h =
+  pub text_plain : number ≡ 0 → now ≡ hex_lines (xs ++ last_answer number) ++ drop (length (hex_lines (xs ++ last_answer number))) old
+  text_plain h =
       let same : xs ++ last_answer number ≡ xs = ap (λ (t : List ℕ). xs ++ t) (no_last number h) ∙ append-nil xs in
       e ∙ ap (λ (k : ℕ). hex_lines xs ++ drop k old) (sym (length_lines xs)) ∙ ap (λ (t : List ℕ). hex_lines t ++ drop (length (hex_lines t)) old) (sym same)
 
@@ -45,11 +45,11 @@ module _ (xs old now : List ℕ) (number : ℕ) (e : now ≡ hex_lines xs ++ dro
   lines_kept h =
       ap length e ∙ length-append (hex_lines xs) (drop (9 * length xs) old) ∙ omega (arith, length_lines xs, length-drop (9 * length xs) old)
 
-  pub text-ended : (number ≡ 0 → ⊥) → 9 * length xs + 9 ≤ length now → (a : ℕ) → a ≡ answer_word number false 0 0 → (new : List ℕ)
+  pub text_ended : (number ≡ 0 → ⊥) → 9 * length xs + 9 ≤ length now → (a : ℕ) → a ≡ answer_word number false 0 0 → (new : List ℕ)
       → new ≡ take (9 * length xs) now ++ (hex_line a ++ drop (9 * length xs + 9) now)
       → new ≡ hex_lines (xs ++ last_answer number) ++ drop (length (hex_lines (xs ++ last_answer number))) old
   unfolding hex_lines
-  text-ended h room a p new z =
+  text_ended h room a p new z =
       let at = 9 * length xs in
       let lines : hex_lines (xs ++ last_answer number) ≡ hex_lines xs ++ hex_line a =
       ap (λ (t : List ℕ). hex_lines (xs ++ t)) (one_last number h ∙ ap (λ (n : ℕ). n ∷ []) (sym p))
@@ -96,13 +96,13 @@ words_bounded due (suc n) bytes =
 -- ---- the refusals
 
 module _ (c : Chip) (due : ℕ) (bytes places : List ℕ) where
-  pub gives-eight : well_formed c ≡ false → (refused_replay c due 8 ≡ replayed c due bytes places) × (places ≡ text_left c due bytes places)
+  pub gives_eight : well_formed c ≡ false → (refused_replay c due 8 ≡ replayed c due bytes places) × (places ≡ text_left c due bytes places)
   unfolding replayed text_left
-  gives-eight t = rw t (refl, refl)
+  gives_eight t = rw t (refl, refl)
 
-  pub gives-seven : well_formed c ≡ true → 32 < length bytes / 512 → (refused_replay c due 7 ≡ replayed c due bytes places) × (places ≡ text_left c due bytes places)
+  pub gives_seven : well_formed c ≡ true → 32 < length bytes / 512 → (refused_replay c due 7 ≡ replayed c due bytes places) × (places ≡ text_left c due bytes places)
   unfolding replayed text_left
-  gives-seven t h = rw (t, lt-ltb _ _ h) (refl, refl)
+  gives_seven t h = rw (t, lt-ltb _ _ h) (refl, refl)
 
   -- ---- the blocks read into places of their own, the room that the text takes
 
@@ -126,8 +126,8 @@ module _ (c : Chip) (due : ℕ) (bytes places : List ℕ) where
     pub numbered : r.number ≡ number_from due bytes
     numbered = ap (λ (x : BlocksRead). x.number) result
 
-    pub size-kept : length w ≡ 4032
-    size-kept =
+    pub size_kept : length w ≡ 4032
+    size_kept =
         ap length left
         ∙ length-append (words_from due bytes) (drop (length (words_from due bytes)) zeros)
         ∙ omega (arith, length-drop (length (words_from due bytes)) zeros, n, few)
@@ -139,9 +139,9 @@ module _ (c : Chip) (due : ℕ) (bytes places : List ℕ) where
     words_read = ap₂ take counted left ∙ take_at (words_from due bytes) (drop (length (words_from due bytes)) zeros) (length (words_from due bytes)) refl
 
     module _ (size : ℕ) (z : size ≡ 9 * (r.count + length (last_answer r.number))) where
-      pub size-text : size ≡ length (block_text c due bytes)
+      pub size_text : size ≡ length (block_text c due bytes)
       unfolding block_text block_answers
-      size-text =
+      size_text =
           z
           ∙ ap₂ (λ (x y : ℕ). 9 * (x + length (last_answer y))) counted numbered
           ∙ ap (λ (m : ℕ). 9 * (m + length (last_answer (number_from due bytes)))) (sym (length_advanced_answers c (words_from due bytes)))
@@ -151,7 +151,7 @@ module _ (c : Chip) (due : ℕ) (bytes places : List ℕ) where
       pub no_room : length places < size → (refused_replay c due 7 ≡ replayed c due bytes places) × (places ≡ text_left c due bytes places)
       unfolding replayed text_left
       no_room k =
-          let short = lt-ltb (length places) (length (block_text c due bytes)) (rw size-text at k) in
+          let short = lt-ltb (length places) (length (block_text c due bytes)) (rw size_text at k) in
           rw (t, le-ltb 32 (length bytes / 512) h, short) (refl, refl)
 
       module _ (k : size ≤ length places) (blank : List ℕ) (m : length blank ≡ 4032) (after : Chip) (answers : List ℕ)
@@ -159,8 +159,8 @@ module _ (c : Chip) (due : ℕ) (bytes places : List ℕ) where
         given : answers ≡ advanced_answers c (words_from due bytes) ++ drop (length (words_from due bytes)) blank
         given = u.1 ∙ ap (λ (ws : List ℕ). advanced_answers c ws ++ drop (length ws) blank) words_read
 
-        pub answers-kept : length answers ≡ 4032
-        answers-kept =
+        pub answers_kept : length answers ≡ 4032
+        answers_kept =
             ap length given
             ∙ length-append (advanced_answers c (words_from due bytes)) (drop (length (words_from due bytes)) blank)
             ∙ omega (arith, length_advanced_answers c (words_from due bytes), length-drop (length (words_from due bytes)) blank, m, few)
@@ -174,16 +174,16 @@ module _ (c : Chip) (due : ℕ) (bytes places : List ℕ) where
         unfolding block_text block_answers
         same_text = ap₂ (λ (x : List ℕ) (y : ℕ). hex_lines (x ++ last_answer y)) answers_read numbered
 
-        pub text-fits : length (hex_lines (take r.count answers ++ last_answer r.number)) ≤ length places
-        text-fits = rw (same_text, ← size-text) k
+        pub text_fits : length (hex_lines (take r.count answers ++ last_answer r.number)) ≤ length places
+        text_fits = rw (same_text, ← size_text) k
 
         pub done : (new : List ℕ) → new ≡ hex_lines (take r.count answers ++ last_answer r.number) ++ drop (length (hex_lines (take r.count answers ++ last_answer r.number))) places
             → (record { chip = after; next = r.next; count = size; number = r.number } ≡ replayed c due bytes places) × (new ≡ text_left c due bytes places)
         unfolding replayed text_left
         done new y =
-            let enough = le-ltb (length places) (length (block_text c due bytes)) (rw size-text at k) in
+            let enough = le-ltb (length places) (length (block_text c due bytes)) (rw size_text at k) in
             let chip : after ≡ advanced c (words_from due bytes) = u.0 ∙ ap (advanced c) words_read in
             rw (t, le-ltb 32 (length bytes / 512) h, enough) (
-              rw (chip, result, size-text),
+              rw (chip, result, size_text),
               y ∙ ap (λ (l : List ℕ). l ++ drop (length l) places) same_text,
             )

@@ -22,7 +22,7 @@ use Rattle.recording_parts.specs.Recording.{cut, blocks_of, joined, read_words, 
 use Rattle.recording_replay.specs.declared.Replayed.{Replayed}
 use Rattle.recording_replay.specs.Replay.{words_from, number_from, last_answer, block_answers, hex_lines, block_text, refused_replay, replayed, text_left}
 use Rattle.recording_replay.proofs.Replaying.{no_last, one_last, room_lines, words_bounded}
-use Rattle.recording_replay.proofs.Recordings.{parts-text, ended-answers}
+use Rattle.recording_replay.proofs.Recordings.{parts_text_lem, ended_answers}
 use Rattle.recording_replay_laws.specs.Parts.{part_bytes, part_text, printed, Parts, none, last, more}
 
 -- ---- the chip stays well formed
@@ -89,9 +89,9 @@ onward_or_ended : (places : List ℕ) (c : Chip) (due : ℕ) (part ys : List ℕ
     → block_text c due part ++ pick good (printed places (advanced c (words_from due part)) (read_next due (blocks_of part)) rest) [] ≡ block_text c due (part ++ ys)
 unfolding block_text
 onward_or_ended places c due part ys rest true e h q =
-    ap (λ (l : List ℕ). block_text c due part ++ l) q ∙ sym (parts-text c due 32 part ys h (eqb-true (number_from due part) 0 e))
+    ap (λ (l : List ℕ). block_text c due part ++ l) q ∙ sym (parts_text_lem c due 32 part ys h (eqb-true (number_from due part) 0 e))
 onward_or_ended places c due part ys rest false e h q =
-    append-nil (block_text c due part) ∙ sym (ap hex_lines (ended-answers c due 32 part ys h (eqb-false (number_from due part) 0 e)).0)
+    append-nil (block_text c due part) ∙ sym (ap hex_lines (ended_answers c due 32 part ys h (eqb-false (number_from due part) 0 e)).0)
 
 -- the parts of a recording print the text of the recording
 pub parts_join : (places : List ℕ) → part_text ≤ length places → {parts : List (List ℕ)} → Parts parts → (c : Chip) (due : ℕ) → well_formed c ≡ true

@@ -92,17 +92,17 @@ module _ (first : ℕ) (ws old now : List ℕ) (next at put : ℕ) (d : Writing 
 
 -- what the writer gives and leaves
 module _ (number : ℕ) (ws area : List ℕ) (count : ℕ) (e : count ≡ block_count ws) where
-  pub gives-twelve : 65536 < number + count → (refused_write number 12 ≡ blocks_written number ws area) × (area ≡ blocks_put number ws area)
+  pub gives_twelve : 65536 < number + count → (refused_write number 12 ≡ blocks_written number ws area) × (area ≡ blocks_put number ws area)
   unfolding blocks_written blocks_put
-  gives-twelve h = rw (lt-ltb 65536 (number + block_count ws) (omega (arith, e))) (refl, refl)
+  gives_twelve h = rw (lt-ltb 65536 (number + block_count ws) (omega (arith, e))) (refl, refl)
 
   module _ (h : number + count ≤ 65536) where
     numbers : ltb 65536 (number + block_count ws) ≡ false
     numbers = le-ltb 65536 (number + block_count ws) (omega (arith, e))
 
-    pub gives-seventeen : length area < 512 * count → (refused_write number 17 ≡ blocks_written number ws area) × (area ≡ blocks_put number ws area)
+    pub gives_seventeen : length area < 512 * count → (refused_write number 17 ≡ blocks_written number ws area) × (area ≡ blocks_put number ws area)
     unfolding blocks_written blocks_put
-    gives-seventeen k = rw (numbers, lt-ltb (length area) (512 * block_count ws) (omega (arith, e))) (refl, refl)
+    gives_seventeen k = rw (numbers, lt-ltb (length area) (512 * block_count ws) (omega (arith, e))) (refl, refl)
 
     pub wrote : 512 * count ≤ length area → (new : List ℕ) → new ≡ blocks_bytes number ws ++ drop (512 * block_count ws) area
         → (record { count = 512 * count; next = number + count; number = 0 } ≡ blocks_written number ws area) × (new ≡ blocks_put number ws area)

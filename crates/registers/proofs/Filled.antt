@@ -28,5 +28,5 @@ module _ (wanted : List ℕ) (n : ℕ) (list : List ℕ) where
         same = rw (add-one, take-suc-set list i v (omega arith), take-suc wanted i 0 (omega arith), f.same, e);
       }
 
-  pub filled-all : Filled wanted n list n → list ≡ wanted
-  filled-all f = sym (rw f.long at (take-length list)) ∙ f.same ∙ rw f.enough at (take-length wanted)
+  pub filled_all : Filled wanted n list n → list ≡ wanted
+  filled_all f = sym (rw f.long at (take-length list)) ∙ f.same ∙ rw f.enough at (take-length wanted)

@@ -35,17 +35,17 @@ row_unpacked a = sym (get_or-map unpacked (map packed table) a 0)
 
 -- the columns of a row that was looked up
 module _ {r : Row} (a : ℕ) (e : r ≡ row_of a) where
-  pub row-readable : r.readable ≡ is_readable a
+  pub row_readable : r.readable ≡ is_readable a
   unfolding is_readable
-  row-readable = ap (λ r. r.readable) e
+  row_readable = ap (λ r. r.readable) e
 
   pub row_read : r.read ≡ read_mask a
   unfolding read_mask
   row_read = ap (λ r. r.read) e
 
-  pub row-writable : r.writable ≡ is_writable a
+  pub row_writable : r.writable ≡ is_writable a
   unfolding is_writable
-  row-writable = ap (λ r. r.writable) e
+  row_writable = ap (λ r. r.writable) e
 
 -- a test that the 38 rows and the row of no register pass, at every address
 pub at_row : (f : Row → Bool) → T (all_below (λ a. f (row_of a)) 38) → T (f none) → (a : ℕ) → T (f (row_of a))

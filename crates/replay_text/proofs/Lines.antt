@@ -13,12 +13,12 @@ use Rattle.list_call.proofs.Runs.{advanced_append, advanced_answers_append, leng
 use Rattle.hex_digits.specs.Hex.{hex_line}
 use Rattle.hex_digits.proofs.Line.{length_line}
 use Rattle.replay_text.specs.Text.{hex_lines}
-use Rattle.list_laws.proofs.Place.{put, put-take, put-drop, put-length, drop_later}
+use Rattle.list_laws.proofs.Place.{put, put_take, put_drop, put_length, drop_later}
 
 -- a line put at an index keeps the length
 pub length_put : (old : List ℕ) (at a : ℕ) → at + 9 ≤ length old → length (take at old ++ (hex_line a ++ drop (at + 9) old)) ≡ length old
 unfolding hex_line
-length_put old at a h = put-length old (hex_line a) at h
+length_put old at a h = put_length old (hex_line a) at h
 
 pub length_lines : (xs : List ℕ) → length (hex_lines xs) ≡ 9 * length xs
 unfolding hex_lines
@@ -44,7 +44,7 @@ put_put old l m at h =
     let fits : at + length l ≤ length old = omega arith in
     let rest = drop (at + length l + length m) old in
     let both : at + length l + length m ≡ at + length (l ++ m) = omega (arith, length-append l m) in
-    ap₂ (λ (x y : List ℕ). x ++ (m ++ y)) (put-take old l at fits) (drop_later (put old at l) old (at + length l) (length m) (put-drop old l at fits))
+    ap₂ (λ (x y : List ℕ). x ++ (m ++ y)) (put_take old l at fits) (drop_later (put old at l) old (at + length l) (length m) (put_drop old l at fits))
     ∙ append_assoc (take at old) l (m ++ rest)
     ∙ ap (λ (t : List ℕ). take at old ++ t) (sym (append_assoc l m rest))
     ∙ ap (λ (n : ℕ). take at old ++ ((l ++ m) ++ drop n old)) both
@@ -64,13 +64,13 @@ module _ (xs old : List ℕ) (from : ℕ) (room : 9 * (from + length xs) ≤ len
   no_line = (omega arith, sym (put_none old (9 * from)))
 
   module _ (now : List ℕ) (i : ℕ) (d : Lined xs old from now i) where
-    pub lined-length : length now ≡ length old
-    lined-length = ap length d.1 ∙ put-length old (hex_lines (take i xs)) (9 * from) (omega (arith, d.0, length_first i d.0))
+    pub lined_length : length now ≡ length old
+    lined_length = ap length d.1 ∙ put_length old (hex_lines (take i xs)) (9 * from) (omega (arith, d.0, length_first i d.0))
 
-    pub line-more : i < length xs → (new : List ℕ) → new ≡ take (9 * (from + i)) now ++ (hex_line (get_or xs i 0) ++ drop (9 * (from + i) + 9) now)
+    pub line_more : i < length xs → (new : List ℕ) → new ≡ take (9 * (from + i)) now ++ (hex_line (get_or xs i 0) ++ drop (9 * (from + i) + 9) now)
         → Lined xs old from new (i + 1)
     unfolding hex_lines
-    line-more h new z =
+    line_more h new z =
         let a = get_or xs i 0 in
         let n = length_line a in
         let f = length_first i d.0 in
@@ -89,8 +89,8 @@ module _ (xs old : List ℕ) (from : ℕ) (room : 9 * (from + length xs) ≤ len
               ∙ ap (put old (9 * from)) joined,
         )
 
-    pub lines-all : length xs ≤ i → now ≡ take (9 * from) old ++ (hex_lines xs ++ drop (9 * (from + length xs)) old)
-    lines-all h =
+    pub lines_all : length xs ≤ i → now ≡ take (9 * from) old ++ (hex_lines xs ++ drop (9 * (from + length xs)) old)
+    lines_all h =
         let end : 9 * from + length (hex_lines xs) ≡ 9 * (from + length xs) = omega (arith, length_lines xs) in
         d.1
         ∙ ap (λ (l : List ℕ). put old (9 * from) (hex_lines l)) (take_all i xs h)
@@ -113,7 +113,7 @@ module _ (ws old : List ℕ) (c : Chip) (room : 9 * length ws ≤ length old) wh
 
   module _ (now : List ℕ) (s : Chip) (i : ℕ) (d : Progress ws old c now s i) where
     pub length_kept : length now ≡ length old
-    length_kept = ap length d.1.1 ∙ put-length old (hex_lines (advanced_answers c (take i ws))) 0 (omega (arith, d.0, answers_length i d.0))
+    length_kept = ap length d.1.1 ∙ put_length old (hex_lines (advanced_answers c (take i ws))) 0 (omega (arith, d.0, answers_length i d.0))
 
     pub words_more : (n : ℕ) → i + n ≤ length ws → (t : Chip) → t ≡ advanced s (take n (drop i ws))
         → (new : List ℕ) → new ≡ take (9 * i) now ++ (hex_lines (advanced_answers s (take n (drop i ws))) ++ drop (9 * (i + n)) now)
@@ -145,8 +145,8 @@ module _ (ws old : List ℕ) (c : Chip) (room : 9 * length ws ≤ length old) wh
           ),
         )
 
-    pub words-all : length ws ≤ i → (s ≡ advanced c ws) × (now ≡ hex_lines (advanced_answers c ws) ++ drop (9 * length ws) old)
-    words-all h =
+    pub words_all : length ws ≤ i → (s ≡ advanced c ws) × (now ≡ hex_lines (advanced_answers c ws) ++ drop (9 * length ws) old)
+    words_all h =
         let whole : take i ws ≡ ws = take_all i ws h in
         let lines = hex_lines (advanced_answers c ws) in
         let end : 0 + length lines ≡ 9 * length ws = omega (arith, length_lines (advanced_answers c ws), length_advanced_answers c ws) in (

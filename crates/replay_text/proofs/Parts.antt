@@ -17,7 +17,7 @@ use Rattle.recording_blocks.specs.Bytes.{words_of}
 use Rattle.replay_text.specs.Text.{hex_lines, words_text, replay_text, cut_word, parts_text, joined, part_answered, part_text, part_bytes}
 use Rattle.recording_blocks.proofs.Words.{length_words}
 use Rattle.replay_text.proofs.Words.{words_append}
-use Rattle.replay_text.proofs.Stream.{length-answered, text-whole, blocks}
+use Rattle.replay_text.proofs.Stream.{length_answered, text_whole, blocks}
 
 abbrev part : Chip → ℕ → ℕ → Part
 part c n k = record { chip = c; count = n; carried = k }
@@ -29,11 +29,11 @@ module _ (c : Chip) (bytes old : List ℕ) where
   length_cut = length-drop (4 * (length bytes / 4)) bytes ∙ omega arith
 
   -- too few places
-  pub part-short : length old / 9 < length bytes / 4
+  pub part_short : length old / 9 < length bytes / 4
       → (part c 0 (length bytes) ≡ part_answered c bytes old) × ((bytes ≡ part_bytes c bytes old) × (old ≡ part_text c bytes old))
   unfolding part_answered part_bytes part_text
-  part-short h =
-      let short : length old < length (words_text c bytes) = omega (arith, length-answered c bytes) in
+  part_short h =
+      let short : length old < length (words_text c bytes) = omega (arith, length_answered c bytes) in
       simp (lt-ltb _ _ short) (refl, (refl, refl))
 
   -- places enough
@@ -46,12 +46,12 @@ module _ (c : Chip) (bytes old : List ℕ) where
         ∙ length-append (cut_word bytes) (drop (length bytes - 4 * (length bytes / 4)) bytes)
         ∙ omega (arith, length_cut, length-drop (length bytes - 4 * (length bytes / 4)) bytes)
 
-    pub part-fits : (part s (9 * (length bytes / 4)) (length kept % 4) ≡ part_answered c bytes old)
+    pub part_fits : (part s (9 * (length bytes / 4)) (length kept % 4) ≡ part_answered c bytes old)
         × ((kept ≡ part_bytes c bytes old) × (now ≡ part_text c bytes old))
     unfolding part_answered part_bytes part_text
-    part-fits =
-        let room : length (words_text c bytes) ≤ length old = omega (arith, length-answered c bytes) in
-        let count : 9 * (length bytes / 4) ≡ length (words_text c bytes) = omega (arith, length-answered c bytes) in
+    part_fits =
+        let room : length (words_text c bytes) ≤ length old = omega (arith, length_answered c bytes) in
+        let count : 9 * (length bytes / 4) ≡ length (words_text c bytes) = omega (arith, length_answered c bytes) in
         let carried : length kept % 4 ≡ length (cut_word bytes) = ap (λ (n : ℕ). n % 4) length_kept ∙ sym length_cut in
         let rest : length bytes - 4 * (length bytes / 4) ≡ length (cut_word bytes) = omega (arith, length_cut) in
         simp (le-ltb _ _ room) (
@@ -95,7 +95,7 @@ parted c xs ys =
     ap (λ (l : List ℕ). replay_text c (l ++ ys)) (sym (take-append-drop (4 * (length xs / 4)) xs))
     ∙ ap (replay_text c) (append_assoc (whole_words xs) (cut_word xs) ys)
     ∙ blocks c (whole_words xs) (cut_word xs ++ ys) whole
-    ∙ ap (λ (t : List ℕ). t ++ replay_text (advanced c (words_of (whole_words xs))) (cut_word xs ++ ys)) (text-whole c (whole_words xs) whole)
+    ∙ ap (λ (t : List ℕ). t ++ replay_text (advanced c (words_of (whole_words xs))) (cut_word xs ++ ys)) (text_whole c (whole_words xs) whole)
     ∙ ap (λ (ws : List ℕ). hex_lines (advanced_answers c ws) ++ replay_text (advanced c ws) (cut_word xs ++ ys)) (words_whole xs)
 
 -- however a stream is cut into parts, their text is that of the stream

@@ -19,15 +19,15 @@ module _ (bytes old : List ℕ) (from count : ℕ) (pre : (from + count ≤ leng
   abbrev Read : List ℕ → ℕ → Type 0
   Read now i = now ≡ take i (drop from (words_of bytes)) ++ drop i old
 
-  pub left-words : count ≤ length (drop from (words_of bytes))
-  left-words = omega (arith, length-drop from (words_of bytes), length_words bytes, pre.0)
+  pub left_words : count ≤ length (drop from (words_of bytes))
+  left_words = omega (arith, length-drop from (words_of bytes), length_words bytes, pre.0)
 
   pub read_length : (now : List ℕ) (i : ℕ) → i ≤ count → Read now i → length now ≡ length old
-  read_length now i h e = filled_length (drop from (words_of bytes)) old now i (omega (arith, left-words)) (omega (arith, pre.1)) e
+  read_length now i h e = filled_length (drop from (words_of bytes)) old now i (omega (arith, left_words)) (omega (arith, pre.1)) e
 
   pub read_more : (now : List ℕ) (i a : ℕ) → i < count → Read now i → a ≡ get_or (words_of bytes) (from + i) 0 → Read (set now i a) (i + 1)
   read_more now i a h e p =
-      filled_more (drop from (words_of bytes)) old now i a (omega (arith, left-words)) (omega (arith, pre.1)) e (p ∙ sym (get_or-drop from (words_of bytes) i 0))
+      filled_more (drop from (words_of bytes)) old now i a (omega (arith, left_words)) (omega (arith, pre.1)) e (p ∙ sym (get_or-drop from (words_of bytes) i 0))
 
   pub read_all : (now : List ℕ) (i : ℕ) → i ≤ count → count ≤ i → Read now i → Read now count
   read_all now i h k e =
@@ -39,19 +39,19 @@ module _ (src w held : List ℕ) (n : ℕ) (enough : n ≤ length src) (e : held
   pub words_read : take n held ≡ take n src
   words_read = ap (take n) e ∙ take_at (take n src) (drop n w) n (length-take-le n src enough)
 
-  pub length-read : length (take n held) ≡ n
-  length-read = ap length words_read ∙ length-take-le n src enough
+  pub length_read : length (take n held) ≡ n
+  length_read = ap length words_read ∙ length-take-le n src enough
 
   module _ (c : Chip) (a : List ℕ) (room : n ≤ length a) where
     places_enough : length (take n held) ≤ length a
-    places_enough = omega (arith, length-read)
+    places_enough = omega (arith, length_read)
 
-    pub chip-after : (advance_all c (take n held) a).chip ≡ advanced c (take n src)
-    chip-after = rw (le-ltb _ _ places_enough) (ap (advanced c) words_read)
+    pub chip_after_lem : (advance_all c (take n held) a).chip ≡ advanced c (take n src)
+    chip_after_lem = rw (le-ltb _ _ places_enough) (ap (advanced c) words_read)
 
     answers_after : advance_all_answers c (take n held) a ≡ advanced_answers c (take n src) ++ drop n a
     answers_after =
-        rw (le-ltb _ _ places_enough) (ap (λ (l : List ℕ). advanced_answers c l ++ drop (length (take n held)) a) words_read ∙ ap (λ (k : ℕ). advanced_answers c (take n src) ++ drop k a) length-read)
+        rw (le-ltb _ _ places_enough) (ap (λ (l : List ℕ). advanced_answers c l ++ drop (length (take n held)) a) words_read ∙ ap (λ (k : ℕ). advanced_answers c (take n src) ++ drop k a) length_read)
 
     pub answers_read : (given : List ℕ) → given ≡ advance_all_answers c (take n held) a → take n given ≡ advanced_answers c (take n src)
     answers_read given p =

@@ -50,17 +50,17 @@ same_snoc (a ∷ s) [] x y h = absurd (omega arith)
 same_snoc (a ∷ s) (b ∷ t) x y h = and_assoc (eqb a b) (same_bytes s t) (eqb x y) ∙ ap (λ (r : Bool). eqb a b && r) (same_snoc s t x y (omega arith))
 
 module _ (s t : List ℕ) (h : length s ≡ length t) where
-  pub compared-more : (i : ℕ) → i < length s → (r : Bool) → r ≡ same_bytes (take i s) (take i t)
+  pub compared_more : (i : ℕ) → i < length s → (r : Bool) → r ≡ same_bytes (take i s) (take i t)
       → (r && eqb (get_or s i 0) (get_or t i 0)) ≡ same_bytes (take (i + 1) s) (take (i + 1) t)
-  compared-more i k r e =
+  compared_more i k r e =
       let l : i < length t = omega arith in
       let sizes : length (take i s) ≡ length (take i t) = length-take-le i s (omega arith) ∙ sym (length-take-le i t (omega arith)) in
       ap (λ (q : Bool). q && eqb (get_or s i 0) (get_or t i 0)) e
       ∙ same_snoc (take i s) (take i t) (get_or s i 0) (get_or t i 0) sizes
       ∙ rw (add-one, take-suc s i 0 k, take-suc t i 0 l)
 
-  pub compared-all : (i : ℕ) → length s ≤ i → (r : Bool) → r ≡ same_bytes (take i s) (take i t) → r ≡ same_bytes s t
-  compared-all i k r e = e ∙ ap₂ same_bytes (take_all i s k) (take_all i t (omega arith))
+  pub compared_all : (i : ℕ) → length s ≤ i → (r : Bool) → r ≡ same_bytes (take i s) (take i t) → r ≡ same_bytes s t
+  compared_all i k r e = e ∙ ap₂ same_bytes (take_all i s k) (take_all i t (omega arith))
 
 -- a whole list copied over one of the same length
 pub copied_over : (s z : List ℕ) → length s ≡ length z → take (length s) s ++ drop (length s) z ≡ s
@@ -105,20 +105,20 @@ module _ (s : List ℕ) (h : (loaded s).number ≡ 0) where
   unfolding loaded
   opened = loaded_by (eqb (length s) 128) (accepted s) (state_of s) h
 
-  pub loaded-size : length s ≡ 128
-  loaded-size = eqb-true (length s) 128 opened.0
+  pub loaded_size : length s ≡ 128
+  loaded_size = eqb-true (length s) 128 opened.0
 
-  pub loaded-well : well_formed (loaded s).state ≡ true
-  loaded-well = rw opened.2 (accepted_written s opened.1).1
+  pub loaded_well : well_formed (loaded s).state ≡ true
+  loaded_well = rw opened.2 (accepted_written s opened.1).1
 
   -- writing what was read gives the same bytes
-  pub loaded-written : s ≡ bytes_of (loaded s).state
-  loaded-written = rw opened.2 (accepted_written s opened.1).0
+  pub loaded_written : s ≡ bytes_of (loaded s).state
+  loaded_written = rw opened.2 (accepted_written s opened.1).0
 
-  pub loaded-registers : length (loaded s).state.registers ≡ 38
-  loaded-registers = rw opened.2 (registers_length s loaded-size)
+  pub loaded_registers : length (loaded s).state.registers ≡ 38
+  loaded_registers = rw opened.2 (registers_length s loaded_size)
 
   -- a state put into the area is its bytes then
-  pub put-loaded : (d : Chip) → put_in d s ≡ bytes_of d
+  pub put_loaded : (d : Chip) → put_in d s ≡ bytes_of d
   unfolding put_in
-  put-loaded d = rw opened.0
+  put_loaded d = rw opened.0

@@ -14,7 +14,7 @@ use Rattle.list_call.specs.Run.{run, run_answers, advance_all, advance_all_answe
 use Rattle.state_bytes.specs.Layout.{bytes_of}
 use Rattle.state_area.specs.declared.Loaded.{Loaded}
 use Rattle.state_area.specs.Area.{loaded, put_in}
-use Rattle.state_area.proofs.Accepted.{put-loaded, loaded-well}
+use Rattle.state_area.proofs.Accepted.{put_loaded, loaded_well}
 use Rattle.state_calls.specs.Calls.{holds_state}
 
 module _ (s : List ℕ) (r : Loaded) (e : r ≡ loaded s) where
@@ -22,11 +22,11 @@ module _ (s : List ℕ) (r : Loaded) (e : r ≡ loaded s) where
   pub done : {A : Type 0} (f : Chip → A) (y : A) → r.number ≡ 0 → f r.state ≡ pick (holds_state s) (f (loaded s).state) y
   done f y h = rw (e, eq-eqb (loaded s).number 0 (rw e at h))
 
-  pub put-done : (f : Chip → Chip) → r.number ≡ 0 → put_in (f r.state) s ≡ pick (holds_state s) (bytes_of (f (loaded s).state)) s
-  put-done f h = rw (e, eq-eqb (loaded s).number 0 (rw e at h)) (put-loaded s (rw e at h) (f (loaded s).state))
+  pub put_done : (f : Chip → Chip) → r.number ≡ 0 → put_in (f r.state) s ≡ pick (holds_state s) (bytes_of (f (loaded s).state)) s
+  put_done f h = rw (e, eq-eqb (loaded s).number 0 (rw e at h)) (put_loaded s (rw e at h) (f (loaded s).state))
 
   pub well : r.number ≡ 0 → well_formed r.state ≡ true
-  well h = rw e (loaded-well s (rw e at h))
+  well h = rw e (loaded_well s (rw e at h))
 
   -- it is refused: what depends on the number alone
   pub refused : {A : Type 0} (x : A) (g : ℕ → A) → (r.number ≡ 0 → ⊥) → g r.number ≡ pick (holds_state s) x (g (loaded s).number)

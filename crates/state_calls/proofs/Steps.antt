@@ -18,7 +18,7 @@ use Rattle.chip_address_match.specs.AddressOutcome.{outcome_report, outcome_word
 use Rattle.chip_lines.specs.Lines.{lines_report, lines_word}
 use Rattle.state_bytes.specs.Layout.{bytes_of}
 use Rattle.state_area.specs.Area.{holds, loaded}
-use Rattle.state_area.proofs.Accepted.{load_written, loaded-well, loaded-written}
+use Rattle.state_area.proofs.Accepted.{load_written, loaded_well, loaded_written}
 use Rattle.state_calls.specs.Calls.{holds_state, refusal_word, step_area, step_answer, run_number, run_area, run_places, hold_in, outcome_in, lines_in}
 
 -- ---- the bytes of a well formed state
@@ -27,44 +27,44 @@ module _ (c : Chip) (size : length c.registers ≡ 38) (well : well_formed c ≡
   read : loaded (bytes_of c) ≡ holds c
   read = load_written c size well
 
-  pub step-area : (w : ℕ) → step_area (bytes_of c) w ≡ bytes_of (step c w).chip
+  pub step_area_lem : (w : ℕ) → step_area (bytes_of c) w ≡ bytes_of (step c w).chip
   unfolding step_area
-  step-area w = rw read
+  step_area_lem w = rw read
 
-  pub step-answer : (w : ℕ) → step_answer (bytes_of c) w ≡ (step c w).answer
+  pub step_answer_lem : (w : ℕ) → step_answer (bytes_of c) w ≡ (step c w).answer
   unfolding step_answer
-  step-answer w = rw read
+  step_answer_lem w = rw read
 
   pub run_number_lem : (ws ps : List ℕ) → run_number (bytes_of c) ws ps ≡ (run c ws ps).number
   unfolding run_number
   run_number_lem ws ps = rw read
 
-  pub run-area : (ws ps : List ℕ) → run_area (bytes_of c) ws ps ≡ bytes_of (run c ws ps).chip
+  pub run_area_lem : (ws ps : List ℕ) → run_area (bytes_of c) ws ps ≡ bytes_of (run c ws ps).chip
   unfolding run_area
-  run-area ws ps = rw read
+  run_area_lem ws ps = rw read
 
-  pub run-places : (ws ps : List ℕ) → run_places (bytes_of c) ws ps ≡ run_answers c ws ps
+  pub run_places_lem : (ws ps : List ℕ) → run_places (bytes_of c) ws ps ≡ run_answers c ws ps
   unfolding run_places
-  run-places ws ps = rw read
+  run_places_lem ws ps = rw read
 
-  pub hold-in : hold_in (bytes_of c) ≡ hold_word (hold_report c)
+  pub hold_in_lem : hold_in (bytes_of c) ≡ hold_word (hold_report c)
   unfolding hold_in
-  hold-in = rw read
+  hold_in_lem = rw read
 
-  pub outcome-in : outcome_in (bytes_of c) ≡ outcome_word (outcome_report c)
+  pub outcome_in_lem : outcome_in (bytes_of c) ≡ outcome_word (outcome_report c)
   unfolding outcome_in
-  outcome-in = rw read
+  outcome_in_lem = rw read
 
-  pub lines-in : lines_in (bytes_of c) ≡ lines_word (lines_report c)
+  pub lines_in_lem : lines_in (bytes_of c) ≡ lines_word (lines_report c)
   unfolding lines_in
-  lines-in = rw read
+  lines_in_lem = rw read
 
 -- ---- every other area: it keeps its bytes, and the answer is the number of its refusal, 15 or 8, before all else
 
 module _ (s : List ℕ) (refused : holds_state s ≡ false) where
-  pub step-refused : (w : ℕ) → (step_area s w ≡ s) × (step_answer s w ≡ refusal_word s)
+  pub step_refused : (w : ℕ) → (step_area s w ≡ s) × (step_answer s w ≡ refusal_word s)
   unfolding step_area step_answer
-  step-refused w = (rw refused, rw refused)
+  step_refused w = (rw refused, rw refused)
 
   pub run_refused : (ws ps : List ℕ) → (run_area s ws ps ≡ s) × (run_places s ws ps ≡ ps) × (run_number s ws ps ≡ (loaded s).number)
   unfolding run_area run_places run_number
@@ -78,10 +78,10 @@ module _ (s : List ℕ) (held : holds_state s ≡ true) where
 
   pub unmoved : (w : ℕ) → (step (loaded s).state w).chip ≡ (loaded s).state → step_area s w ≡ s
   unfolding step_area
-  unmoved w e = rw (held, e) (sym (loaded-written s number))
+  unmoved w e = rw (held, e) (sym (loaded_written s number))
 
-  pub short-unmoved : (ws ps : List ℕ) → ltb (length ps) (length ws) ≡ true → (run_area s ws ps ≡ s) × (run_places s ws ps ≡ ps) × (run_number s ws ps ≡ 7)
+  pub short_unmoved : (ws ps : List ℕ) → ltb (length ps) (length ws) ≡ true → (run_area s ws ps ≡ s) × (run_places s ws ps ≡ ps) × (run_number s ws ps ≡ 7)
   unfolding run_area run_places run_number run run_answers
-  short-unmoved ws ps short =
-      let well = loaded-well s number in
-      (rw (held, well, short) (sym (loaded-written s number)), rw (held, well, short), rw (held, well, short))
+  short_unmoved ws ps short =
+      let well = loaded_well s number in
+      (rw (held, well, short) (sym (loaded_written s number)), rw (held, well, short), rw (held, well, short))

@@ -20,7 +20,7 @@ use Rattle.isolation_laws.proofs.Theorems.{several_transfers, one_transfer, seve
 use Rattle.state_area.specs.Area.{loaded}
 use Rattle.state_calls.specs.Calls.{holds_state, step_area, step_answer, run_number}
 use Rattle.state_laws.specs.Bytes.{BytesRunsAgree, BytesCallsAgree}
-use Rattle.state_laws.proofs.Stays.{well, stepped-holds, after_holds, answers-given, call_number_lem, call-places, call-state}
+use Rattle.state_laws.proofs.Stays.{well, stepped_holds, after_holds, answers_given, call_number_lem, call_places, call_state}
 
 -- ---- demand 2: whatever holds of every step of a well formed state holds of every step of its bytes, the state being what the area
 -- holds before and after
@@ -30,40 +30,40 @@ unfolding advance
 caused q c w t = rw (step_advances c w t) (causes_of_word q c w)
 
 module _ (P : Chip → ℕ → Chip → ℕ → Type 0) (proved : (c : Chip) (w : ℕ) → well_formed c ≡ true → P c w (step c w).chip (step c w).answer) where
-  pub demand-2 : (s : List ℕ) → holds_state s ≡ true → (w : ℕ) → P (loaded s).state w (loaded (step_area s w)).state (step_answer s w)
+  pub demand_2 : (s : List ℕ) → holds_state s ≡ true → (w : ℕ) → P (loaded s).state w (loaded (step_area s w)).state (step_answer s w)
   unfolding step_answer
-  demand-2 s held w = rw (stepped-holds s held w, held) (proved (loaded s).state w (well s held))
+  demand_2 s held w = rw (stepped_holds s held w, held) (proved (loaded s).state w (well s held))
 
 -- what sets and clears each flag, on bytes
 pub causes_on_bytes : (q : Source) (s : List ℕ) → holds_state s ≡ true → (w : ℕ)
     → flag q (loaded (step_area s w)).state ≡ (raises q (loaded s).state (decode w) || (flag q (loaded s).state && not (clears q (loaded s).state (decode w))))
-causes_on_bytes q = demand-2 (λ (c : Chip) (w : ℕ) (d : Chip) (a : ℕ). flag q d ≡ (raises q c (decode w) || (flag q c && not (clears q c (decode w))))) (caused q)
+causes_on_bytes q = demand_2 (λ (c : Chip) (w : ℕ) (d : Chip) (a : ℕ). flag q d ≡ (raises q c (decode w) || (flag q c && not (clears q c (decode w))))) (caused q)
 
 -- ---- demand 3: runs of the step on bytes from one area
 
 module _ (s : List ℕ) (held : holds_state s ≡ true) (ddc2b : mode_of (loaded s).state.core ≡ Ddc2b) where
   carried : (ws vs : List ℕ) → Agree ws vs (answers (loaded s).state ws) (answers (loaded s).state vs) (after (loaded s).state ws) (after (loaded s).state vs) → BytesRunsAgree s ws vs
-  carried ws vs a = rw (answers-given s held ws, answers-given s held vs, after_holds s held ws, after_holds s held vs) a
+  carried ws vs a = rw (answers_given s held ws, answers_given s held vs, after_holds s held ws, after_holds s held vs) a
 
-  pub demand-3 : (loaded s).state.core.bus.phase ≡ start_phase → (ws vs : List ℕ) → OneTransfer (observer_of (loaded s).state (since [])) ws vs → BytesRunsAgree s ws vs
-  demand-3 b ws vs p = carried ws vs (one_transfer (loaded s).state ddc2b b ws vs p)
+  pub demand_3 : (loaded s).state.core.bus.phase ≡ start_phase → (ws vs : List ℕ) → OneTransfer (observer_of (loaded s).state (since [])) ws vs → BytesRunsAgree s ws vs
+  demand_3 b ws vs p = carried ws vs (one_transfer (loaded s).state ddc2b b ws vs p)
 
   -- over any number of foreign transfers (Wish 13)
-  pub demand-3-several : {t : Trace} → Begun (loaded s).state.core.bus.phase t → (ws vs : List ℕ)
+  pub demand_3_several : {t : Trace} → Begun (loaded s).state.core.bus.phase t → (ws vs : List ℕ)
       → SeveralTransfers (observer_of (loaded s).state t) (observer_of (loaded s).state t) ws vs → BytesRunsAgree s ws vs
-  demand-3-several b ws vs p = carried ws vs (several_transfers (loaded s).state ddc2b b ws vs p)
+  demand_3_several b ws vs p = carried ws vs (several_transfers (loaded s).state ddc2b b ws vs p)
 
   -- two list calls that return 0, with the answer places xs and ys
   carried_called : (ws vs xs ys : List ℕ) → CallsAgree (loaded s).state ws vs xs ys → BytesCallsAgree s ws vs xs ys
-  carried_called ws vs xs ys a = rw (call-places s held ws xs, call-places s held vs ys, call-state s held ws xs, call-state s held vs ys) a
+  carried_called ws vs xs ys a = rw (call_places s held ws xs, call_places s held vs ys, call_state s held ws xs, call_state s held vs ys) a
 
-  pub demand-3-called : (loaded s).state.core.bus.phase ≡ start_phase → (ws vs xs ys : List ℕ) → OneTransfer (observer_of (loaded s).state (since [])) ws vs
+  pub demand_3_called : (loaded s).state.core.bus.phase ≡ start_phase → (ws vs xs ys : List ℕ) → OneTransfer (observer_of (loaded s).state (since [])) ws vs
       → run_number s ws xs ≡ 0 → run_number s vs ys ≡ 0 → BytesCallsAgree s ws vs xs ys
-  demand-3-called b ws vs xs ys p n n' =
+  demand_3_called b ws vs xs ys p n n' =
       carried_called ws vs xs ys (one_transfer_called (loaded s).state ddc2b b ws vs xs ys p (rw (call_number_lem s held ws xs) at n) (rw (call_number_lem s held vs ys) at n'))
 
-  pub demand-3-several-called : {t : Trace} → Begun (loaded s).state.core.bus.phase t → (ws vs xs ys : List ℕ)
+  pub demand_3_several_called : {t : Trace} → Begun (loaded s).state.core.bus.phase t → (ws vs xs ys : List ℕ)
       → SeveralTransfers (observer_of (loaded s).state t) (observer_of (loaded s).state t) ws vs
       → run_number s ws xs ≡ 0 → run_number s vs ys ≡ 0 → BytesCallsAgree s ws vs xs ys
-  demand-3-several-called b ws vs xs ys p n n' =
+  demand_3_several_called b ws vs xs ys p n n' =
       carried_called ws vs xs ys (several_transfers_called (loaded s).state ddc2b b ws vs xs ys p (rw (call_number_lem s held ws xs) at n) (rw (call_number_lem s held vs ys) at n'))

@@ -16,7 +16,7 @@ use Rattle.state_bytes.specs.Layout.{bytes_of, state_of}
 use Rattle.state_area.specs.Area.{accepted, holds, refused, loaded, store_number, store_left}
 use Rattle.state_area.proofs.Accepted.{accepted_written, exactly}
 use Rattle.state_calls.specs.Calls.{holds_state, step_area, step_answer, run_number, run_area, run_places}
-use Rattle.state_calls.proofs.Steps.{step-refused, run_refused}
+use Rattle.state_calls.proofs.Steps.{step_refused, run_refused}
 use Rattle.state_laws.specs.Bytes.{WrittenAsNone}
 
 -- ---- the number, by the two tests
@@ -61,24 +61,24 @@ refused_by_lem : (s : List ℕ) (n : ℕ) → (loaded s).number ≡ n → eqb n 
 refused_by_lem s n h z = rw h z
 
 module _ (s : List ℕ) (h : length s ≡ 128 → ⊥) where
-  pub step-fifteen : (w : ℕ) → (step_answer s w ≡ 0x0F000000) × (step_area s w ≡ s)
-  step-fifteen w =
-      let z = step-refused s (refused_by_lem s 15 (fifteen s h) refl) w in
+  pub step_fifteen : (w : ℕ) → (step_answer s w ≡ 0x0F000000) × (step_area s w ≡ s)
+  step_fifteen w =
+      let z = step_refused s (refused_by_lem s 15 (fifteen s h) refl) w in
       (rw (fifteen s h) at z.1, z.0)
 
-  pub run-fifteen : (ws ps : List ℕ) → (run_number s ws ps ≡ 15) × (run_area s ws ps ≡ s) × (run_places s ws ps ≡ ps)
-  run-fifteen ws ps =
+  pub run_fifteen : (ws ps : List ℕ) → (run_number s ws ps ≡ 15) × (run_area s ws ps ≡ s) × (run_places s ws ps ≡ ps)
+  run_fifteen ws ps =
       let z = run_refused s (refused_by_lem s 15 (fifteen s h) refl) ws ps in
       (z.2 ∙ fifteen s h, z.0, z.1)
 
 module _ (s : List ℕ) (l : length s ≡ 128) (n : WrittenAsNone s) where
-  pub step-eight : (w : ℕ) → (step_answer s w ≡ 0x08000000) × (step_area s w ≡ s)
-  step-eight w =
-      let z = step-refused s (refused_by_lem s 8 (eight s l n) refl) w in
+  pub step_eight : (w : ℕ) → (step_answer s w ≡ 0x08000000) × (step_area s w ≡ s)
+  step_eight w =
+      let z = step_refused s (refused_by_lem s 8 (eight s l n) refl) w in
       (rw (eight s l n) at z.1, z.0)
 
-  pub run-eight : (ws ps : List ℕ) → (run_number s ws ps ≡ 8) × (run_area s ws ps ≡ s) × (run_places s ws ps ≡ ps)
-  run-eight ws ps =
+  pub run_eight : (ws ps : List ℕ) → (run_number s ws ps ≡ 8) × (run_area s ws ps ≡ s) × (run_places s ws ps ≡ ps)
+  run_eight ws ps =
       let z = run_refused s (refused_by_lem s 8 (eight s l n) refl) ws ps in
       (z.2 ∙ eight s l n, z.0, z.1)
 

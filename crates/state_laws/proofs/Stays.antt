@@ -22,9 +22,9 @@ use Rattle.chip_laws.proofs.Numbers.{refused_keeps}
 use Rattle.list_call_laws.proofs.Runs.{step_advances, after_advanced, answers_advanced, after_well_formed}
 use Rattle.state_bytes.specs.Layout.{bytes_of}
 use Rattle.state_area.specs.Area.{holds, loaded, store_number, store_left}
-use Rattle.state_area.proofs.Accepted.{load_written, loaded-well, loaded-written, loaded-registers}
+use Rattle.state_area.proofs.Accepted.{load_written, loaded_well, loaded_written, loaded_registers}
 use Rattle.state_calls.specs.Calls.{holds_state, step_area, step_answer, run_number, run_area, run_places}
-use Rattle.state_calls.proofs.Steps.{step-area, step-answer, step-refused, unmoved}
+use Rattle.state_calls.proofs.Steps.{step_area_lem, step_answer_lem, step_refused, unmoved}
 use Rattle.state_laws.specs.Bytes.{bytes_after, bytes_answers}
 
 -- ---- the array keeps its 38 places
@@ -61,12 +61,12 @@ fresh_holds s h =
 
 pub bytes_after_lem : (c : Chip) (ws : List ℕ) → length c.registers ≡ 38 → well_formed c ≡ true → bytes_after (bytes_of c) ws ≡ bytes_of (after c ws)
 bytes_after_lem c [] h t = refl
-bytes_after_lem c (w ∷ ws) h t = rw (step-area c h t w) (bytes_after_lem (step c w).chip ws (step_length c w t h) (step_well_formed c w t))
+bytes_after_lem c (w ∷ ws) h t = rw (step_area_lem c h t w) (bytes_after_lem (step c w).chip ws (step_length c w t h) (step_well_formed c w t))
 
 pub bytes_answers_lem : (c : Chip) (ws : List ℕ) → length c.registers ≡ 38 → well_formed c ≡ true → bytes_answers (bytes_of c) ws ≡ answers c ws
 bytes_answers_lem c [] h t = refl
 bytes_answers_lem c (w ∷ ws) h t =
-    rw (step-area c h t w, step-answer c h t w) (ap (λ (l : List ℕ). (step c w).answer ∷ l) (bytes_answers_lem (step c w).chip ws (step_length c w t h) (step_well_formed c w t)))
+    rw (step_area_lem c h t w, step_answer_lem c h t w) (ap (λ (l : List ℕ). (step c w).answer ∷ l) (bytes_answers_lem (step c w).chip ws (step_length c w t h) (step_well_formed c w t)))
 
 -- ---- an area that holds a state
 
@@ -75,18 +75,18 @@ module _ (s : List ℕ) (held : holds_state s ≡ true) where
   number = eqb-true (loaded s).number 0 held
 
   pub well : well_formed (loaded s).state ≡ true
-  well = loaded-well s number
+  well = loaded_well s number
 
   size : length (loaded s).state.registers ≡ 38
-  size = loaded-registers s number
+  size = loaded_registers s number
 
   bytes : s ≡ bytes_of (loaded s).state
-  bytes = loaded-written s number
+  bytes = loaded_written s number
 
   -- after a word it holds the state after that word
-  pub stepped-holds : (w : ℕ) → loaded (step_area s w) ≡ holds (step (loaded s).state w).chip
+  pub stepped_holds : (w : ℕ) → loaded (step_area s w) ≡ holds (step (loaded s).state w).chip
   unfolding step_area
-  stepped-holds w = rw held (load_written (step (loaded s).state w).chip (step_length (loaded s).state w well size) (step_well_formed (loaded s).state w well))
+  stepped_holds w = rw held (load_written (step (loaded s).state w).chip (step_length (loaded s).state w well size) (step_well_formed (loaded s).state w well))
 
   -- and after a list of words
   pub after_holds : (ws : List ℕ) → loaded (bytes_after s ws) ≡ holds (after (loaded s).state ws)
@@ -94,30 +94,30 @@ module _ (s : List ℕ) (held : holds_state s ≡ true) where
       let c = (loaded s).state in
       ap (λ (l : List ℕ). loaded (bytes_after l ws)) bytes ∙ ap loaded (bytes_after_lem c ws size well) ∙ load_written (after c ws) (after_length c ws well size) (after_well_formed c ws well)
 
-  pub answers-given : (ws : List ℕ) → bytes_answers s ws ≡ answers (loaded s).state ws
-  answers-given ws = ap (λ (l : List ℕ). bytes_answers l ws) bytes ∙ bytes_answers_lem (loaded s).state ws size well
+  pub answers_given : (ws : List ℕ) → bytes_answers s ws ≡ answers (loaded s).state ws
+  answers_given ws = ap (λ (l : List ℕ). bytes_answers l ws) bytes ∙ bytes_answers_lem (loaded s).state ws size well
 
   -- a list call with places enough leaves what the words one by one leave
-  pub call-holds : (ws ps : List ℕ) → ltb (length ps) (length ws) ≡ false → loaded (run_area s ws ps) ≡ holds (after (loaded s).state ws)
+  pub call_holds : (ws ps : List ℕ) → ltb (length ps) (length ws) ≡ false → loaded (run_area s ws ps) ≡ holds (after (loaded s).state ws)
   unfolding run_area run
-  call-holds ws ps short =
+  call_holds ws ps short =
       let c = (loaded s).state in
       rw (held, well, short, ← (after_advanced c ws well)) (load_written (after c ws) (after_length c ws well size) (after_well_formed c ws well))
 
-  pub call-answers : (ws ps : List ℕ) → ltb (length ps) (length ws) ≡ false → run_places s ws ps ≡ bytes_answers s ws ++ drop (length ws) ps
+  pub call_answers : (ws ps : List ℕ) → ltb (length ps) (length ws) ≡ false → run_places s ws ps ≡ bytes_answers s ws ++ drop (length ws) ps
   unfolding run_places run_answers
-  call-answers ws ps short =
+  call_answers ws ps short =
       let c = (loaded s).state in
-      rw (held, well, short) (ap (λ (l : List ℕ). l ++ drop (length ws) ps) (sym (answers_advanced c ws well) ∙ sym (answers-given ws)))
+      rw (held, well, short) (ap (λ (l : List ℕ). l ++ drop (length ws) ps) (sym (answers_advanced c ws well) ∙ sym (answers_given ws)))
 
   -- of every list call, 7 included, the number and the answer places are those of the state, and the area holds the state after it
   pub call_number_lem : (ws ps : List ℕ) → run_number s ws ps ≡ (run (loaded s).state ws ps).number
   unfolding run_number
   call_number_lem ws ps = rw held
 
-  pub call-places : (ws ps : List ℕ) → run_places s ws ps ≡ run_answers (loaded s).state ws ps
+  pub call_places : (ws ps : List ℕ) → run_places s ws ps ≡ run_answers (loaded s).state ws ps
   unfolding run_places
-  call-places ws ps = rw held
+  call_places ws ps = rw held
 
   state_by : (ws ps : List ℕ) (b : Bool) → ltb (length ps) (length ws) ≡ b → loaded (run_area s ws ps) ≡ holds (run (loaded s).state ws ps).chip
   unfolding run_area run
@@ -126,15 +126,15 @@ module _ (s : List ℕ) (held : holds_state s ≡ true) where
       let c = (loaded s).state in
       rw (held, well, short, ← (after_advanced c ws well)) (load_written (after c ws) (after_length c ws well size) (after_well_formed c ws well))
 
-  pub call-state : (ws ps : List ℕ) → loaded (run_area s ws ps) ≡ holds (run (loaded s).state ws ps).chip
-  call-state ws ps = state_by ws ps (ltb (length ps) (length ws)) refl
+  pub call_state : (ws ps : List ℕ) → loaded (run_area s ws ps) ≡ holds (run (loaded s).state ws ps).chip
+  call_state ws ps = state_by ws ps (ltb (length ps) (length ws)) refl
 
 -- ---- every refusal, 1 to 6, 8 and 15: the number in bits 31..24 is not 0, and the area keeps its bytes
 
 refused_by_lem : (s : List ℕ) (w : ℕ) (b : Bool) → holds_state s ≡ b → (step_answer s w / 16777216 ≡ 0 → ⊥) → step_area s w ≡ s
 unfolding step_answer
 refused_by_lem s w true held h = unmoved s held w (refused_keeps (loaded s).state w (rw held at h))
-refused_by_lem s w false held h = (step-refused s held w).0
+refused_by_lem s w false held h = (step_refused s held w).0
 
 pub refused_untouched : (s : List ℕ) (w : ℕ) → (step_answer s w / 16777216 ≡ 0 → ⊥) → step_area s w ≡ s
 refused_untouched s w h = refused_by_lem s w (holds_state s) refl h

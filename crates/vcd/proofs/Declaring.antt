@@ -25,9 +25,9 @@ module _ (text places pins : List ℕ) (pin n k : ℕ) where
   unfolding taken variables
   taken_here h e = let z : n - k ≡ suc (n - (k + 1)) = omega arith in rw z (simp (eq-eqb _ _ e))
 
-  pub taken-end : n ≤ k → false ≡ taken (variables text places pins k (n - k)) pin
+  pub taken_end : n ≤ k → false ≡ taken (variables text places pins k (n - k)) pin
   unfolding taken variables
-  taken-end h = let z : n - k ≡ 0 = omega arith in rw z refl
+  taken_end h = let z : n - k ≡ 0 = omega arith in rw z refl
 
 -- ---- a table with one entry more
 
@@ -42,32 +42,32 @@ last_entry text places pins k (suc n) =
     ap (λ (l : List Variable). entry text places pins k ∷ l) (last_entry text places pins (k + 1) n ∙ rw z refl)
 
 module _ (text places pins : List ℕ) (n from to pin : ℕ) where
-  abbrev newPlaces : List ℕ
-  newPlaces = set (set places (n * 2) from) (n * 2 + 1) to
+  abbrev new_places : List ℕ
+  new_places = set (set places (n * 2) from) (n * 2 + 1) to
 
-  old_place : (i : ℕ) → i < n * 2 → get_or newPlaces i 0 ≡ get_or places i 0
+  old_place : (i : ℕ) → i < n * 2 → get_or new_places i 0 ≡ get_or places i 0
   old_place i h = get_or-set_other (set places (n * 2) from) (n * 2 + 1) i to 0 (λ e. omega arith) ∙ get_or-set_other places (n * 2) i from 0 (λ e. omega arith)
 
   old_pin : (i : ℕ) → i < n → get_or (set pins n pin) i 0 ≡ get_or pins i 0
   old_pin i h = get_or-set_other pins n i pin 0 (λ e. omega arith)
 
-  old_entries : (k m : ℕ) → k + m ≤ n → variables text newPlaces (set pins n pin) k m ≡ variables text places pins k m
+  old_entries : (k m : ℕ) → k + m ≤ n → variables text new_places (set pins n pin) k m ≡ variables text places pins k m
   unfolding variables
   old_entries k zero h = refl
   old_entries k (suc m) h =
       rw (old_place (k * 2 + 1) (omega arith), old_place (k * 2) (omega arith), old_pin k (omega arith), old_entries (k + 1) m (omega arith)) refl
 
   module _ (h : n * 2 + 1 < length places) (l : n < length pins) where
-    first_place : get_or newPlaces (n * 2) 0 ≡ from
+    first_place : get_or new_places (n * 2) 0 ≡ from
     first_place = get_or-set_other (set places (n * 2) from) (n * 2 + 1) (n * 2) to 0 (λ e. omega arith) ∙ get_or-set_same places (n * 2) from 0 (omega arith)
 
-    last_place : get_or newPlaces (n * 2 + 1) 0 ≡ to
+    last_place : get_or new_places (n * 2 + 1) 0 ≡ to
     last_place = get_or-set_same (set places (n * 2) from) (n * 2 + 1) to 0 (simp length-set h)
 
-    pub one-more-entry : variables text newPlaces (set pins n pin) 0 (n + 1)
+    pub one_more_entry : variables text new_places (set pins n pin) 0 (n + 1)
         ≡ variables text places pins 0 n ++ (record { code = take (to - from) (drop from text); pin = pin } ∷ [])
-    one-more-entry =
+    one_more_entry =
         let z : 0 + n ≡ n = omega arith in
-        ap (variables text newPlaces (set pins n pin) 0) (add-one n)
-        ∙ last_entry text newPlaces (set pins n pin) 0 n
+        ap (variables text new_places (set pins n pin) 0) (add-one n)
+        ∙ last_entry text new_places (set pins n pin) 0 n
         ∙ rw (z, old_entries 0 n (omega arith), first_place, last_place, get_or-set_same pins n pin 0 l) refl

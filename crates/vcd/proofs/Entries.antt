@@ -90,6 +90,6 @@ module _ (text places pins : List ℕ) (n h : Head) where
       → settled text (heading n (variables text places pins 0 n.entries)) ≡ settled text (heading (step_as section t h p e) (variables text places pins 0 h.entries))
   step_so section t p e q = rw (q, step_keeps section t h p e) refl
 
-  pub end-so : (section : Section) (size : ℕ) → n ≡ end_as section h size
+  pub end_so : (section : Section) (size : ℕ) → n ≡ end_as section h size
       → heading n (variables text places pins 0 n.entries) ≡ heading (end_as section h size) (variables text places pins 0 h.entries)
-  end-so section size q = rw (q, end_keeps section h size) refl
+  end_so section size q = rw (q, end_keeps section h size) refl

@@ -26,23 +26,23 @@ module _ (text : List ℕ) where
       unfolding header
       head_more s = rw (next_token text i p from e to h, token_to, ← q) (simp s)
 
-      pub head-stop : n.head.close.stop ≡ true → n ≡ header text g (tokens false i (drop i text))
+      pub head_stop : n.head.close.stop ≡ true → n ≡ header text g (tokens false i (drop i text))
       unfolding header
-      head-stop s = rw (next_token text i p from e to h, token_to, ← q) (simp s)
+      head_stop s = rw (next_token text i p from e to h, token_to, ← q) (simp s)
 
   -- no token is left
-  pub head-none : (g : Heading) (i p : ℕ) → p ≡ i + white_length (drop i text) → length text ≤ p
+  pub head_none : (g : Heading) (i p : ℕ) → p ≡ i + white_length (drop i text) → length text ≤ p
       → heading (end_as g.head.section g.head (length text)) g.variables ≡ header text g (tokens false i (drop i text))
   unfolding header
-  head-none g i p from h = rw (no_token_lem text i p from h) refl
+  head_none g i p from h = rw (no_token_lem text i p from h) refl
 
-  pub head-all : (g : Heading) (i : ℕ) → length text ≤ i
+  pub head_all : (g : Heading) (i : ℕ) → length text ≤ i
       → heading (end_as g.head.section g.head (length text)) g.variables ≡ header text g (tokens false i (drop i text))
   unfolding header tokens
-  head-all g i h = rw (drop_of_length-le text {i = i} h) refl
+  head_all g i h = rw (drop_of_length-le text {i = i} h) refl
 
   -- before the first token no variable is declared
-  pub fresh-so : (places pins : List ℕ) (h : Head) → h ≡ fresh_head
+  pub fresh_so : (places pins : List ℕ) (h : Head) → h ≡ fresh_head
       → header text (heading h (variables text places pins 0 h.entries)) (tokens false 0 (drop 0 text)) ≡ header_of text
   unfolding header_of variables
-  fresh-so places pins h e = rw e refl
+  fresh_so places pins h e = rw e refl

@@ -23,16 +23,16 @@ entry_by table n v b target false e h t l f =
     rw (get_or-set_other table n b v 0 (λ q. z q)) (f (omega arith))
 
 module _ (text places pins : List ℕ) (entries : ℕ) (table : List ℕ) (n v : ℕ) where
-  pub singles-more : n < 256 → meant v ≡ find (variables text places pins 0 entries) (n ∷ [])
+  pub singles_more : n < 256 → meant v ≡ find (variables text places pins 0 entries) (n ∷ [])
       → Singles text places pins entries table n → Singles text places pins entries (set table n v) (n + 1)
-  singles-more h e k = record {
+  singles_more h e k = record {
     size = length-set table n v ∙ k.size;
     each = λ b l. entry_by table n v b (λ m. find (variables text places pins 0 entries) (m ∷ [])) (eqb b n) refl (omega (arith, k.size)) e l (k.each b);
   }
 
-  pub lists-more : n < 32 → meant v ≡ find (variables text places pins 0 entries) (code_at text places n)
+  pub lists_more : n < 32 → meant v ≡ find (variables text places pins 0 entries) (code_at text places n)
       → Lists text places pins entries table n → Lists text places pins entries (set table n v) (n + 1)
-  lists-more h e k = record {
+  lists_more h e k = record {
     size = length-set table n v ∙ k.size;
     each = λ b l. entry_by table n v b (λ m. find (variables text places pins 0 entries) (code_at text places m)) (eqb b n) refl (omega (arith, k.size)) e l (k.each b);
   }

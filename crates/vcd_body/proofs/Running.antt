@@ -14,7 +14,7 @@ use Rattle.bits.specs.Byte.{num}
 use Rattle.vcd_text.specs.declared.Number.{Number}
 use Rattle.vcd_text.specs.declared.Number.TheVariants.{Of}
 use Rattle.vcd_text.specs.Token.{white, white_length, word_length, number_of, grown_by, longer_by, digits_from, decimal_of}
-use Rattle.vcd_text.proofs.Laws.{word_some, word_more, word-stops, some_byte, decimal_some}
+use Rattle.vcd_text.proofs.Laws.{word_some, word_more, word_stops, some_byte, decimal_some}
 use Rattle.vcd_output.specs.declared.Put.{Put}
 use Rattle.vcd_output.specs.Room.{Written, put, wrote, clock_word, pin_word, unpacked, pin_words}
 use Rattle.vcd_codes.specs.Codes.{Found, meant}
@@ -28,11 +28,11 @@ use Rattle.vcd_steps.specs.Steps.{proceed, at_time, item_step, change_of, time_o
 use Rattle.vcd_steps.proofs.Times.{fits_of}
 use Rattle.vcd_body.specs.declared.Run.{Run}
 use Rattle.vcd_body.specs.declared.Turn.TheVariants.{On}
-use Rattle.vcd_body.specs.Trace.{tokenAs}
+use Rattle.vcd_body.specs.Trace.{token_as}
 use Rattle.vcd_body.specs.Pieces.{turned, turn_by, placed}
 use Rattle.vcd_body.specs.Runs.{NextToken, Advances, Leads, ran}
 use Rattle.vcd_body.proofs.Placing.{clocks_left, pin_words_lem}
-use Rattle.vcd_body.proofs.Reading.{token-goes-on}
+use Rattle.vcd_body.proofs.Reading.{token_goes_on}
 
 pub never : false ≡ true → ⊥
 never h = let z : ◌≡◌ {A = ℕ} 0 1 = cc in omega arith
@@ -78,7 +78,7 @@ pub after_first : (text : List ℕ) (at p : ℕ) → p ≡ at + white_length (dr
 after_first text at p from h = by (white (get_or text p 0)) refl
   where
     by : (q : Bool) → white (get_or text p 0) ≡ q → (p + 1) + word_length (drop (p + 1) text) ≡ p + word_length (drop p text)
-    by true e = absurd (omega (arith, word-stops text p h e, word_some text at p from (p + word_length (drop p text)) refl h))
+    by true e = absurd (omega (arith, word_stops text p h e, word_some text at p from (p + word_length (drop p text)) refl h))
     by false e = word_more text p h e
 
 head_of : (text : List ℕ) (p e : ℕ) → p < e → get_or (take (e - p) (drop p text)) 0 0 ≡ get_or text p 0
@@ -138,31 +138,31 @@ unfolding placed turn_by
 written_turn s events room after from count w = rw (← w) refl
 
 module _ (find : List ℕ → Found) (scale : ℕ) (text : List ℕ) where
-  pub leads-nowhere : (a : Run) (room : List ℕ) → Leads find scale text a room a room
-  leads-nowhere a room = record { onward = omega arith; same = λ s m i. refl }
+  pub leads_nowhere : (a : Run) (room : List ℕ) → Leads find scale text a room a room
+  leads_nowhere a room = record { onward = omega arith; same = λ s m i. refl }
 
   pub leads_on : (a b d : Run) (room mid after : List ℕ) → Leads find scale text a room b mid → Leads find scale text b mid d after → Leads find scale text a room d after
   leads_on a b d room mid after h k = record { onward = omega (arith, h.onward, k.onward); same = λ s m i. k.same s m i ∙ h.same s m i }
 
   -- by a token all of whose words find places
   leads_by : (a : Run) (room after : List ℕ) (p e count time clocks : ℕ) (events : List Event) → NextToken text a.at p e
-      → ((s : State) → s.mode ≡ Plain → s.inside ≡ false → tokenAs find scale Plain (ran s a) (take (e - p) (drop p text)) p ≡ proceed (at_time s time clocks) events)
+      → ((s : State) → s.mode ≡ Plain → s.inside ≡ false → token_as find scale Plain (ran s a) (take (e - p) (drop p text)) p ≡ proceed (at_time s time clocks) events)
       → wrote after (record { count = count; done = 0; full = false }) ≡ put (words events) room a.count 0
       → Leads find scale text a room (record { at = e; count = count; time = time; clocks = clocks }) after
   leads_by a room after p e count time clocks events next f w = record {
     onward = omega (arith, next.from, word_some text a.at p next.from e next.to next.some);
     same =
         λ s m i.
-        token-goes-on find scale text a.at p e next.from next.to next.some (ran s a) 0 a.count room after (proceed (at_time s time clocks) events) (On (at_time s time clocks) count)
-        (sym (f s m i) ∙ ap (λ (mode : Mode). tokenAs find scale mode (ran s a) (take (e - p) (drop p text)) p) (sym m))
+        token_goes_on find scale text a.at p e next.from next.to next.some (ran s a) 0 a.count room after (proceed (at_time s time clocks) events) (On (at_time s time clocks) count)
+        (sym (f s m i) ∙ ap (λ (mode : Mode). token_as find scale mode (ran s a) (take (e - p) (drop p text)) p) (sym m))
         (written_turn (at_time s time clocks) events room after a.count count w) (at_time s time clocks) count refl;
   }
 
   -- ---- changes
 
   change_effect : (s : State) (t : List ℕ) (p b list : ℕ) → get_or t 0 0 ≡ b → 0 < length t → 47 < b → b < 50 → list < 256 → meant list ≡ find (drop 1 t)
-      → tokenAs find scale Plain s t p ≡ proceed s (pin_events p (s.time * scale) (eqb b 49) (unpacked 4 list))
-  unfolding tokenAs item_step change_of meant
+      → token_as find scale Plain s t p ≡ proceed s (pin_events p (s.time * scale) (eqb b 49) (unpacked 4 list))
+  unfolding token_as item_step change_of meant
   change_effect s t p b list g h l u k f =
       let z : list < 4294967296 = omega arith in
       rw (change_item t b (eqb b 49) refl g h l u, ← f) (simp (lt-ltb _ _ z))
@@ -173,19 +173,19 @@ module _ (find : List ℕ → Found) (scale : ℕ) (text : List ℕ) where
     some = word_some text a.at p next.from e next.to next.some
 
     effect : list < 256 → (s : State) → s.mode ≡ Plain → s.inside ≡ false
-        → tokenAs find scale Plain (ran s a) (take (e - p) (drop p text)) p ≡ proceed (at_time s a.time a.clocks) (pin_events p (a.time * scale) (eqb b 49) (unpacked 4 list))
+        → token_as find scale Plain (ran s a) (take (e - p) (drop p text)) p ≡ proceed (at_time s a.time a.clocks) (pin_events p (a.time * scale) (eqb b 49) (unpacked 4 list))
     effect k s m i =
         change_effect (ran s a) (take (e - p) (drop p text)) p b list (head_of text p e some ∙ sym g) (some_byte text a.at p e next.from next.to next.some) l u k f
 
-    pub leads-silent : list ≡ 0 → Leads find scale text a room (record { at = e; count = a.count; time = a.time; clocks = a.clocks }) room
+    pub leads_silent : list ≡ 0 → Leads find scale text a room (record { at = e; count = a.count; time = a.time; clocks = a.clocks }) room
     unfolding put pin_words
-    leads-silent z =
+    leads_silent z =
         leads_by a room room p e a.count a.time a.clocks (pin_events p (a.time * scale) (eqb b 49) (unpacked 4 list)) next (effect (omega arith))
         (rw (pin_words_lem p (a.time * scale) (eqb b 49) 4 list, z) refl)
 
-    pub leads-pin : 0 < list → list < 256 → a.count < length room
+    pub leads_pin : 0 < list → list < 256 → a.count < length room
         → Leads find scale text a room (record { at = e; count = a.count + 1; time = a.time; clocks = a.clocks }) (set room a.count (50331648 + (b - 48) + list * 256))
-    leads-pin h k n =
+    leads_pin h k n =
         leads_by a room (set room a.count (50331648 + (b - 48) + list * 256)) p e (a.count + 1) a.time a.clocks (pin_events p (a.time * scale) (eqb b 49) (unpacked 4 list)) next (effect k)
         (rw (pin_words_lem p (a.time * scale) (eqb b 49) 4 list, one_word list (eqb b 49) h k, level_of_lem b (eqb b 49) refl l u) (put_one (pin_word (eqb b 49) list) room a.count n))
 
@@ -200,15 +200,15 @@ module _ (find : List ℕ → Found) (scale : ℕ) (text : List ℕ) where
       full = rw (ap (λ (v : Written). v.told) w) (put_fits (n - 0) room a.count 0 (λ l. omega (arith, h (omega arith))))
 
   time_effect : (s : State) (t : List ℕ) (p v : ℕ) → get_or t 0 0 ≡ 35 → 0 < length t → decimal_of (drop 1 t) ≡ Of v → s.inside ≡ false → 0 < scale → s.time ≤ v → v ≤ 18446744073709551615 / scale
-      → tokenAs find scale Plain s t p ≡ proceed (at_time s v (v * scale / 8000000)) (clock_events p s.clocks (v * scale / 8000000 - s.clocks))
-  unfolding tokenAs item_step time_of time_as advanced
+      → token_as find scale Plain s t p ≡ proceed (at_time s v (v * scale / 8000000)) (clock_events p s.clocks (v * scale / 8000000 - s.clocks))
+  unfolding token_as item_step time_of time_as advanced
   time_effect s t p v g h d i k l u =
       let y : (scale ≡ 0 → ⊥) = λ v. absurd (omega arith) in
       rw (time_item t v g h d) (simp (i, ne_eqb _ _ y, le-ltb _ _ l, lt-ltb _ _ (fits_of v scale k u)))
 
-  pub time-advances : (a : Run) (p e v : ℕ) → p ≡ a.at + white_length (drop a.at text) → p < length text → get_or text p 0 ≡ 35 → p + 1 < e → e ≡ (p + 1) + word_length (drop (p + 1) text)
+  pub time_advances : (a : Run) (p e v : ℕ) → p ≡ a.at + white_length (drop a.at text) → p < length text → get_or text p 0 ≡ 35 → p + 1 < e → e ≡ (p + 1) + word_length (drop (p + 1) text)
       → decimal_of (take (e - (p + 1)) (drop (p + 1) text)) ≡ Of v → 0 < scale → a.time ≤ v → v ≤ 18446744073709551615 / scale → Advances find scale text a p e v (v * scale / 8000000)
-  time-advances a p e v from h g some to d k l u =
+  time_advances a p e v from h g some to d k l u =
       let next : NextToken text a.at p e = record { from = from; to = to ∙ after_first text a.at p from h; some = h } in
       record {
         next = next;

@@ -7,7 +7,7 @@ use Rattle.vcd_steps.specs.declared.State.{State}
 use Rattle.vcd_steps.specs.Events.{clock_events}
 use Rattle.vcd_steps.specs.Steps.{proceed, at_time}
 use Rattle.vcd_body.specs.declared.Run.{Run}
-use Rattle.vcd_body.specs.Trace.{tokenAs}
+use Rattle.vcd_body.specs.Trace.{token_as}
 use Rattle.vcd_body.specs.Pieces.{pieces}
 
 -- the token at p, which ends before e, is the next from a place on
@@ -30,4 +30,4 @@ pub record Leads (find : List ℕ → Found) (scale : ℕ) (text : List ℕ) (a 
 pub record Advances (find : List ℕ → Found) (scale : ℕ) (text : List ℕ) (a : Run) (p e time due : ℕ) : Type 0 where
   pub next : NextToken text a.at p e
   pub effect : (s : State) → s.mode ≡ Plain → s.inside ≡ false
-      → tokenAs find scale Plain (ran s a) (take (e - p) (drop p text)) p ≡ proceed (at_time s time due) (clock_events p a.clocks (due - a.clocks))
+      → token_as find scale Plain (ran s a) (take (e - p) (drop p text)) p ≡ proceed (at_time s time due) (clock_events p a.clocks (due - a.clocks))

@@ -29,13 +29,13 @@ carried (proceed s events) rest = prepended events (rest s)
 -- find: what a code stands for; scale: the unit in ps, 0 where none is declared
 module _ (find : List ℕ → Found) (scale : ℕ) where
   -- the token by what the reader waits for
-  unfoldable pub tokenAs : Mode → State → List ℕ → ℕ → Effect
-  tokenAs Plain s t p = item_step (item_of t) (find (drop 1 t)) scale s p
-  tokenAs Code s t p = code_of (find t) s
-  tokenAs Comment s t p = commented (same_bytes t end_word) s
+  unfoldable pub token_as : Mode → State → List ℕ → ℕ → Effect
+  token_as Plain s t p = item_step (item_of t) (find (drop 1 t)) scale s p
+  token_as Code s t p = code_of (find t) s
+  token_as Comment s t p = commented (same_bytes t end_word) s
 
   abbrev pub token : State → Token → Effect
-  token s t = tokenAs s.mode s t.bytes t.place
+  token s t = token_as s.mode s t.bytes t.place
 
   unfoldable pub body : State → List Token → Trace
   body s [] = stopped (ends_as s.mode s).number (ends_as s.mode s).place

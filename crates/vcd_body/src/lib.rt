@@ -6,7 +6,7 @@ ghost use Rattle.vcd_text.specs.Token.{tokens, white_length, word_length, decima
 ghost use Rattle.vcd_codes.specs.Codes.{Found, variables, find, meant};
 ghost use Rattle.vcd_steps.specs.Steps.{item_step, ends_as, meaning};
 ghost use Rattle.vcd_steps.specs.declared.State.{State};
-ghost use Rattle.vcd_body.specs.Trace.{tokenAs};
+ghost use Rattle.vcd_body.specs.Trace.{token_as};
 ghost use Rattle.vcd_body.specs.Pieces.{start as start_of, answer, closed, paused, turned, turn_by, placed, pieces};
 ghost use Rattle.vcd_body.specs.Tables.{Singles, Lists, Tables};
 ghost use Rattle.vcd_body.specs.Runs.{NextToken, Advances, Leads};
@@ -218,7 +218,7 @@ fn token(
 ) -> Step
     requires tables { Tables text.now places.now pins.now entries singles.now lists.now slots.now }
     requires t_nonzero { 0 < length t.now }
-    ensures { meaning scale p result ≡ tokenAs (find (variables text.now places.now pins.now 0 entries)) scale mode s t.now p }
+    ensures { meaning scale p result ≡ token_as (find (variables text.now places.now pins.now 0 entries)) scale mode s t.now p }
 {
     match mode {
         Mode::Plain => {

@@ -133,9 +133,9 @@ module _ (text places pins code : List ℕ) (n k : ℕ) where
       let y : k - 1 + 1 ≡ k = omega arith in
       rw z (rw y refl)
 
-  pub entry-none : k ≡ n → meant 4294967296 ≡ find (variables text places pins k (n - k)) code
+  pub entry_none : k ≡ n → meant 4294967296 ≡ find (variables text places pins k (n - k)) code
   unfolding find variables meant
-  entry-none h = let z : n - k ≡ 0 = omega arith in rw z refl
+  entry_none h = let z : n - k ≡ 0 = omega arith in rw z refl
 
-  pub entry-all : k ≤ 0 → find (variables text places pins k (n - k)) code ≡ find (variables text places pins 0 n) code
-  entry-all h = let z : k ≡ 0 = omega arith in let y : n - 0 ≡ n = omega arith in rw (z, y) refl
+  pub entry_all : k ≤ 0 → find (variables text places pins k (n - k)) code ≡ find (variables text places pins 0 n) code
+  entry_all h = let z : k ≡ 0 = omega arith in let y : n - 0 ≡ n = omega arith in rw (z, y) refl

@@ -19,7 +19,7 @@ use Rattle.vcd_steps.specs.declared.Mode.TheVariants as mode
 use Rattle.vcd_steps.specs.declared.State.{State as Reader}
 use Rattle.vcd_steps.specs.Events.{Event, clocks_by, clock_events, pin_events, words}
 use Rattle.vcd_steps.specs.Steps.{Effect, refuse, proceed, at_mode, in_dump, at_time, advanced, time_as, time_of, change_of, code_of, dump_of, end_of, comment_of, commented, item_step, ends_as}
-use Rattle.vcd_body.specs.Trace.{Trace, stopped, prepended, carried, tokenAs, body}
+use Rattle.vcd_body.specs.Trace.{Trace, stopped, prepended, carried, token_as, body}
 use Rattle.vcd_grammar_laws.specs.Words.{Spells, bytes_of}
 use Rattle.vcd_grammar_laws.specs.Body.{Item, time, change, vector, real, dump, end, comment, item_words, body_words, State, s_zero, s_one, s_x, s_X, s_z, s_Z, level_words, NoEndWord, no_word, one_word, VectorLetter, l_b, l_B, RealLetter, l_r, l_R, DumpWord, d_vars, d_all, d_on, d_off, Means, m_none, m_time, m_change, m_vector, m_real, m_end, m_comment, m_dump, Accepted}
 use Rattle.vcd_grammar_laws.proofs.Words.{spelled}
@@ -109,41 +109,41 @@ token_at p b = record { place = p; bytes = b }
 module _ (look : List ℕ → Found) (scale : ℕ) (some-unit : 0 < scale) (ts : List Token) (p o t c : ℕ) where
   body_time : (n : ℕ) (ds : List ℕ) → decimal_of ds ≡ Of n → t ≤ n → n * scale < 18446744073709551616
       → body look scale (between o t c false) (token_at p (35 ∷ ds) ∷ ts) ≡ prepended (clock_events p c (clocks_by n scale - c)) (body look scale (between o n (clocks_by n scale) false) ts)
-  unfolding body carried tokenAs item_step time_of time_as advanced
+  unfolding body carried token_as item_step time_of time_as advanced
   body_time n ds e h l =
       rw (item_time ds, e) (simp (ne_eqb scale 0 (λ z. omega arith), le-ltb n t h, lt-ltb (n * scale) 18446744073709551616 l))
 
   body_change : (inside high : Bool) (s : ℕ) (code pins : List ℕ) → State s high → look code ≡ declared pins
       → body look scale (between o t c inside) (token_at p (s ∷ code) ∷ ts) ≡ prepended (pin_events p (t * scale) high pins) (body look scale (between o t c inside) ts)
-  unfolding body carried tokenAs item_step change_of
+  unfolding body carried token_as item_step change_of
   body_change inside high s code pins q k = rw (item_scalar s high code q, k) refl
 
   body_value : (inside : Bool) (v : List ℕ) → item_of v ≡ item.Value → body look scale (between o t c inside) (token_at p v ∷ ts) ≡ body look scale (waiting p o t c inside) ts
-  unfolding body carried tokenAs item_step
+  unfolding body carried token_as item_step
   body_value inside v e = rw e refl
 
   body_code : (inside : Bool) (m : ℕ) (code pins : List ℕ) → look code ≡ declared pins → body look scale (waiting m o t c inside) (token_at p code ∷ ts) ≡ body look scale (between o t c inside) ts
-  unfolding body carried tokenAs code_of
+  unfolding body carried token_as code_of
   body_code inside m code pins k = rw k refl
 
   body_dump : (kw : List ℕ) → DumpWord kw → body look scale (between o t c false) (token_at p kw ∷ ts) ≡ body look scale (between p t c true) ts
-  unfolding body carried tokenAs item_step dump_of
+  unfolding body carried token_as item_step dump_of
   body_dump kw d = rw (item_dump kw d) refl
 
   body_end : body look scale (between o t c true) (token_at p end_word ∷ ts) ≡ body look scale (between 0 t c false) ts
-  unfolding body carried tokenAs item_step end_of
+  unfolding body carried token_as item_step end_of
   body_end = rw item_end refl
 
   body_comment : body look scale (between o t c false) (token_at p comment_word ∷ ts) ≡ body look scale (passing p o t c) ts
-  unfolding body carried tokenAs item_step comment_of
+  unfolding body carried token_as item_step comment_of
   body_comment = rw item_comment refl
 
   body_passed : (m : ℕ) (w : List ℕ) → same_bytes w end_word ≡ false → body look scale (passing m o t c) (token_at p w ∷ ts) ≡ body look scale (passing m o t c) ts
-  unfolding body carried tokenAs commented
+  unfolding body carried token_as commented
   body_passed m w e = rw e refl
 
   body_over : (m : ℕ) → body look scale (passing m o t c) (token_at p end_word ∷ ts) ≡ body look scale (between o t c false) ts
-  unfolding body carried tokenAs commented same_bytes
+  unfolding body carried token_as commented same_bytes
   body_over m = refl
 
 -- ---- a list of items
@@ -181,40 +181,40 @@ module _ (look : List ℕ → Found) (scale : ℕ) (some-unit : 0 < scale) where
       let f = first_token ts w (cs ++ (end_word ∷ rest)) e in
       rw (f.whole, body_passed look scale some-unit f.rest f.place o t c m w n) (comment_read cs f.rest rest m o t c ws ps f.others k)
 
-  pub items-read : (is : List Item) (ts : List Token) (o t c : ℕ) (inside : Bool) (ws : List ℕ) → bytes_of ts ≡ body_words is → Means look scale t c inside is ws
+  pub items_read : (is : List Item) (ts : List Token) (o t c : ℕ) (inside : Bool) (ws : List ℕ) → bytes_of ts ≡ body_words is → Means look scale t c inside is ws
       → Accepted (body look scale (between o t c inside) ts) ws
   unfolding body_words item_words
-  items-read [] ts o t c inside ws e m_none = rw (no_token_lem ts e) (unfold body ends_as words in record { same = refl; number = refl; place = refl })
-  items-read (time n ds ∷ is) ts o t c inside ws e (m_time {ws = us} d h l m) =
+  items_read [] ts o t c inside ws e m_none = rw (no_token_lem ts e) (unfold body ends_as words in record { same = refl; number = refl; place = refl })
+  items_read (time n ds ∷ is) ts o t c inside ws e (m_time {ws = us} d h l m) =
       let f = first_token ts (35 ∷ ds) (body_words is) e in
       rw (f.whole, body_time look scale some-unit f.rest f.place o t c n ds d h l)
-      (gives_more _ (clock_events f.place c (clocks_by n scale - c)) _ us (words_clocks f.place c (clocks_by n scale - c)) (items-read is f.rest o n (clocks_by n scale) false us f.others m))
-  items-read (change s code ∷ is) ts o t c inside ws e (m_change {high = high} {pins = pins} {ws = us} q k m) =
+      (gives_more _ (clock_events f.place c (clocks_by n scale - c)) _ us (words_clocks f.place c (clocks_by n scale - c)) (items_read is f.rest o n (clocks_by n scale) false us f.others m))
+  items_read (change s code ∷ is) ts o t c inside ws e (m_change {high = high} {pins = pins} {ws = us} q k m) =
       let f = first_token ts (s ∷ code) (body_words is) e in
       rw (f.whole, body_change look scale some-unit f.rest f.place o t c inside high s code pins q k)
-      (gives_more _ (pin_events f.place (t * scale) high pins) _ us (words_pins f.place (t * scale) high pins) (items-read is f.rest o t c inside us f.others m))
-  items-read (vector b v code ∷ is) ts o t c inside ws e (m_vector {pins = pins} q i k m) =
+      (gives_more _ (pin_events f.place (t * scale) high pins) _ us (words_pins f.place (t * scale) high pins) (items_read is f.rest o t c inside us f.others m))
+  items_read (vector b v code ∷ is) ts o t c inside ws e (m_vector {pins = pins} q i k m) =
       let f = first_token ts (b ∷ v) (code ∷ body_words is) e in
       let g = first_token f.rest code (body_words is) f.others in
       rw (f.whole, body_value look scale some-unit f.rest f.place o t c inside (b ∷ v) (item_vector b v q i), g.whole, body_code look scale some-unit g.rest g.place o t c inside f.place code pins k)
-      (items-read is g.rest o t c inside ws g.others m)
-  items-read (real r v code ∷ is) ts o t c inside ws e (m_real {pins = pins} q i k m) =
+      (items_read is g.rest o t c inside ws g.others m)
+  items_read (real r v code ∷ is) ts o t c inside ws e (m_real {pins = pins} q i k m) =
       let f = first_token ts (r ∷ v) (code ∷ body_words is) e in
       let g = first_token f.rest code (body_words is) f.others in
       rw (f.whole, body_value look scale some-unit f.rest f.place o t c inside (r ∷ v) (item_real r v q i), g.whole, body_code look scale some-unit g.rest g.place o t c inside f.place code pins k)
-      (items-read is g.rest o t c inside ws g.others m)
-  items-read (dump kw ∷ is) ts o t c inside ws e (m_dump d m) =
+      (items_read is g.rest o t c inside ws g.others m)
+  items_read (dump kw ∷ is) ts o t c inside ws e (m_dump d m) =
       let f = first_token ts kw (body_words is) e in
-      rw (f.whole, body_dump look scale some-unit f.rest f.place o t c kw d) (items-read is f.rest f.place t c true ws f.others m)
-  items-read (end ∷ is) ts o t c inside ws e (m_end m) =
+      rw (f.whole, body_dump look scale some-unit f.rest f.place o t c kw d) (items_read is f.rest f.place t c true ws f.others m)
+  items_read (end ∷ is) ts o t c inside ws e (m_end m) =
       let f = first_token ts end_word (body_words is) e in
-      rw (f.whole, body_end look scale some-unit f.rest f.place o t c) (items-read is f.rest 0 t c false ws f.others m)
-  items-read (comment cs ∷ is) ts o t c inside ws e (m_comment ps m) =
+      rw (f.whole, body_end look scale some-unit f.rest f.place o t c) (items_read is f.rest 0 t c false ws f.others m)
+  items_read (comment cs ∷ is) ts o t c inside ws e (m_comment ps m) =
       let f = first_token ts comment_word (cs ++ (end_word ∷ body_words is)) e in
       rw (f.whole, body_comment look scale some-unit f.rest f.place o t c)
-      (comment_read cs f.rest (body_words is) f.place o t c ws ps f.others (λ us x. items-read is us o t c false ws x m))
+      (comment_read cs f.rest (body_words is) f.place o t c ws ps f.others (λ us x. items_read is us o t c false ws x m))
 
   -- a text that spells a body, wherever it stands in the file
-  pub body-read : (is : List Item) (text : List ℕ) (p : ℕ) (ws : List ℕ) → Spells text (body_words is) → Means look scale 0 0 false is ws
+  pub body_read : (is : List Item) (text : List ℕ) (p : ℕ) (ws : List ℕ) → Spells text (body_words is) → Means look scale 0 0 false is ws
       → Accepted (body look scale (between 0 0 0 false) (tokens false p text)) ws
-  body-read is text p ws s m = items-read is (tokens false p text) 0 0 0 false ws (spelled s p) m
+  body_read is text p ws s m = items_read is (tokens false p text) 0 0 0 false ws (spelled s p) m

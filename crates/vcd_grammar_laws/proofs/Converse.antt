@@ -21,11 +21,11 @@ use Rattle.vcd_items.specs.Items.{is_vector, is_real, is_dump, comment_word, kin
 use Rattle.vcd_steps.specs.declared.State.{State as Reader}
 use Rattle.vcd_steps.specs.Events.{clocks_by}
 use Rattle.vcd_steps.specs.Steps.{Effect, refuse, proceed, advanced, time_as, time_of, change_of, code_of, dump_of, end_of, comment_of, commented, item_step, ends_as}
-use Rattle.vcd_body.specs.Trace.{Trace, stopped, prepended, carried, tokenAs, body}
+use Rattle.vcd_body.specs.Trace.{Trace, stopped, prepended, carried, token_as, body}
 use Rattle.vcd_grammar_laws.specs.Words.{Spells, bytes_of}
 use Rattle.vcd_grammar_laws.specs.Body.{Item, time, change, vector, real, dump, end, comment, item_words, body_words, State, s_zero, s_one, s_x, s_X, s_z, s_Z, NoEndWord, no_word, one_word, VectorLetter, l_b, l_B, RealLetter, l_r, l_R, DumpWord, d_vars, d_all, d_on, d_off, Means, m_none, m_time, m_change, m_vector, m_real, m_end, m_comment, m_dump, Accepted}
 use Rattle.vcd_grammar_laws.proofs.Words.{spells_all}
-use Rattle.vcd_grammar_laws.proofs.Body.{between, waiting, passing, token_at, body-read}
+use Rattle.vcd_grammar_laws.proofs.Body.{between, waiting, passing, token_at, body_read}
 
 -- ---- what a token is, by its bytes
 
@@ -267,7 +267,7 @@ module _ (look : List ℕ → Found) (scale : ℕ) where
         record { cs = w ∷ x.cs; is = x.is; ws = x.ws; no_end_word = one_word k x.no_end_word; same = ap (λ (l : List (List ℕ)). w ∷ l) x.same; means = x.means }
 
     one_more : (w : List ℕ) → Accepts (token_at p w ∷ ts)
-    unfolding body tokenAs
+    unfolding body token_as
     one_more w = record {
       plainly = λ o t c inside e. plain_by w (item_of w) (view_of w) o t c inside e;
       coded = λ m o t c inside e. code_by w (look w) m o t c inside refl e;
@@ -285,14 +285,14 @@ module _ (look : List ℕ → Found) (scale : ℕ) where
     pub spells : Spells text (body_words is)
     pub means : Means look scale 0 0 false is ws
 
-  pub body-accepts : (text : List ℕ) (p : ℕ) → (body look scale (between 0 0 0 false) (tokens false p text)).number ≡ 0 → SpelledBody text
-  body-accepts text p e =
+  pub body_accepts : (text : List ℕ) (p : ℕ) → (body look scale (between 0 0 0 false) (tokens false p text)).number ≡ 0 → SpelledBody text
+  body_accepts text p e =
       let x = (accepts (tokens false p text)).plainly 0 0 0 false e in
       record { is = x.is; ws = x.ws; spells = rw x.same at (spells_all text p); means = x.means }
 
   -- its words are those that the reader gives
-  pub accepted-gives : 0 < scale → (text : List ℕ) (p : ℕ) (e : (body look scale (between 0 0 0 false) (tokens false p text)).number ≡ 0)
-      → Accepted (body look scale (between 0 0 0 false) (tokens false p text)) (body-accepts text p e).ws
-  accepted-gives some_byte text p e =
-      let x = body-accepts text p e in
-      body-read look scale some_byte x.is text p x.ws x.spells x.means
+  pub accepted_gives : 0 < scale → (text : List ℕ) (p : ℕ) (e : (body look scale (between 0 0 0 false) (tokens false p text)).number ≡ 0)
+      → Accepted (body look scale (between 0 0 0 false) (tokens false p text)) (body_accepts text p e).ws
+  accepted_gives some_byte text p e =
+      let x = body_accepts text p e in
+      body_read look scale some_byte x.is text p x.ws x.spells x.means

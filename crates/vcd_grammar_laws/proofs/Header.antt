@@ -30,7 +30,7 @@ use Rattle.vcd_grammar_laws.specs.Words.{NonWhite, more, WordEnds, Spells, no_te
 use Rattle.vcd_grammar_laws.specs.Body.{Item, body_words, NoEndWord, no_word, one_word, Means, Accepted}
 use Rattle.vcd_grammar_laws.specs.Header.{Section, free_text, unit, joined_unit, scope, upscope, var, timescale_word, scope_word, upscope_word, var_word, enddefinitions_word, section_words, dump_words, TextKeyword, t_comment, t_date, t_version, UnitCount, c_one, c_ten, c_hundred, UnitLetters, l_ps, l_ns, l_us, VariableKind, k_scalar, k_vector, k_large, k_real, index_states, IndexWords, x_none, x_some, pin_driven, Declares, d_none, d_text, d_unit, d_joined, d_scope, d_upscope, d_var}
 use Rattle.vcd_grammar_laws.proofs.Words.{token_first, skip}
-use Rattle.vcd_grammar_laws.proofs.Body.{body-read}
+use Rattle.vcd_grammar_laws.proofs.Body.{body_read}
 
 abbrev token_at : ℕ → List ℕ → Token
 token_at p b = record { place = p; bytes = b }
@@ -515,4 +515,4 @@ pub dump_read : (ss : List Section) (is : List Item) (file : List ℕ) (u : ℕ)
     → Means (find vs) u 0 0 false is ws → Accepted (trace_of file) ws
 dump_read ss is file u vs ws s d some_byte m =
     let o = opened ss file u vs (body_words is) s d in
-    rw o.same (body-read (find vs) u some_byte is o.rest o.place ws o.spells m)
+    rw o.same (body_read (find vs) u some_byte is o.rest o.place ws o.spells m)

@@ -10,7 +10,7 @@ use Rattle.vcd_codes.specs.Codes.{joins, find}
 use Rattle.vcd_items.specs.Items as items
 use Rattle.vcd_steps.specs.Events.{event, clock_events, pin_events}
 use Rattle.vcd_steps.specs.Steps.{advanced, time_as, time_of, change_of, code_of, dump_of, end_of, comment_of, commented, item_step, ends_as}
-use Rattle.vcd_body.specs.Trace.{stopped, carried, tokenAs, body}
+use Rattle.vcd_body.specs.Trace.{stopped, carried, token_as, body}
 use Rattle.vcd_keywords.specs.Words as word
 use Rattle.vcd_header.specs.Header.{closed_by, code_step, count_step, end_as, ending_step, index_step, is_name, keyword_step, letters_step, name_step, scope_name_step, scope_step, size_as, step_as, text_step, type_as, unit_step, whole_step}
 use Rattle.vcd.specs.Header.{taken, declares, settled, header, header_of}
@@ -20,7 +20,7 @@ use Rattle.vcd_grammar_laws.specs.Refusals.{many}
 
 -- a proof that names this on its `unfolding` line computes traces, and what calls give of them
 unfoldable opened : ℕ
-unfolding white word_length tokens same_bytes graphic all_graphic number_of grown_by longer_by digits_from decimal_of joins find items.all_states items.four_state items.is_dump items.is_real items.is_vector items.item_as items.item_of items.keyword_of items.kind_of items.letter_class items.real_class items.real_next items.real_state items.whole_real clock_events pin_events advanced time_as time_of change_of code_of dump_of end_of comment_of commented item_step ends_as carried tokenAs body word.count_of word.index_by word.index_class word.index_state word.is_discrete word.is_net word.is_scope word.joined_of word.keyword_of word.letters_of word.pin_of word.sort_of word.times_unit closed_by code_step count_step end_as ending_step index_step is_name keyword_step letters_step name_step scope_name_step scope_step size_as step_as text_step type_as unit_step whole_step taken declares settled header header_of trace_by trace_of give
+unfolding white word_length tokens same_bytes graphic all_graphic number_of grown_by longer_by digits_from decimal_of joins find items.all_states items.four_state items.is_dump items.is_real items.is_vector items.item_as items.item_of items.keyword_of items.kind_of items.letter_class items.real_class items.real_next items.real_state items.whole_real clock_events pin_events advanced time_as time_of change_of code_of dump_of end_of comment_of commented item_step ends_as carried token_as body word.count_of word.index_by word.index_class word.index_state word.is_discrete word.is_net word.is_scope word.joined_of word.keyword_of word.letters_of word.pin_of word.sort_of word.times_unit closed_by code_step count_step end_as ending_step index_step is_name keyword_step letters_step name_step scope_name_step scope_step size_as step_as text_step type_as unit_step whole_step taken declares settled header header_of trace_by trace_of give
 opened = 0
 
 -- ---- 40 in the header, each at the keyword but where it is said

@@ -11,22 +11,22 @@ use Rattle.bits.specs.Byte.{pick}
 use Rattle.vcd_items.specs.Items.{four_state, all_states, real_class, real_next, real_state}
 
 module _ (t : List ℕ) (i : ℕ) where
-  pub state-more : i < length t → four_state (get_or t i 0) ≡ true → all_states (drop (i + 1) t) ≡ all_states (drop i t)
+  pub state_more : i < length t → four_state (get_or t i 0) ≡ true → all_states (drop (i + 1) t) ≡ all_states (drop i t)
   unfolding all_states
-  state-more h w = rw (drop-cons t i 0 h, add-one) (simp w)
+  state_more h w = rw (drop-cons t i 0 h, add-one) (simp w)
 
-  pub state-stop : i < length t → four_state (get_or t i 0) ≡ false → false ≡ all_states (drop i t)
+  pub state_stop : i < length t → four_state (get_or t i 0) ≡ false → false ≡ all_states (drop i t)
   unfolding all_states
-  state-stop h w = rw (drop-cons t i 0 h) (simp w)
+  state_stop h w = rw (drop-cons t i 0 h) (simp w)
 
-  pub state-end : length t ≤ i → true ≡ all_states (drop i t)
+  pub state_end : length t ≤ i → true ≡ all_states (drop i t)
   unfolding all_states
-  state-end h = rw (drop_of_length-le t {i = i} h) refl
+  state_end h = rw (drop_of_length-le t {i = i} h) refl
 
-  pub real-more : (q : ℕ) → i < length t → real_state (real_next q (real_class (get_or t i 0))) (drop (i + 1) t) ≡ real_state q (drop i t)
+  pub real_more : (q : ℕ) → i < length t → real_state (real_next q (real_class (get_or t i 0))) (drop (i + 1) t) ≡ real_state q (drop i t)
   unfolding real_state
-  real-more q h = rw (drop-cons t i 0 h, add-one)
+  real_more q h = rw (drop-cons t i 0 h, add-one)
 
-  pub real-end : (q : ℕ) → length t ≤ i → q ≡ real_state q (drop i t)
+  pub real_end : (q : ℕ) → length t ≤ i → q ≡ real_state q (drop i t)
   unfolding real_state
-  real-end q h = rw (drop_of_length-le t {i = i} h) refl
+  real_end q h = rw (drop_of_length-le t {i = i} h) refl

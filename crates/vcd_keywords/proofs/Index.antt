@@ -10,13 +10,13 @@ use lib.Seq.{drop-cons, take_all}
 use Rattle.vcd_keywords.specs.Words.{index_class, index_next, index_state}
 
 module _ (t : List ℕ) (i q : ℕ) where
-  pub index-more : i < length t → index_state (index_next q (index_class (get_or t i 0))) (drop (i + 1) t) ≡ index_state q (drop i t)
+  pub index_more : i < length t → index_state (index_next q (index_class (get_or t i 0))) (drop (i + 1) t) ≡ index_state q (drop i t)
   unfolding index_state
-  index-more h = rw (drop-cons t i 0 h, add-one)
+  index_more h = rw (drop-cons t i 0 h, add-one)
 
-  pub index-end : length t ≤ i → q ≡ index_state q (drop i t)
+  pub index_end : length t ≤ i → q ≡ index_state q (drop i t)
   unfolding index_state
-  index-end h = rw (drop_of_length-le t {i = i} h) refl
+  index_end h = rw (drop_of_length-le t {i = i} h) refl
 
 -- the first bytes of a word, and the last
 pub first_part : (t : List ℕ) (k : ℕ) → take (k - 0) (drop 0 t) ≡ take k t

@@ -27,7 +27,7 @@ use Rattle.vcd_steps.specs.Steps.{Effect, refuse, proceed, advanced, time_as, ti
 use Rattle.vcd_body.specs.declared.Turn.{Turn}
 use Rattle.vcd_body.specs.declared.Turn.TheVariants.{Stop, Full, On}
 use Rattle.vcd_body.specs.declared.Cursor.{Cursor}
-use Rattle.vcd_body.specs.Trace.{Trace, stopped, prepended, carried, tokenAs, token, body}
+use Rattle.vcd_body.specs.Trace.{Trace, stopped, prepended, carried, token_as, token, body}
 use Rattle.vcd_body.specs.Pieces.{Answer, answer, closed, paused, fresh_state, start, turn_by, placed, goes_on, pieces}
 use Rattle.vcd.specs.Header.{Heading, header_of}
 use Rattle.vcd.specs.Call.{body_tokens, trace_by, trace_of, goes_on_at, call_by, call_of}
@@ -96,11 +96,11 @@ module _ (scale : ℕ) (s : State) (p : ℕ) where
   comment_at true = at_proceed all_none
   comment_at false = at_proceed all_none
 
-  pub token-at : (look : List ℕ → Found) (m : Mode) (t : List ℕ) → At p (tokenAs look scale m s t p)
-  unfolding tokenAs
-  token-at look Plain t = item_at (item_of t) (look (drop 1 t))
-  token-at look Code t = code_at (look t)
-  token-at look Comment t = comment_at (same_bytes t end_word)
+  pub token_at_lem : (look : List ℕ → Found) (m : Mode) (t : List ℕ) → At p (token_as look scale m s t p)
+  unfolding token_as
+  token_at_lem look Plain t = item_at (item_of t) (look (drop 1 t))
+  token_at_lem look Code t = code_at (look t)
+  token_at_lem look Comment t = comment_at (same_bytes t end_word)
 
 -- ---- events given after others
 
@@ -128,12 +128,12 @@ module _ (p : ℕ) (ys : List Event) (n q : ℕ) where
   full_step e xs room count d true z ih h = ih h
   full_step e xs room count d false z ih h = rw z refl
 
-  pub give-full : (xs : List Event) (room : List ℕ) (count d : ℕ) → AllAt p xs → (put (words xs) room count d).told.full ≡ true
+  pub give_full : (xs : List Event) (room : List ℕ) (count d : ℕ) → AllAt p xs → (put (words xs) room count d).told.full ≡ true
       → give (xs ++ ys) n q room count ≡ told (put (words xs) room count d).room (put (words xs) room count d).told.count 43 p
   unfolding give put words
-  give-full [] room count d a h = absurd (let z : ◌≡◌ {A = ℕ} 0 1 = cc in omega arith)
-  give-full (e ∷ xs) room count d (all_more z a) h =
-      full_step e xs room count d (ltb count (length room)) z (λ k. give-full xs (set room count e.word) (count + 1) (d + 1) a k) h
+  give_full [] room count d a h = absurd (let z : ◌≡◌ {A = ℕ} 0 1 = cc in omega arith)
+  give_full (e ∷ xs) room count d (all_more z a) h =
+      full_step e xs room count d (ltb count (length room)) z (λ k. give_full xs (set room count e.word) (count + 1) (d + 1) a k) h
 
 -- all find a place: what comes after them is given next
 module _ (ys : List Event) (n q : ℕ) where
@@ -148,12 +148,12 @@ module _ (ys : List Event) (n q : ℕ) where
   on_step e xs room count d true ih h = ih h
   on_step e xs room count d false ih h = absurd (let z : ◌≡◌ {A = ℕ} 0 1 = cc in omega arith)
 
-  pub give-on : (xs : List Event) (room : List ℕ) (count d : ℕ) → (put (words xs) room count d).told.full ≡ false
+  pub give_on : (xs : List Event) (room : List ℕ) (count d : ℕ) → (put (words xs) room count d).told.full ≡ false
       → give (xs ++ ys) n q room count ≡ give ys n q (put (words xs) room count d).room (put (words xs) room count d).told.count
   unfolding give put words
-  give-on [] room count d h = refl
-  give-on (e ∷ xs) room count d h =
-      on_step e xs room count d (ltb count (length room)) (λ k. give-on xs (set room count e.word) (count + 1) (d + 1) k) h
+  give_on [] room count d h = refl
+  give_on (e ∷ xs) room count d h =
+      on_step e xs room count d (ltb count (length room)) (λ k. give_on xs (set room count e.word) (count + 1) (d + 1) k) h
 
 -- ---- the tokens one after the other
 
@@ -176,10 +176,10 @@ module _ (look : List ℕ → Found) (scale : ℕ) where
         ≡ give (drop done events ++ (body look scale next ts).events) (body look scale next ts).number (body look scale next ts).place room count
     unfolding goes_on
     turn_gives w true e f =
-        rw e (sym (give-full p (body look scale next ts).events (body look scale next ts).number (body look scale next ts).place (drop done events) room count done (drop_all p done events a) (rw e at f)))
+        rw e (sym (give_full p (body look scale next ts).events (body look scale next ts).number (body look scale next ts).place (drop done events) room count done (drop_all p done events a) (rw e at f)))
     turn_gives w false e f =
         ih w.told.count w.room
-        ∙ rw e (sym (give-on (body look scale next ts).events (body look scale next ts).number (body look scale next ts).place (drop done events) room count done (rw e at f)))
+        ∙ rw e (sym (give_on (body look scale next ts).events (body look scale next ts).number (body look scale next ts).place (drop done events) room count done (rw e at f)))
 
   effect_gives : (ts : List Token) (s : State) (p done count : ℕ) (room : List ℕ) (e : Effect) → At p e
       → ((next : State) (n : ℕ) (l : List ℕ) → told_by (pieces look scale next 0 n l ts) ≡ give (body look scale next ts).events (body look scale next ts).number (body look scale next ts).place l n)
@@ -190,13 +190,13 @@ module _ (look : List ℕ → Found) (scale : ℕ) where
   effect_gives ts s p done count room (proceed next events) (at_proceed a) ih =
       turn_gives ts s next p done count room events a (ih next) (put (drop done (words events)) room count done) (put (drop done (words events)) room count done).told.full (rw (words_drop done events) refl) refl
 
-  pub pieces-give : (ts : List Token) (s : State) (done count : ℕ) (room : List ℕ)
+  pub pieces_give : (ts : List Token) (s : State) (done count : ℕ) (room : List ℕ)
       → told_by (pieces look scale s done count room ts) ≡ give (left_of look scale done s ts).events (left_of look scale done s ts).number (left_of look scale done s ts).place room count
   unfolding pieces left_of body give
-  pieces-give [] s done count room = refl
-  pieces-give (t ∷ ts) s done count room =
-      effect_gives ts s t.place done count room (token look scale s t) (token-at scale s t.place look s.mode t.bytes)
-      (λ next n l. pieces-give ts next 0 n l ∙ rw (← (left_all next ts)) refl)
+  pieces_give [] s done count room = refl
+  pieces_give (t ∷ ts) s done count room =
+      effect_gives ts s t.place done count room (token look scale s t) (token_at_lem scale s t.place look s.mode t.bytes)
+      (λ next n l. pieces_give ts next 0 n l ∙ rw (← (left_all next ts)) refl)
 
 -- ---- a call
 
@@ -206,7 +206,7 @@ call_by_lem : (text : List ℕ) (g : Heading) (c : Cursor) (room : List ℕ) (b 
     ≡ given (pick b (stopped g.head.close.number g.head.close.place) (left_of (find g.variables) g.head.unit.unit c.done c.state (body_tokens text (goes_on_at g c)))) room
 unfolding give
 call_by_lem text g c room true = refl
-call_by_lem text g c room false = pieces-give (find g.variables) g.head.unit.unit (body_tokens text (goes_on_at g c)) c.state c.done 0 room
+call_by_lem text g c room false = pieces_give (find g.variables) g.head.unit.unit (body_tokens text (goes_on_at g c)) c.state c.done 0 room
 
 -- from any cursor a call gives what is left of the trace
 pub more_gives : (text : List ℕ) (c : Cursor) (room : List ℕ) → told_by (call_of text c room) ≡ given (rest_of text c) room

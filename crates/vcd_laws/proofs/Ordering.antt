@@ -23,7 +23,7 @@ use Rattle.vcd_steps.specs.declared.Mode.TheVariants.{Plain, Code, Comment}
 use Rattle.vcd_steps.specs.declared.State.{State}
 use Rattle.vcd_steps.specs.Events.{Event, event, clocks_by, clock_events, pin_events}
 use Rattle.vcd_steps.specs.Steps.{Effect, refuse, proceed, at_time, advanced, time_as, time_of, change_of, code_of, dump_of, end_of, comment_of, commented, item_step}
-use Rattle.vcd_body.specs.Trace.{Trace, stopped, carried, tokenAs, token, body}
+use Rattle.vcd_body.specs.Trace.{Trace, stopped, carried, token_as, token, body}
 use Rattle.vcd_body.specs.Pieces.{fresh_state}
 use Rattle.vcd.specs.Header.{Heading, header_of}
 use Rattle.vcd.specs.Call.{body_tokens, trace_by, trace_of}
@@ -135,8 +135,8 @@ module _ (scale : ℕ) where
     comment_leads true = silent _ refl refl
     comment_leads false = silent _ refl refl
 
-    token_leads : (look : List ℕ → Found) (m : Mode) (t : List ℕ) → Leads s p (tokenAs look scale m s t p)
-    unfolding tokenAs
+    token_leads : (look : List ℕ → Found) (m : Mode) (t : List ℕ) → Leads s p (token_as look scale m s t p)
+    unfolding token_as
     token_leads look Plain t = item_leads (item_of t) (look (drop 1 t))
     token_leads look Code t = code_leads (look t)
     token_leads look Comment t = comment_leads (same_bytes t end_word)
@@ -150,12 +150,12 @@ module _ (scale : ℕ) where
   effect_ordered look s p ts (refuse n q) leads_refuse ih r q' a b = none
   effect_ordered look s p ts (proceed after events) (leads_on c f) ih r q a b = f (body look scale after ts).events r q a b (λ r' q' a' b'. ih after r' q' c a' b')
 
-  pub body-ordered : (look : List ℕ → Found) (ts : List Token) (s : State) (r q p : ℕ) → Rising p ts → Counted s → r ≤ top s → q ≤ p → Ordered r q (body look scale s ts).events
+  pub body_ordered : (look : List ℕ → Found) (ts : List Token) (s : State) (r q p : ℕ) → Rising p ts → Counted s → r ≤ top s → q ≤ p → Ordered r q (body look scale s ts).events
   unfolding body
-  body-ordered look [] s r q p u c a b = none
-  body-ordered look (t ∷ ts) s r q p (rising_more l u) c a b =
+  body_ordered look [] s r q p u c a b = none
+  body_ordered look (t ∷ ts) s r q p (rising_more l u) c a b =
       effect_ordered look s t.place ts (token look scale s t) (token_leads s t.place c look s.mode t.bytes)
-      (λ n r' q' c' a' b'. body-ordered look ts n r' q' t.place u c' a' b') r q a (omega arith)
+      (λ n r' q' c' a' b'. body_ordered look ts n r' q' t.place u c' a' b') r q a (omega arith)
 
 -- ---- the trace of a file
 
@@ -166,7 +166,7 @@ trace_by_lem : (text : List ℕ) (g : Heading) (b : Bool)
     → Ordered 0 0 (pick b (stopped g.head.close.number g.head.close.place) (body (find g.variables) g.head.unit.unit fresh_state (body_tokens text g.head.close.place))).events
 trace_by_lem text g true = none
 trace_by_lem text g false =
-    body-ordered g.head.unit.unit (find g.variables) (body_tokens text g.head.close.place) fresh_state 0 0 0
+    body_ordered g.head.unit.unit (find g.variables) (body_tokens text g.head.close.place) fresh_state 0 0 0
     (tokens_rise (drop g.head.close.place text) 0 g.head.close.place false (omega arith)) (no_time g.head.unit.unit) (omega arith) (omega arith)
 
 pub trace_ordered : (text : List ℕ) → Ordered 0 0 (trace_of text).events

@@ -30,7 +30,7 @@ use Rattle.vcd_steps.specs.Events.{Event, words}
 use Rattle.vcd_steps.specs.Steps.{Effect, refuse, proceed, advanced, time_as, time_of, change_of, code_of, dump_of, end_of, comment_of, commented, item_step, ends_as}
 use Rattle.vcd_body.specs.declared.Turn.TheVariants.{Full, On}
 use Rattle.vcd_body.specs.declared.Cursor.{Cursor}
-use Rattle.vcd_body.specs.Trace.{Trace, stopped, prepended, tokenAs, token, body}
+use Rattle.vcd_body.specs.Trace.{Trace, stopped, prepended, token_as, token, body}
 use Rattle.vcd_body.specs.Pieces.{Answer, answer, closed, start, turn_by, placed, goes_on, pieces}
 use Rattle.vcd.specs.Header.{Heading, header_of}
 use Rattle.vcd.specs.Call.{body_tokens, goes_on_at, trace_of, call_by, call_of}
@@ -161,8 +161,8 @@ module _ (scale : ℕ) (s : State) (p : ℕ) where
   comment_other true = other_proceed
   comment_other false = other_proceed
 
-  token_other : (look : List ℕ → Found) (m : Mode) (t : List ℕ) → Other (tokenAs look scale m s t p)
-  unfolding tokenAs
+  token_other : (look : List ℕ → Found) (m : Mode) (t : List ℕ) → Other (token_as look scale m s t p)
+  unfolding token_as
   token_other look Plain t = item_other (item_of t) (look (drop 1 t))
   token_other look Code t = code_other (look t)
   token_other look Comment t = comment_other (same_bytes t end_word)

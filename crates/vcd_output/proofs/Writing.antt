@@ -16,40 +16,40 @@ use Rattle.vcd_output.specs.Room.{Written, wrote, put, pin_word, pin_words, cloc
 -- ---- clocks
 
 module _ (due done count : ℕ) (room : List ℕ) where
-  pub clock-more : done < due → count < length room
+  pub clock_more : done < due → count < length room
       → put (replicate (due - (done + 1)) clock_word) (set room count clock_word) (count + 1) (done + 1) ≡ put (replicate (due - done) clock_word) room count done
   unfolding put
-  clock-more h k = let z : due - done ≡ suc (due - (done + 1)) = omega arith in rw z (simp (lt-ltb _ _ k))
+  clock_more h k = let z : due - done ≡ suc (due - (done + 1)) = omega arith in rw z (simp (lt-ltb _ _ k))
 
-  pub clock-full : done < due → length room ≤ count
+  pub clock_full : done < due → length room ≤ count
       → wrote room (record { count = count; done = done; full = true }) ≡ put (replicate (due - done) clock_word) room count done
   unfolding put
-  clock-full h k = let z : due - done ≡ suc (due - (done + 1)) = omega arith in rw z (simp (le-ltb _ _ k))
+  clock_full h k = let z : due - done ≡ suc (due - (done + 1)) = omega arith in rw z (simp (le-ltb _ _ k))
 
-  pub clock-end : due ≤ done → wrote room (record { count = count; done = 0; full = false }) ≡ put (replicate (due - done) clock_word) room count done
+  pub clock_end : due ≤ done → wrote room (record { count = count; done = 0; full = false }) ≡ put (replicate (due - done) clock_word) room count done
   unfolding put
-  clock-end h = let z : due - done ≡ 0 = omega arith in rw z refl
+  clock_end h = let z : due - done ≡ 0 = omega arith in rw z refl
 
 -- ---- pins
 
 module _ (list : ℕ) (high : Bool) (done count : ℕ) (room : List ℕ) where
-  pub pin-more : done < 4 → (list % 256 ≡ 0 → ⊥) → count < length room
+  pub pin_more : done < 4 → (list % 256 ≡ 0 → ⊥) → count < length room
       → put (pin_words (4 - (done + 1)) (list / 256) high) (set room count (pin_word high (list % 256))) (count + 1) (done + 1) ≡ put (pin_words (4 - done) list high) room count done
   unfolding put pin_words
-  pin-more h e k = let z : 4 - done ≡ suc (4 - (done + 1)) = omega arith in rw z (simp (ne_eqb _ _ e, lt-ltb _ _ k))
+  pin_more h e k = let z : 4 - done ≡ suc (4 - (done + 1)) = omega arith in rw z (simp (ne_eqb _ _ e, lt-ltb _ _ k))
 
-  pub pin-full : done < 4 → (list % 256 ≡ 0 → ⊥) → length room ≤ count
+  pub pin_full : done < 4 → (list % 256 ≡ 0 → ⊥) → length room ≤ count
       → wrote room (record { count = count; done = done; full = true }) ≡ put (pin_words (4 - done) list high) room count done
   unfolding put pin_words
-  pin-full h e k = let z : 4 - done ≡ suc (4 - (done + 1)) = omega arith in rw z (simp (ne_eqb _ _ e, le-ltb _ _ k))
+  pin_full h e k = let z : 4 - done ≡ suc (4 - (done + 1)) = omega arith in rw z (simp (ne_eqb _ _ e, le-ltb _ _ k))
 
-  pub pin-none : done < 4 → list % 256 ≡ 0 → wrote room (record { count = count; done = 0; full = false }) ≡ put (pin_words (4 - done) list high) room count done
+  pub pin_none : done < 4 → list % 256 ≡ 0 → wrote room (record { count = count; done = 0; full = false }) ≡ put (pin_words (4 - done) list high) room count done
   unfolding put pin_words
-  pin-none h e = let z : 4 - done ≡ suc (4 - (done + 1)) = omega arith in rw z (simp (eq-eqb _ _ e))
+  pin_none h e = let z : 4 - done ≡ suc (4 - (done + 1)) = omega arith in rw z (simp (eq-eqb _ _ e))
 
-  pub pin-end : 4 ≤ done → wrote room (record { count = count; done = 0; full = false }) ≡ put (pin_words (4 - done) list high) room count done
+  pub pin_end : 4 ≤ done → wrote room (record { count = count; done = 0; full = false }) ≡ put (pin_words (4 - done) list high) room count done
   unfolding put pin_words
-  pin-end h = let z : 4 - done ≡ 0 = omega arith in rw z refl
+  pin_end h = let z : 4 - done ≡ 0 = omega arith in rw z refl
 
 no_pins : (n : ℕ) (high : Bool) → pin_words n 0 high ≡ []
 unfolding pin_words
@@ -58,23 +58,23 @@ no_pins (suc n) high = refl
 
 -- a pin that is passed over
 module _ (list : ℕ) (high : Bool) (i done : ℕ) where
-  pub pass-more : i < done → i < 4 → (list % 256 ≡ 0 → ⊥)
+  pub pass_more : i < done → i < 4 → (list % 256 ≡ 0 → ⊥)
       → drop (done - (i + 1)) (pin_words (4 - (i + 1)) (list / 256) high) ≡ drop (done - i) (pin_words (4 - i) list high)
   unfolding pin_words
-  pass-more h k e =
+  pass_more h k e =
       let z : 4 - i ≡ suc (4 - (i + 1)) = omega arith in
       let y : done - i ≡ suc (done - (i + 1)) = omega arith in
       rw (z, y) (simp (ne_eqb _ _ e))
 
-  pub pass-none : i < done → i < 4 → list % 256 ≡ 0 → pin_words (4 - done) 0 high ≡ drop (done - i) (pin_words (4 - i) list high)
+  pub pass_none : i < done → i < 4 → list % 256 ≡ 0 → pin_words (4 - done) 0 high ≡ drop (done - i) (pin_words (4 - i) list high)
   unfolding pin_words
-  pass-none h k e =
+  pass_none h k e =
       let z : 4 - i ≡ suc (4 - (i + 1)) = omega arith in
       let y : done - i ≡ suc (done - (i + 1)) = omega arith in
       rw (z, y) (simp (eq-eqb _ _ e) (no_pins (4 - done) high))
 
-  pub pass-end : done ≤ i → i ≤ done → pin_words (4 - done) list high ≡ drop (done - i) (pin_words (4 - i) list high)
-  pass-end h k = let z : done - i ≡ 0 = omega arith in let y : i ≡ done = omega arith in rw (z, y) refl
+  pub pass_end : done ≤ i → i ≤ done → pin_words (4 - done) list high ≡ drop (done - i) (pin_words (4 - i) list high)
+  pass_end h k = let z : done - i ≡ 0 = omega arith in let y : i ≡ done = omega arith in rw (z, y) refl
 
 -- a list has no more than four pins
 few : (n list : ℕ) (high : Bool) (done : ℕ) → n ≤ done → drop done (pin_words n list high) ≡ []

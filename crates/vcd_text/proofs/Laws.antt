@@ -18,21 +18,21 @@ use Rattle.vcd_text.specs.Token.{white, white_length, word_length, Token, tokens
 -- ---- white space and its end
 
 module _ (text : List ℕ) (i : ℕ) (h : i < length text) where
-  pub blank-more : white (get_or text i 0) ≡ true → (i + 1) + white_length (drop (i + 1) text) ≡ i + white_length (drop i text)
+  pub blank_more : white (get_or text i 0) ≡ true → (i + 1) + white_length (drop (i + 1) text) ≡ i + white_length (drop i text)
   unfolding white_length
-  blank-more w = rw (drop-cons text i 0 h, add-one) (simp w (omega arith))
+  blank_more w = rw (drop-cons text i 0 h, add-one) (simp w (omega arith))
 
-  pub blank-stop : white (get_or text i 0) ≡ false → i ≡ i + white_length (drop i text)
+  pub blank_stop : white (get_or text i 0) ≡ false → i ≡ i + white_length (drop i text)
   unfolding white_length
-  blank-stop w = rw (drop-cons text i 0 h) (simp w (omega arith))
+  blank_stop w = rw (drop-cons text i 0 h) (simp w (omega arith))
 
   pub word_more : white (get_or text i 0) ≡ false → (i + 1) + word_length (drop (i + 1) text) ≡ i + word_length (drop i text)
   unfolding word_length
   word_more w = rw (drop-cons text i 0 h, add-one) (simp w (omega arith))
 
-  pub word-stops : white (get_or text i 0) ≡ true → i ≡ i + word_length (drop i text)
+  pub word_stops : white (get_or text i 0) ≡ true → i ≡ i + word_length (drop i text)
   unfolding word_length
-  word-stops w = rw (drop-cons text i 0 h) (simp w (omega arith))
+  word_stops w = rw (drop-cons text i 0 h) (simp w (omega arith))
 
 pub blank_end : (text : List ℕ) (i : ℕ) → length text ≤ i → i ≡ i + white_length (drop i text)
 unfolding white_length
@@ -50,9 +50,9 @@ module _ (a b : List ℕ) (i : ℕ) where
   unfolding same_bytes
   same_more h k e = rw (drop-cons a i 0 h, drop-cons b i 0 k, add-one) (simp (eq-eqb _ _ e))
 
-  pub same-less : i < length a → i < length b → (get_or a i 0 ≡ get_or b i 0 → ⊥) → false ≡ same_bytes (drop i a) (drop i b)
+  pub same_less : i < length a → i < length b → (get_or a i 0 ≡ get_or b i 0 → ⊥) → false ≡ same_bytes (drop i a) (drop i b)
   unfolding same_bytes
-  same-less h k e = rw (drop-cons a i 0 h, drop-cons b i 0 k) (simp (ne_eqb _ _ e))
+  same_less h k e = rw (drop-cons a i 0 h, drop-cons b i 0 k) (simp (ne_eqb _ _ e))
 
   pub same_end : length a ≤ i → length b ≤ i → true ≡ same_bytes (drop i a) (drop i b)
   unfolding same_bytes
@@ -72,17 +72,17 @@ other_length (a ∷ l) (b ∷ bs) h = both_false (eqb a b) (same_bytes l bs) (ot
 -- ---- bytes of codes and names
 
 module _ (t : List ℕ) (i : ℕ) where
-  pub graphic-more : i < length t → graphic (get_or t i 0) ≡ true → all_graphic (drop (i + 1) t) ≡ all_graphic (drop i t)
+  pub graphic_more : i < length t → graphic (get_or t i 0) ≡ true → all_graphic (drop (i + 1) t) ≡ all_graphic (drop i t)
   unfolding all_graphic
-  graphic-more h w = rw (drop-cons t i 0 h, add-one) (simp w)
+  graphic_more h w = rw (drop-cons t i 0 h, add-one) (simp w)
 
-  pub graphic-stop : i < length t → graphic (get_or t i 0) ≡ false → false ≡ all_graphic (drop i t)
+  pub graphic_stop : i < length t → graphic (get_or t i 0) ≡ false → false ≡ all_graphic (drop i t)
   unfolding all_graphic
-  graphic-stop h w = rw (drop-cons t i 0 h) (simp w)
+  graphic_stop h w = rw (drop-cons t i 0 h) (simp w)
 
-  pub graphic-end : length t ≤ i → true ≡ all_graphic (drop i t)
+  pub graphic_end : length t ≤ i → true ≡ all_graphic (drop i t)
   unfolding all_graphic
-  graphic-end h = rw (drop_of_length-le t {i = i} h) refl
+  graphic_end h = rw (drop_of_length-le t {i = i} h) refl
 
 -- ---- decimal numbers
 

@@ -23,7 +23,7 @@ use Rattle.wave_write.specs.declared.Writer.{Writer}
 use Rattle.wave_write.specs.declared.Written.{Written}
 use Rattle.wave_write.specs.Lines.{Event, text, event_lines, moved, lines, after}
 use Rattle.wave_write.specs.Wrote.{Wrote, fits, event_bytes, moved_by}
-use Rattle.wave_write.proofs.Laws.{wrote_none, wrote_size, wrote_lines, text_append, event_length, event-room, moved-room}
+use Rattle.wave_write.proofs.Laws.{wrote_none, wrote_size, wrote_lines, text_append, event_length, event_room_lem, moved_room}
 use Rattle.wave_watch.specs.Watched.{watch_of}
 use Rattle.wave_run.specs.declared.Run.{Run}
 use Rattle.wave_run.specs.Run.{events_of, ran, block_bytes, block_after}
@@ -87,8 +87,8 @@ module _ {words room₀ : List ℕ} {r₀ : Run} {room : List ℕ} {r : Run} {at
       → Wrote room at (event_bytes room at r.writer (get_or words i 0) watch) left w.next → w.writer ≡ moved_by room at r.writer (get_or words i 0) watch
       → Done words room₀ r₀ left (record { chip = (advance r.chip (decode (get_or words i 0))).chip; writer = w.writer }) w.next (i + 1)
   put watch left w e x y =
-      rw (y, moved-room room at r.writer (get_or words i 0) watch fitting, e)
-      (turned (rw (event-room room at r.writer (get_or words i 0) watch fitting, e) at x))
+      rw (y, moved_room room at r.writer (get_or words i 0) watch fitting, e)
+      (turned (rw (event_room_lem room at r.writer (get_or words i 0) watch fitting, e) at x))
 
   pub more : (s : CoreStepped) → s ≡ core_of (advance r.chip (decode (get_or words i 0))) → (registers : List ℕ) → registers ≡ (advance r.chip (decode (get_or words i 0))).chip.registers
       → (watch : Watch) → watch ≡ watch_of (chip_of registers s.core)
@@ -130,21 +130,21 @@ block_within room r words =
 -- ---- room
 
 module _ (room : List ℕ) (r : Run) (words : List ℕ) where
-  pub bytes-none : length room / 151 < length words → block_bytes room r words ≡ []
+  pub bytes_none : length room / 151 < length words → block_bytes room r words ≡ []
   unfolding block_bytes
-  bytes-none h = simp (lt-ltb _ _ h)
+  bytes_none h = simp (lt-ltb _ _ h)
 
   pub after_none : length room / 151 < length words → block_after room r words ≡ r
   unfolding block_after
   after_none h = simp (lt-ltb _ _ h)
 
-  pub bytes-room : length words ≤ length room / 151 → block_bytes room r words ≡ written r words
+  pub bytes_room : length words ≤ length room / 151 → block_bytes room r words ≡ written r words
   unfolding block_bytes
-  bytes-room h = simp (le-ltb _ _ h)
+  bytes_room h = simp (le-ltb _ _ h)
 
-  pub after-room : length words ≤ length room / 151 → block_after room r words ≡ ran r words
+  pub after_room : length words ≤ length room / 151 → block_after room r words ≡ ran r words
   unfolding block_after
-  after-room h = simp (le-ltb _ _ h)
+  after_room h = simp (le-ltb _ _ h)
 
 -- ---- what is written ends within its places
 

@@ -310,17 +310,17 @@ event_length w word watch = either_length (is_pin word) (same_watch w.watch watc
 -- ---- a word
 
 module _ (w : Writer) (word : ℕ) (watch : Watch) where
-  pub event-pin : is_pin word ≡ true → event_lines w word watch ≡ change_lines (time_of (moved w word watch)) word w.watch watch
+  pub event_pin : is_pin word ≡ true → event_lines w word watch ≡ change_lines (time_of (moved w word watch)) word w.watch watch
   unfolding event_lines
-  event-pin e = simp e
+  event_pin e = simp e
 
-  pub event-quiet : is_pin word ≡ false → same_watch w.watch watch ≡ true → text (event_lines w word watch) ≡ []
+  pub event_quiet : is_pin word ≡ false → same_watch w.watch watch ≡ true → text (event_lines w word watch) ≡ []
   unfolding event_lines text
-  event-quiet e h = simp (e, h)
+  event_quiet e h = simp (e, h)
 
-  pub event-watch : is_pin word ≡ false → same_watch w.watch watch ≡ false → event_lines w word watch ≡ change_lines (time_of (moved w word watch)) word w.watch watch
+  pub event_watch : is_pin word ≡ false → same_watch w.watch watch ≡ false → event_lines w word watch ≡ change_lines (time_of (moved w word watch)) word w.watch watch
   unfolding event_lines
-  event-watch e h = simp (e, h)
+  event_watch e h = simp (e, h)
 
 -- ---- room
 
@@ -337,39 +337,39 @@ unfolding fits
 fits_room places from size e = fits_by (ltb places size) (ltb (places - size) from) places from size refl refl e
 
 module _ (room : List ℕ) (from : ℕ) (w : Writer) where
-  pub end-room : fits (length room) from 22 ≡ true → end_bytes room from w ≡ text (end_lines w)
+  pub end_room_lem : fits (length room) from 22 ≡ true → end_bytes room from w ≡ text (end_lines w)
   unfolding end_bytes
-  end-room e = simp e
+  end_room_lem e = simp e
 
   pub end_none : fits (length room) from 22 ≡ false → end_bytes room from w ≡ []
   unfolding end_bytes
   end_none e = simp e
 
   module _ (word : ℕ) (watch : Watch) where
-    pub event-room : fits (length room) from 151 ≡ true → event_bytes room from w word watch ≡ text (event_lines w word watch)
+    pub event_room_lem : fits (length room) from 151 ≡ true → event_bytes room from w word watch ≡ text (event_lines w word watch)
     unfolding event_bytes
-    event-room e = simp e
+    event_room_lem e = simp e
 
-    pub event-none : fits (length room) from 151 ≡ false → event_bytes room from w word watch ≡ []
+    pub event_none : fits (length room) from 151 ≡ false → event_bytes room from w word watch ≡ []
     unfolding event_bytes
-    event-none e = simp e
+    event_none e = simp e
 
-    pub moved-room : fits (length room) from 151 ≡ true → moved_by room from w word watch ≡ moved w word watch
+    pub moved_room : fits (length room) from 151 ≡ true → moved_by room from w word watch ≡ moved w word watch
     unfolding moved_by
-    moved-room e = simp e
+    moved_room e = simp e
 
     pub moved_none : fits (length room) from 151 ≡ false → moved_by room from w word watch ≡ w
     unfolding moved_by
     moved_none e = simp e
 
 module _ (room : List ℕ) (pins : ℕ) (watch : Watch) where
-  pub begin-room : fits (length room) 0 753 ≡ true → begin_bytes room pins watch ≡ header_text ++ (10 ∷ text (begin_lines pins watch))
+  pub begin_room_lem : fits (length room) 0 753 ≡ true → begin_bytes room pins watch ≡ header_text ++ (10 ∷ text (begin_lines pins watch))
   unfolding begin_bytes
-  begin-room e = simp e
+  begin_room_lem e = simp e
 
-  pub begin-none : fits (length room) 0 753 ≡ false → begin_bytes room pins watch ≡ []
+  pub begin_none : fits (length room) 0 753 ≡ false → begin_bytes room pins watch ≡ []
   unfolding begin_bytes
-  begin-none e = simp e
+  begin_none e = simp e
 
 -- ---- the beginning
 

@@ -14,10 +14,10 @@ use Rattle.state_area.specs.Area.{loaded}
 use Rattle.why_capi.specs.Told.{numbers_of, why_number_in, told_in}
 
 module _ (area words places : List ℕ) (r : Loaded) (e : r ≡ loaded area) where
-  pub ill-formed : (x : Explanation) → x ≡ why r.state words → r.number ≡ 0 → x ≡ IllFormed
+  pub ill_formed_lem : (x : Explanation) → x ≡ why r.state words → r.number ≡ 0 → x ≡ IllFormed
       → (8 ≡ why_number_in area words) × (places ≡ told_in area words places)
   unfolding why_number_in told_in
-  ill-formed x w h i =
+  ill_formed_lem x w h i =
       let n = eq-eqb (loaded area).number 0 (rw e at h) in
       let v : why (loaded area).state words ≡ IllFormed = sym (rw e at w) ∙ i in
       (rw (n, v), rw (n, v))

@@ -1,7 +1,7 @@
 -- `chip_writes::write_number` meets its contract.
 -- Assumes nothing.
 use borrow.Author.Rules.{rules}
-use Rattle.registers.proofs.Rules.{row-writable}
+use Rattle.registers.proofs.Rules.{row_writable}
 use Rattle.chip_writes.specs.Writes.{write_number}
 use Rattle.chip_writes.proofs.write_number.Goals as goal
 
@@ -11,11 +11,11 @@ row_of-row-requires c = search rules
 
 pub returns-then-row : goal.returns-then-row
 unfolding write_number
-returns-then-row c = simp (← (row-writable _ c.row_of-row.ensures), c.if-row.true, c.if-reset.true)
+returns-then-row c = simp (← (row_writable _ c.row_of-row.ensures), c.if-row.true, c.if-reset.true)
 
 pub returns-else-row : goal.returns-else-row
 unfolding write_number
-returns-else-row c = simp (← (row-writable _ c.row_of-row.ensures), c.if-row.false, c.if-reset.true)
+returns-else-row c = simp (← (row_writable _ c.row_of-row.ensures), c.if-row.false, c.if-reset.true)
 
 pub returns-else-reset : goal.returns-else-reset
 unfolding write_number

@@ -37,7 +37,7 @@ modify_operation_spec =
     (λ c κs. search rules)
     (λ c κs. search rules)
     (λ c κs. search rules)
-    (λ c. simp (c.with-flags.ensures, c.before.nzc.ensures, c.before.before.low_byte.ensures, c.before.before.before.enum_told.given.1))
+    (λ c. simp (c.with_flags.ensures, c.before.nzc.ensures, c.before.before.low_byte.ensures, c.before.before.before.enum_told.given.1))
     (λ c. simp (c.with-flags2.ensures, c.before.nzc2.ensures, c.before.before.enum-told2.given.1))
     (λ c. simp (c.with-flags3.ensures, c.before.nzc3.ensures, c.before.before.low-byte2.ensures, c.before.before.before.enum-told3.given.1, c.before.before.before.before.before.num.ensures.0))
     (λ c. simp (c.with-flags4.ensures, c.before.nzc4.ensures, c.before.before.enum-told4.given.1, c.before.before.before.before.num.ensures.0))

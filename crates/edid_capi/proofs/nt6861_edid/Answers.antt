@@ -5,4 +5,4 @@ use Rattle.edid_check.specs.Edid.{number_of}
 use Rattle.edid_capi.proofs.nt6861_edid.Goals as goal
 
 pub returns : goal.returns
-returns c = c.number.ensures ∙ ap number_of c.check.ensures.verdict-given
+returns c = c.number.ensures ∙ ap number_of c.check.ensures.verdict_given

@@ -1,6 +1,6 @@
 -- `firmware_capi::run_in` meets its contract.
 -- Assumes nothing.
-use Rattle.firmware_capi.proofs.Calls.{sized, begun, not-begun}
+use Rattle.firmware_capi.proofs.Calls.{sized, begun, not_begun}
 use borrow.Author.Rules.{rules}
 use Rattle.firmware_capi.proofs.run_in.Statement.{statement}
 use Rattle.firmware_capi.proofs.run_in.Tie as tie
@@ -27,4 +27,4 @@ run_in_spec =
     (λ c. search rules)
     (λ c. let h = c.before in
     let run = h.before.before.before.run.ensures in
-    not-begun _ _ _ _ _ _ _ _ _ _ _ h.before.before.before.before.before.before.cpu-of.ensures h.before.before.before.before.before.before.before.before.ram-of.ensures _ run.0 _ run.1 _ h.has-begun.ensures c.if1.false))
+    not_begun _ _ _ _ _ _ _ _ _ _ _ h.before.before.before.before.before.before.cpu-of.ensures h.before.before.before.before.before.before.before.before.ram-of.ensures _ run.0 _ run.1 _ h.has-begun.ensures c.if1.false))

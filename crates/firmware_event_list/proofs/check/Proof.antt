@@ -7,7 +7,7 @@ use borrow.Author.Rules.{rules}
 use lib.ListN.{length, drop}
 use Rattle.firmware_event_list.specs.declared.Checked.{Checked}
 use Rattle.firmware_event_list.specs.Lists.{checked_on}
-use Rattle.firmware_event_list.proofs.Reading.{check-next, check_stop, check-end}
+use Rattle.firmware_event_list.proofs.Reading.{check_next, check_stop, check_end}
 use Rattle.firmware_event_list.proofs.check.Statement.{statement}
 use Rattle.firmware_event_list.proofs.check.Tie as tie
 
@@ -41,12 +41,12 @@ loop_again c =
     let bytes = at.before.before.args.bytes.now in (
       omega arith,
       ap (λ (k : Checked). checked_on k (drop (at.loop.i + 1) bytes)) c.checked-byte.ensures
-          ∙ check-next at.loop.at bytes at.loop.i (search rules) c.before.before.before.if1.false
+          ∙ check_next at.loop.at bytes at.loop.i (search rules) c.before.before.before.if1.false
           ∙ at.loop.invariant.1,
     )
 
 returns_2 : tie.Need-returns-2 invariant_loop decreases_loop
-returns_2 c = check-end _ _ c.before.loop.i (search rules) ∙ c.before.loop.invariant.1
+returns_2 c = check_end _ _ c.before.loop.i (search rules) ∙ c.before.loop.invariant.1
 
 pub check_spec : {M : Type 1} → statement M
 check_spec =

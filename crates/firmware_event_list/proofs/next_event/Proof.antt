@@ -10,7 +10,7 @@ use lib.ListN.{length, drop}
 use Rattle.firmware_event_lines.specs.declared.Reader.{Reader}
 use Rattle.firmware_event_lines.specs.Lines.{line_start, meaning_of}
 use Rattle.firmware_event_list.specs.Lists.{is_something, found_as, found_on}
-use Rattle.firmware_event_list.proofs.Reading.{found_within, found_nothing, found-something, found_end_lem}
+use Rattle.firmware_event_list.proofs.Reading.{found_within, found_nothing, found_something, found_end_lem}
 use Rattle.firmware_event_list.proofs.next_event.Statement.{statement}
 use Rattle.firmware_event_list.proofs.next_event.Tie as tie
 
@@ -46,7 +46,7 @@ returns c =
     let told : is_something (meaning_of r.line) ≡ true = ap is_something (sym meaning) ∙ sym c.before.is-something.ensures ∙ c.if2.true in
     ap (λ (k : Reader). found_as k (at.loop.i + 1) c.before.before.before.meaning-of.result) c.before.before.line-start.ensures
     ∙ ap (found_as line_start (at.loop.i + 1)) meaning
-    ∙ found-something r _ at.loop.i (search rules) (eq-eqb _ _ c.before.before.before.before.if1.true) told
+    ∙ found_something r _ at.loop.i (search rules) (eq-eqb _ _ c.before.before.before.before.if1.true) told
     ∙ at.loop.invariant
 
 loop_less : tie.Need-loop-smaller invariant_loop decreases_loop

@@ -4,7 +4,7 @@ use mathlib.Core.Path.{sym, ◌∙◌}
 use native.Mathlib.Omega.{arith}
 use borrow.Author.Tests.{lt-ltb, le-ltb, eq-eqb, ne_eqb}
 use Rattle.recording_blocks.specs.Block.{count_of}
-use Rattle.recording_blocks.proofs.Refusals.{good, read-refused, read-seven, read-words, read_case}
+use Rattle.recording_blocks.proofs.Refusals.{good, read_refused, read_seven, read_words_lem, read_case}
 use Rattle.recording_blocks.proofs.read_block.Goals as goal
 
 pub two_at-count-requires : goal.two_at-count-requires
@@ -16,7 +16,7 @@ returns-then-words-count c =
     let none = c.if-number-eq0.true in
     let fault = c.refusal-number.ensures in
     let count = c.two_at-count.ensures in
-    read_case _ _ _ _ _ (read-seven _ _ _ _ fault none _ count c.if-words-count.true)
+    read_case _ _ _ _ _ (read_seven _ _ _ _ fault none _ count c.if-words-count.true)
     (rw (← fault, eq-eqb _ 0 none, ← count, lt-ltb _ _ c.if-words-count.true))
 
 pub take_words-requires : goal.take_words-requires
@@ -32,10 +32,10 @@ returns-then-number-eq0 c =
     let fault = c.refusal-number.ensures in
     let count = c.two_at-count.ensures in
     let room = c.if-words-count.false in
-    read_case _ _ _ _ _ (read-words _ _ _ _ fault none _ count room _ c.take_words.ensures)
+    read_case _ _ _ _ _ (read_words_lem _ _ _ _ fault none _ count room _ c.take_words.ensures)
     (rw (← fault, eq-eqb _ 0 none, ← count, le-ltb _ _ room))
 
 pub returns : goal.returns
 returns c =
     let fault = c.refusal-number.ensures in
-    read_case _ _ _ _ _ (read-refused _ _ _ _ fault c.if-number-eq0.false) (rw (← fault, ne_eqb _ 0 c.if-number-eq0.false))
+    read_case _ _ _ _ _ (read_refused _ _ _ _ fault c.if-number-eq0.false) (rw (← fault, ne_eqb _ 0 c.if-number-eq0.false))

@@ -4,7 +4,7 @@
 use Prim.Native.Nat.{ℕ, ◌+◌, ◌/◌, ◌%◌}
 use native.Mathlib.Omega.{arith}
 use lib.ListN.{length}
-use Rattle.recording_writer.proofs.Writing.{gives-twelve, gives-seventeen, wrote}
+use Rattle.recording_writer.proofs.Writing.{gives_twelve, gives_seventeen, wrote}
 use Rattle.recording_writer.proofs.write_blocks.Goals as goal
 
 abbrev blocks : ℕ → ℕ
@@ -23,7 +23,7 @@ pub overflow_mul-count : goal.overflow_mul-count
 overflow_mul-count c = omega arith
 
 pub returns-then-area-count : goal.returns-then-area-count
-returns-then-area-count c =  gives-seventeen c.args.first c.args.words.now c.args.area.now (blocks (length c.args.words.now)) (omega arith) c.if-next-le65536.true c.if-area-count.true
+returns-then-area-count c =  gives_seventeen c.args.first c.args.words.now c.args.area.now (blocks (length c.args.words.now)) (omega arith) c.if-next-le65536.true c.if-area-count.true
 
 pub write_all-requires : goal.write_all-requires
 write_all-requires c = omega arith
@@ -38,7 +38,7 @@ pub returns-then-next-le65536 : goal.returns-then-next-le65536
 returns-then-next-le65536 c =  wrote c.args.first c.args.words.now c.args.area.now (blocks (length c.args.words.now)) (omega arith) c.if-next-le65536.true c.if-area-count.false _ c.write_all.ensures
 
 pub returns-else-next-le65536 : goal.returns-else-next-le65536
-returns-else-next-le65536 c =  gives-twelve c.args.first c.args.words.now c.args.area.now (blocks (length c.args.words.now)) (omega arith) c.if-next-le65536.false
+returns-else-next-le65536 c =  gives_twelve c.args.first c.args.words.now c.args.area.now (blocks (length c.args.words.now)) (omega arith) c.if-next-le65536.false
 
 pub returns-else-count-le65536 : goal.returns-else-count-le65536
-returns-else-count-le65536 c =  gives-twelve c.args.first c.args.words.now c.args.area.now (blocks (length c.args.words.now)) (omega arith) (omega arith)
+returns-else-count-le65536 c =  gives_twelve c.args.first c.args.words.now c.args.area.now (blocks (length c.args.words.now)) (omega arith) (omega arith)

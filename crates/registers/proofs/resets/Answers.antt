@@ -4,7 +4,7 @@ use mathlib.Core.Path.{◌≡◌, refl, sym, ◌∙◌}
 use Prim.Native.Nat.{◌-◌}
 use native.Mathlib.Omega.{arith}
 use Rattle.registers.specs.Table.{resets}
-use Rattle.registers.proofs.Filled.{filled_none, filled_more, filled-all}
+use Rattle.registers.proofs.Filled.{filled_none, filled_more, filled_all}
 use Rattle.registers.proofs.Rules.{resets_length, resets_at}
 use Rattle.registers.proofs.resets.Goals as goal
 
@@ -26,4 +26,4 @@ pub returns : goal.returns
 returns c =
     let l = c.loop-i in
     let end : l.i ≡ 38 = omega (arith, l.invariant.bound) in
-    filled-all resets 38 l.registers (rw end at l.invariant)
+    filled_all resets 38 l.registers (rw end at l.invariant)

@@ -9,7 +9,7 @@ use lib.Seq.{length-take-le}
 use Rattle.list_call.specs.declared.RunResult.{RunResult}
 use Rattle.recording_blocks.specs.Bytes.{words_of}
 use Rattle.replay_text.specs.Text.{hex_lines}
-use Rattle.replay_text.proofs.Some.{left-words, read_length, chip-after, answers_read, answers_length}
+use Rattle.replay_text.proofs.Some.{left_words, read_length, chip_after_lem, answers_read, answers_length}
 use Rattle.replay_text.proofs.answer_some.Goals as goal
 
 pub read_words-requires : goal.read_words-requires
@@ -34,7 +34,7 @@ slice_bounds-advance_all-end c =
 pub slice_bounds-answers-end : goal.slice_bounds-answers-end
 slice_bounds-answers-end c =
     let fits : (c.args.from + c.args.count ≤ length c.args.bytes.now / 4) × (c.args.count ≤ length c.places-words.result) = (c.requires.1.0, omega (arith, c.requires.0, c.places-words.ensures)) in
-    let enough : c.args.count ≤ length (drop c.args.from (words_of c.args.bytes.now)) = left-words c.args.bytes.now c.places-words.result c.args.from c.args.count fits in
+    let enough : c.args.count ≤ length (drop c.args.from (words_of c.args.bytes.now)) = left_words c.args.bytes.now c.places-words.result c.args.from c.args.count fits in
     let room : c.args.count ≤ length c.places-answers.result = omega (arith, c.requires.0, c.places-answers.ensures) in
     let given : c.args.count ≤ length c.advance_all-done.new.answers =
         omega (
@@ -48,7 +48,7 @@ slice_bounds-answers-end c =
 pub slice_bounds-put_lines-end : goal.slice_bounds-put_lines-end
 slice_bounds-put_lines-end c =
     let fits : (c.args.from + c.args.count ≤ length c.args.bytes.now / 4) × (c.args.count ≤ length c.places-words.result) = (c.requires.1.0, omega (arith, c.requires.0, c.places-words.ensures)) in
-    let enough : c.args.count ≤ length (drop c.args.from (words_of c.args.bytes.now)) = left-words c.args.bytes.now c.places-words.result c.args.from c.args.count fits in
+    let enough : c.args.count ≤ length (drop c.args.from (words_of c.args.bytes.now)) = left_words c.args.bytes.now c.places-words.result c.args.from c.args.count fits in
     let room : c.args.count ≤ length c.places-answers.result = omega (arith, c.requires.0, c.places-answers.ensures) in
     let given : c.args.count ≤ length c.advance_all-done.new.answers =
         omega (
@@ -62,7 +62,7 @@ slice_bounds-put_lines-end c =
 pub put_lines-requires : goal.put_lines-requires
 put_lines-requires c =
     let fits : (c.args.from + c.args.count ≤ length c.args.bytes.now / 4) × (c.args.count ≤ length c.places-words.result) = (c.requires.1.0, omega (arith, c.requires.0, c.places-words.ensures)) in
-    let enough : c.args.count ≤ length (drop c.args.from (words_of c.args.bytes.now)) = left-words c.args.bytes.now c.places-words.result c.args.from c.args.count fits in
+    let enough : c.args.count ≤ length (drop c.args.from (words_of c.args.bytes.now)) = left_words c.args.bytes.now c.places-words.result c.args.from c.args.count fits in
     let room : c.args.count ≤ length c.places-answers.result = omega (arith, c.requires.0, c.places-answers.ensures) in
     let given : c.args.count ≤ length c.advance_all-done.new.answers =
         omega (
@@ -77,7 +77,7 @@ put_lines-requires c =
 pub returns : goal.returns
 returns c =
     let fits : (c.args.from + c.args.count ≤ length c.args.bytes.now / 4) × (c.args.count ≤ length c.places-words.result) = (c.requires.1.0, omega (arith, c.requires.0, c.places-words.ensures)) in
-    let enough : c.args.count ≤ length (drop c.args.from (words_of c.args.bytes.now)) = left-words c.args.bytes.now c.places-words.result c.args.from c.args.count fits in
+    let enough : c.args.count ≤ length (drop c.args.from (words_of c.args.bytes.now)) = left_words c.args.bytes.now c.places-words.result c.args.from c.args.count fits in
     let room : c.args.count ≤ length c.places-answers.result = omega (arith, c.requires.0, c.places-answers.ensures) in
     let given : c.args.count ≤ length c.advance_all-done.new.answers =
         omega (
@@ -89,7 +89,7 @@ returns c =
     let counted : length (take c.args.count c.advance_all-done.new.answers) ≡ c.args.count = length-take-le c.args.count c.advance_all-done.new.answers given in
     (
       ap (λ (x : RunResult). x.chip) c.advance_all-done.ensures.0
-          ∙ chip-after (drop c.args.from (words_of c.args.bytes.now)) c.places-words.result c.read_words.new.words c.args.count enough c.read_words.ensures c.args.c c.places-answers.result room,
+          ∙ chip_after_lem (drop c.args.from (words_of c.args.bytes.now)) c.places-words.result c.read_words.new.words c.args.count enough c.read_words.ensures c.args.c c.places-answers.result room,
       c.put_lines.ensures
           ∙ ap₂ (λ (l : List ℕ) (k : ℕ). take (9 * c.args.from) c.args.text.now ++ (hex_lines l ++ drop (9 * (c.args.from + k)) c.args.text.now))
           (answers_read (drop c.args.from (words_of c.args.bytes.now)) c.places-words.result c.read_words.new.words c.args.count enough c.read_words.ensures c.args.c c.places-answers.result room c.advance_all-done.new.answers c.advance_all-done.ensures.1)

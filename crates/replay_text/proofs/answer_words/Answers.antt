@@ -9,7 +9,7 @@ use Rattle.list_call.specs.Run.{advanced, advanced_answers}
 use Rattle.recording_blocks.specs.Bytes.{words_of}
 use Rattle.replay_text.specs.Text.{hex_lines}
 use Rattle.recording_blocks.proofs.Words.{length_words}
-use Rattle.replay_text.proofs.Lines.{no_word, length_kept, words_more, words-all}
+use Rattle.replay_text.proofs.Lines.{no_word, length_kept, words_more, words_all}
 use Rattle.replay_text.proofs.answer_words.Goals as goal
 
 pub loop-i-init : goal.loop-i-init
@@ -50,4 +50,4 @@ returns c =
     let n = length_words c.args.bytes.now in
     subst (λ (k : ℕ). (c.loop-i.c ≡ advanced c.args.start (words_of c.args.bytes.now))
     × (c.loop-i.text ≡ hex_lines (advanced_answers c.args.start (words_of c.args.bytes.now)) ++ drop (9 * k) c.args.text.now)) n
-    (words-all _ _ _ (omega (arith, length_words c.args.bytes.now, c.requires)) _ _ _ c.loop-i.invariant (omega (arith, n)))
+    (words_all _ _ _ (omega (arith, length_words c.args.bytes.now, c.requires)) _ _ _ c.loop-i.invariant (omega (arith, n)))

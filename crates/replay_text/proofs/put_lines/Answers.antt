@@ -2,7 +2,7 @@
 -- Assumes nothing.
 use Prim.Native.Nat.{◌-◌}
 use native.Mathlib.Omega.{arith}
-use Rattle.replay_text.proofs.Lines.{no_line, lined-length, line-more, lines-all}
+use Rattle.replay_text.proofs.Lines.{no_line, lined_length, line_more, lines_all}
 use Rattle.replay_text.proofs.put_lines.Goals as goal
 
 pub loop-i-init : goal.loop-i-init
@@ -20,7 +20,7 @@ bounds-answers-i c = omega arith
 pub put_line-requires : goal.put_line-requires
 put_line-requires c =
     let pre = c.requires in
-    omega (arith, pre, lined-length _ _ _ pre _ _ c.loop-i.invariant)
+    omega (arith, pre, lined_length _ _ _ pre _ _ c.loop-i.invariant)
 
 pub overflow_add-i : goal.overflow_add-i
 overflow_add-i c = omega arith
@@ -29,10 +29,10 @@ pub loop-i-smaller : goal.loop-i-smaller
 loop-i-smaller c = omega arith
 
 pub loop-i-preserved : goal.loop-i-preserved
-loop-i-preserved c =     line-more c.args.answers.now _ _ c.requires _ c.loop-i.i c.loop-i.invariant c.loop-i-test.true _ c.put_line.ensures
+loop-i-preserved c =     line_more c.args.answers.now _ _ c.requires _ c.loop-i.i c.loop-i.invariant c.loop-i-test.true _ c.put_line.ensures
 
 pub shape_of-text : goal.shape_of-text
-shape_of-text c =     lined-length _ _ _ c.requires _ _ c.loop-i.invariant
+shape_of-text c =     lined_length _ _ _ c.requires _ _ c.loop-i.invariant
 
 pub returns : goal.returns
-returns c =     lines-all _ _ _ c.requires _ _ c.loop-i.invariant c.loop-i-test.false
+returns c =     lines_all _ _ _ c.requires _ _ c.loop-i.invariant c.loop-i-test.false

@@ -6,7 +6,7 @@ use Rattle.chip.specs.declared.Chip.{Chip}
 use Rattle.list_call.specs.Run.{run, run_answers}
 use Rattle.state_area.specs.Area.{loaded}
 use Rattle.state_calls.specs.Calls.{run_number, run_area, run_places}
-use Rattle.state_calls.proofs.Opened.{done, put-done, well, untested, refused}
+use Rattle.state_calls.proofs.Opened.{done, put_done, well, untested, refused}
 use borrow.Author.Rules.{rules}
 use Rattle.state_calls.proofs.run.Goals as goal
 
@@ -34,7 +34,7 @@ returns-then-number-eq0 c =
     let ps = s.answers.now in
     let u = untested r.result.state (well a r.result r.ensures h) ws ps in (
       rw (d.0, ← u.0) (done a r.result r.ensures (λ (x : Chip). (run x ws ps).number) (loaded a).number h),
-      c.put.ensures ∙ rw (d.0, ← u.0) (put-done a r.result r.ensures (λ (x : Chip). (run x ws ps).chip) h),
+      c.put.ensures ∙ rw (d.0, ← u.0) (put_done a r.result r.ensures (λ (x : Chip). (run x ws ps).chip) h),
       d.1 ∙ sym u.1 ∙ done a r.result r.ensures (λ (x : Chip). run_answers x ws ps) ps h,
     )
 

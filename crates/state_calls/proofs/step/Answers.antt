@@ -5,7 +5,7 @@ use Prim.Native.Nat.{ℕ, ◌*◌}
 use Rattle.chip.specs.declared.Chip.{Chip}
 use Rattle.step.specs.Step.{step}
 use Rattle.state_calls.specs.Calls.{refusal_word, step_area, step_answer}
-use Rattle.state_calls.proofs.Opened.{done, put-done, well, refused}
+use Rattle.state_calls.proofs.Opened.{done, put_done, well, refused}
 use borrow.Author.Rules.{rules}
 use Rattle.state_calls.proofs.step.Goals as goal
 
@@ -34,7 +34,7 @@ returns-then-number-eq0 c =
     let d = c.stepped-done.ensures in
     let a = s.area.now in (
       rw d (done a r.result r.ensures (λ (x : Chip). (step x s.word).answer) (refusal_word a) h),
-      c.put.ensures ∙ rw d (put-done a r.result r.ensures (λ (x : Chip). (step x s.word).chip) h),
+      c.put.ensures ∙ rw d (put_done a r.result r.ensures (λ (x : Chip). (step x s.word).chip) h),
     )
 
 pub returns-else-number-eq0 : goal.returns-else-number-eq0

@@ -2,7 +2,7 @@
 -- Assumes nothing.
 use lib.ListN.{length-set}
 use Rattle.vcd.specs.Header.{heading, declares}
-use Rattle.vcd.proofs.Declaring.{one-more-entry}
+use Rattle.vcd.proofs.Declaring.{one_more_entry}
 use mathlib.Core.Path.{ap}
 use native.Mathlib.Omega.{arith}
 use borrow.Author.Tests.{lt-ltb, le-ltb}
@@ -24,7 +24,7 @@ one_more-requires c = search rules
 pub returns-then-n-lt32 : goal.returns-then-n-lt32
 unfolding declares
 returns-then-n-lt32 c =
-    let a = c.args in let v = a.h.variable in simp (c.one_more.ensures, lt-ltb _ _ c.if-n-lt32.true) (rw (← (c.free_pin-pin.ensures a.text.now a.places.now)) (ap (heading _) (one-more-entry a.text.now a.places.now a.pins.now a.h.entries v.from v.to c.free_pin-pin.result (omega arith) (omega arith))))
+    let a = c.args in let v = a.h.variable in simp (c.one_more.ensures, lt-ltb _ _ c.if-n-lt32.true) (rw (← (c.free_pin-pin.ensures a.text.now a.places.now)) (ap (heading _) (one_more_entry a.text.now a.places.now a.pins.now a.h.entries v.from v.to c.free_pin-pin.result (omega arith) (omega arith))))
 
 pub too_many-requires : goal.too_many-requires
 unfolding declares

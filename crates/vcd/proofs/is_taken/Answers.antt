@@ -1,7 +1,7 @@
 -- `vcd::is_taken` meets its contract.
 -- Assumes nothing.
 use Prim.Native.Nat.{◌-◌}
-use Rattle.vcd.proofs.Declaring.{taken_more, taken_here, taken-end}
+use Rattle.vcd.proofs.Declaring.{taken_more, taken_here, taken_end}
 use mathlib.Core.Path.{◌≡◌, refl, ◌∙◌}
 use native.Mathlib.Omega.{arith}
 use borrow.Author.Rules.{rules}
@@ -17,4 +17,4 @@ pub loop-k-preserved : goal.loop-k-preserved
 loop-k-preserved c = λ text places. taken_more text places _ _ _ c.loop-k.k (search rules) c.if-pins-k.false ∙ c.loop-k.invariant text places
 
 pub returns : goal.returns
-returns c = λ text places. taken-end text places _ _ _ c.loop-k.k (search rules) ∙ c.loop-k.invariant text places
+returns c = λ text places. taken_end text places _ _ _ c.loop-k.k (search rules) ∙ c.loop-k.invariant text places

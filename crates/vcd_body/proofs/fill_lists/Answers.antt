@@ -1,7 +1,7 @@
 -- `vcd_body::fill_lists` meets its contract.
 -- Assumes nothing.
 use Prim.Native.Nat.{◌-◌}
-use Rattle.vcd_body.proofs.Filling.{lists-more}
+use Rattle.vcd_body.proofs.Filling.{lists_more}
 use mathlib.Core.Path.{sym, ◌∙◌}
 use native.Mathlib.Omega.{arith}
 use borrow.Author.Rules.{rules}
@@ -14,7 +14,7 @@ pub bounds-lists-k : goal.bounds-lists-k
 bounds-lists-k c = omega (arith, c.loop-k.invariant.1.size)
 
 pub loop-k-preserved : goal.loop-k-preserved
-loop-k-preserved c =     (omega arith, lists-more _ _ _ _ c.loop-k.lists c.loop-k.k _ (search rules) c.list_at.ensures c.loop-k.invariant.1)
+loop-k-preserved c =     (omega arith, lists_more _ _ _ _ c.loop-k.lists c.loop-k.k _ (search rules) c.list_at.ensures c.loop-k.invariant.1)
 
 pub shape_of-lists : goal.shape_of-lists
 shape_of-lists c = c.loop-k.invariant.1.size ∙ sym c.requires

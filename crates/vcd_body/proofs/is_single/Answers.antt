@@ -3,7 +3,7 @@
 use mathlib.Core.Path.{sym, ◌∙◌}
 use Prim.Native.Nat.{◌+◌}
 use native.Mathlib.Omega.{arith}
-use Rattle.vcd_text.proofs.Laws.{word_more, word-stops}
+use Rattle.vcd_text.proofs.Laws.{word_more, word_stops}
 use Rattle.vcd_body.proofs.Running.{never}
 use Rattle.vcd_body.proofs.is_single.Goals as goal
 
@@ -17,4 +17,4 @@ pub returns : goal.returns
 returns c =
     let a = c.args in
     λ e.
-    (omega (arith, c.if-text-from-lt2.false), word-stops a.text.now (a.from + 1) (omega (arith, c.if-text-from-lt2.false)) (sym c.white-2.ensures ∙ e) ∙ word_more a.text.now a.from (omega (arith, c.if-text-from-lt2.false)) (sym c.white.ensures ∙ c.if-white.false))
+    (omega (arith, c.if-text-from-lt2.false), word_stops a.text.now (a.from + 1) (omega (arith, c.if-text-from-lt2.false)) (sym c.white-2.ensures ∙ e) ∙ word_more a.text.now a.from (omega (arith, c.if-text-from-lt2.false)) (sym c.white.ensures ∙ c.if-white.false))

@@ -3,7 +3,7 @@
 use mathlib.Core.Path.{refl, sym, ◌∙◌}
 use Prim.Native.Nat.{◌-◌}
 use native.Mathlib.Omega.{arith}
-use Rattle.vcd_text.proofs.Laws.{word_more, word-stops, word_ends}
+use Rattle.vcd_text.proofs.Laws.{word_more, word_stops, word_ends}
 use Rattle.vcd_body.proofs.Running.{digit_on, digits_done, digits_whole}
 use borrow.Author.Rules.{rules}
 use Rattle.vcd_body.proofs.read_digits.Goals as goal
@@ -14,7 +14,7 @@ loop-i-init c = (search rules, search rules, refl, refl)
 pub returns-then-white : goal.returns-then-white
 returns-then-white c =
     let a = c.args in
-    (c.loop-i.invariant.0, λ l. ((word-stops a.text.now c.loop-i.i (search rules) (sym c.white.ensures ∙ c.if-white.true)) ∙ c.loop-i.invariant.2, digits_whole a.text.now a.from c.loop-i.i c.loop-i.v l ((word-stops a.text.now c.loop-i.i (search rules) (sym c.white.ensures ∙ c.if-white.true)) ∙ c.loop-i.invariant.2) c.loop-i.invariant.1 (sym c.loop-i.invariant.3 ∙ digits_done a.text.now c.loop-i.i c.loop-i.v (word-stops a.text.now c.loop-i.i (search rules) (sym c.white.ensures ∙ c.if-white.true)))))
+    (c.loop-i.invariant.0, λ l. ((word_stops a.text.now c.loop-i.i (search rules) (sym c.white.ensures ∙ c.if-white.true)) ∙ c.loop-i.invariant.2, digits_whole a.text.now a.from c.loop-i.i c.loop-i.v l ((word_stops a.text.now c.loop-i.i (search rules) (sym c.white.ensures ∙ c.if-white.true)) ∙ c.loop-i.invariant.2) c.loop-i.invariant.1 (sym c.loop-i.invariant.3 ∙ digits_done a.text.now c.loop-i.i c.loop-i.v (word_stops a.text.now c.loop-i.i (search rules) (sym c.white.ensures ∙ c.if-white.true)))))
 
 pub overflow_mul-v : goal.overflow_mul-v
 overflow_mul-v c = record { fits = omega (arith, (c.is_plain_digit.ensures c.if-is_plain_digit.true).2) }

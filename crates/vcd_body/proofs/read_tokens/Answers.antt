@@ -4,7 +4,7 @@ use Prim.Native.Nat.{◌-◌}
 use mathlib.Core.Bool.{false}
 use Rattle.vcd_text.proofs.Laws.{word_some, word_within, some_byte}
 use Rattle.vcd_codes.specs.Codes.{variables, find}
-use Rattle.vcd_body.proofs.Reading.{token-stops, token-pauses, token-goes-on, none_left, all_read}
+use Rattle.vcd_body.proofs.Reading.{token_stops, token_pauses, token_goes_on, none_left, all_read}
 use mathlib.Core.Path.{refl, ◌∙◌}
 use native.Mathlib.Omega.{arith}
 use borrow.Author.Rules.{rules}
@@ -29,7 +29,7 @@ pub returns-in-Stop : goal.returns-in-Stop
 returns-in-Stop c =     rw c.close.ensures
     (let a = c.args in
     let run = c.pass_run-after in
-    token-stops (find (variables a.text.now a.places.now a.pins.now 0 a.entries)) a.scale a.text.now run.result.at _ _ c.skip_white-p.ensures c.word_end-e.ensures c.if-p-text.true run.result.state c.loop-at.done run.result.count _ _ _ _ c.token-step.ensures c.perform-turn.ensures _ _ c.in-Stop.is ∙ run.ensures.1 ∙ c.loop-at.invariant.1)
+    token_stops (find (variables a.text.now a.places.now a.pins.now 0 a.entries)) a.scale a.text.now run.result.at _ _ c.skip_white-p.ensures c.word_end-e.ensures c.if-p-text.true run.result.state c.loop-at.done run.result.count _ _ _ _ c.token-step.ensures c.perform-turn.ensures _ _ c.in-Stop.is ∙ run.ensures.1 ∙ c.loop-at.invariant.1)
 
 pub shape_of-out-in-Full : goal.shape_of-out-in-Full
 shape_of-out-in-Full c = c.perform-turn.auto.out ∙ c.pass_run-after.auto.out ∙ c.loop-at.invariant.0
@@ -38,7 +38,7 @@ pub returns-in-Full : goal.returns-in-Full
 returns-in-Full c =     rw c.pause.ensures
     (let a = c.args in
     let run = c.pass_run-after in
-    token-pauses (find (variables a.text.now a.places.now a.pins.now 0 a.entries)) a.scale a.text.now run.result.at _ _ c.skip_white-p.ensures c.word_end-e.ensures c.if-p-text.true run.result.state c.loop-at.done run.result.count _ _ _ _ c.token-step.ensures c.perform-turn.ensures _ _ c.in-Full.is ∙ run.ensures.1 ∙ c.loop-at.invariant.1)
+    token_pauses (find (variables a.text.now a.places.now a.pins.now 0 a.entries)) a.scale a.text.now run.result.at _ _ c.skip_white-p.ensures c.word_end-e.ensures c.if-p-text.true run.result.state c.loop-at.done run.result.count _ _ _ _ c.token-step.ensures c.perform-turn.ensures _ _ c.in-Full.is ∙ run.ensures.1 ∙ c.loop-at.invariant.1)
 
 pub loop-at-smaller : goal.loop-at-smaller
 loop-at-smaller c = omega (arith, c.pass_run-after.ensures.0, c.loop-at-test.true, c.skip_white-p.ensures, word_some _ c.pass_run-after.result.at _ c.skip_white-p.ensures _ c.word_end-e.ensures c.if-p-text.true)
@@ -48,7 +48,7 @@ loop-at-preserved c =  (
   c.perform-turn.auto.out ∙ c.pass_run-after.auto.out ∙ c.loop-at.invariant.0,
   let a = c.args in
       let run = c.pass_run-after in
-      token-goes-on (find (variables a.text.now a.places.now a.pins.now 0 a.entries)) a.scale a.text.now run.result.at _ _ c.skip_white-p.ensures c.word_end-e.ensures c.if-p-text.true run.result.state c.loop-at.done run.result.count _ _ _ _ c.token-step.ensures c.perform-turn.ensures _ _ c.in-On.is ∙ run.ensures.1 ∙ c.loop-at.invariant.1,
+      token_goes_on (find (variables a.text.now a.places.now a.pins.now 0 a.entries)) a.scale a.text.now run.result.at _ _ c.skip_white-p.ensures c.word_end-e.ensures c.if-p-text.true run.result.state c.loop-at.done run.result.count _ _ _ _ c.token-step.ensures c.perform-turn.ensures _ _ c.in-On.is ∙ run.ensures.1 ∙ c.loop-at.invariant.1,
 )
 
 pub shape_of-out-else-p-text : goal.shape_of-out-else-p-text

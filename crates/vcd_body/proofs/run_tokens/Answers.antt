@@ -3,11 +3,11 @@
 use mathlib.Core.Path.{refl, ◌∙◌}
 use Prim.Native.Nat.{◌-◌}
 use native.Mathlib.Omega.{arith}
-use Rattle.vcd_body.proofs.Running.{leads-nowhere, leads_on}
+use Rattle.vcd_body.proofs.Running.{leads_nowhere, leads_on}
 use Rattle.vcd_body.proofs.run_tokens.Goals as goal
 
 pub loop-run-init : goal.loop-run-init
-loop-run-init c = (refl, leads-nowhere _ _ _ _ _)
+loop-run-init c = (refl, leads_nowhere _ _ _ _ _)
 
 pub run_token-next-requires : goal.run_token-next-requires
 run_token-next-requires c = record { tables = c.requires.tables; scale_nonzero = c.requires.scale_nonzero; at_in_bounds = omega (arith, c.loop-run-test.true) }

@@ -2,7 +2,7 @@
 -- Assumes nothing.
 use native.Mathlib.Omega.{arith}
 use Rattle.vcd_steps.proofs.Times.{fits_of}
-use Rattle.vcd_body.proofs.Running.{time-advances}
+use Rattle.vcd_body.proofs.Running.{time_advances}
 use Rattle.vcd_body.proofs.short_time.Goals as goal
 
 pub overflow_mul-d : goal.overflow_mul-d
@@ -13,4 +13,4 @@ returns c =
     let a = c.args in
     let d = c.read_digits-d in
     λ find from.
-    c.give_clocks.ensures find a.scale a.text.now a.p (time-advances find a.scale a.text.now a.run a.p d.result.end d.result.value from c.requires.p_in_bounds.0 c.requires.p_in_bounds.1 (omega (arith, d.ensures.0, c.if-d-p.false)) (d.ensures.1 (omega (arith, d.ensures.0, c.if-d-p.false))).0 (d.ensures.1 (omega (arith, d.ensures.0, c.if-d-p.false))).1 c.requires.scale_nonzero.0 c.if-d-run.false (rw (← c.requires.scale_nonzero.1) c.if-limit-d.false))
+    c.give_clocks.ensures find a.scale a.text.now a.p (time_advances find a.scale a.text.now a.run a.p d.result.end d.result.value from c.requires.p_in_bounds.0 c.requires.p_in_bounds.1 (omega (arith, d.ensures.0, c.if-d-p.false)) (d.ensures.1 (omega (arith, d.ensures.0, c.if-d-p.false))).0 (d.ensures.1 (omega (arith, d.ensures.0, c.if-d-p.false))).1 c.requires.scale_nonzero.0 c.if-d-run.false (rw (← c.requires.scale_nonzero.1) c.if-limit-d.false))

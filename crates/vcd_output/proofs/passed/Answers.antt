@@ -1,7 +1,7 @@
 -- `vcd_output::passed` meets its contract.
 -- Assumes nothing.
 use Prim.Native.Nat.{◌-◌}
-use Rattle.vcd_output.proofs.Writing.{pass-more, pass-none, pass-end}
+use Rattle.vcd_output.proofs.Writing.{pass_more, pass_none, pass_end}
 use mathlib.Core.Path.{◌≡◌, ◌∙◌}
 use native.Mathlib.Omega.{arith}
 use borrow.Author.Rules.{rules}
@@ -12,10 +12,10 @@ loop-i-init c =
     let z : c.args.done - 0 ≡ c.args.done = omega arith in (search rules, λ high. rw z)
 
 pub returns-then-rest-eq0 : goal.returns-then-rest-eq0
-returns-then-rest-eq0 c = λ high. pass-none _ high c.loop-i.i _ (search rules) (omega arith) c.if-rest-eq0.true ∙ c.loop-i.invariant.1 high
+returns-then-rest-eq0 c = λ high. pass_none _ high c.loop-i.i _ (search rules) (omega arith) c.if-rest-eq0.true ∙ c.loop-i.invariant.1 high
 
 pub loop-i-preserved : goal.loop-i-preserved
-loop-i-preserved c =     (search rules, λ high. pass-more c.loop-i.rest high c.loop-i.i _ (search rules) (omega arith) c.if-rest-eq0.false ∙ c.loop-i.invariant.1 high)
+loop-i-preserved c =     (search rules, λ high. pass_more c.loop-i.rest high c.loop-i.i _ (search rules) (omega arith) c.if-rest-eq0.false ∙ c.loop-i.invariant.1 high)
 
 pub returns : goal.returns
-returns c = λ high. pass-end _ high c.loop-i.i _ (search rules) (search rules) ∙ c.loop-i.invariant.1 high
+returns c = λ high. pass_end _ high c.loop-i.i _ (search rules) (search rules) ∙ c.loop-i.invariant.1 high

@@ -3,7 +3,7 @@
 use mathlib.Core.Path.{refl, ◌∙◌}
 use Prim.Native.Nat.{◌-◌}
 use native.Mathlib.Omega.{arith}
-use Rattle.vcd_text.proofs.Laws.{same_more, same-less, same_end, other_length}
+use Rattle.vcd_text.proofs.Laws.{same_more, same_less, same_end, other_length}
 use borrow.Author.Rules.{rules}
 use Rattle.vcd_text.proofs.same.Goals as goal
 
@@ -20,7 +20,7 @@ pub loop-i-preserved : goal.loop-i-preserved
 loop-i-preserved c =     (omega arith, same_more _ _ c.loop-i.i (search rules) (omega arith) c.if-a-i.true ∙ c.loop-i.invariant.1)
 
 pub returns-else-a-i : goal.returns-else-a-i
-returns-else-a-i c =     same-less _ _ c.loop-i.i (search rules) (omega arith) c.if-a-i.false ∙ c.loop-i.invariant.1
+returns-else-a-i c =     same_less _ _ c.loop-i.i (search rules) (omega arith) c.if-a-i.false ∙ c.loop-i.invariant.1
 
 pub returns-after-loop-i : goal.returns-after-loop-i
 returns-after-loop-i c = same_end _ _ c.loop-i.i (search rules) (omega arith) ∙ c.loop-i.invariant.1

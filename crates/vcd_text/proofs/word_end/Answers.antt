@@ -3,7 +3,7 @@
 use mathlib.Core.Path.{refl, sym, ◌∙◌}
 use Prim.Native.Nat.{◌-◌}
 use native.Mathlib.Omega.{arith}
-use Rattle.vcd_text.proofs.Laws.{word_more, word-stops, word_ends}
+use Rattle.vcd_text.proofs.Laws.{word_more, word_stops, word_ends}
 use borrow.Author.Rules.{rules}
 use Rattle.vcd_text.proofs.word_end.Goals as goal
 
@@ -13,7 +13,7 @@ loop-i-init c = refl
 pub returns-then-white : goal.returns-then-white
 returns-then-white c =     let text = c.args.text.now in
     let w = sym c.white.ensures ∙ c.if-white.true in
-    word-stops text c.loop-i.i (search rules) w ∙ c.loop-i.invariant
+    word_stops text c.loop-i.i (search rules) w ∙ c.loop-i.invariant
 
 pub overflow_add-i : goal.overflow_add-i
 overflow_add-i c = omega arith

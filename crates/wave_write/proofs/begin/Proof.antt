@@ -2,7 +2,7 @@
 -- Assumes nothing.
 use mathlib.Core.Path.{sym, ◌∙◌}
 use native.Mathlib.Omega.{arith}
-use Rattle.wave_write.proofs.Laws.{wrote_none, fits_room, begin-room, begin-none}
+use Rattle.wave_write.proofs.Laws.{wrote_none, fits_room, begin_room_lem, begin_none}
 use borrow.Author.Rules.{rules}
 use Rattle.wave_write.proofs.begin.Statement.{statement}
 use Rattle.wave_write.proofs.begin.Tie as tie
@@ -21,10 +21,10 @@ same_length : tie.Need-same-length
 same_length c = search rules
 
 returns : tie.Need-returns
-returns c = rw (begin-room _ _ _ (sym c.before.before.before.before.before.fits2.ensures ∙ c.before.before.before.before.if1.true)) c.before.before.begin-all.ensures
+returns c = rw (begin_room_lem _ _ _ (sym c.before.before.before.before.before.fits2.ensures ∙ c.before.before.before.before.if1.true)) c.before.before.begin-all.ensures
 
 returns_2 : tie.Need-returns-2
-returns_2 c = rw (begin-none _ _ _ (sym c.before.fits2.ensures ∙ c.if1.false)) (wrote_none _ _)
+returns_2 c = rw (begin_none _ _ _ (sym c.before.fits2.ensures ∙ c.if1.false)) (wrote_none _ _)
 
 pub begin_spec : {M : Type 1} → statement M
 begin_spec = tie.close (tie.spec fits_requires begin_all_requires same_length returns returns_2)

@@ -1,7 +1,7 @@
 -- `wave_write::event_lines` meets its contract.
 -- Assumes nothing.
 use mathlib.Core.Path.{sym, ◌∙◌}
-use Rattle.wave_write.proofs.Laws.{wrote_none, event-pin, event-quiet, event-watch}
+use Rattle.wave_write.proofs.Laws.{wrote_none, event_pin, event_quiet, event_watch}
 use borrow.Author.Rules.{rules}
 use Rattle.wave_write.proofs.event_lines.Statement.{statement}
 use Rattle.wave_write.proofs.event_lines.Tie as tie
@@ -31,13 +31,13 @@ same_length c = search rules
 returns : tie.Need-returns
 returns c =
     let start = c.before.before.before.before.before.before.before.before.before.before in
-    rw (event-pin start.args.w _ _ (sym c.before.before.before.before.before.is-pin.ensures ∙ c.before.before.before.before.if1.true), ← c.before.before.before.before.before.before.before.before.moves.ensures, ← c.before.before.before.before.before.before.before.time-of.ensures) c.before.before.changes.ensures
+    rw (event_pin start.args.w _ _ (sym c.before.before.before.before.before.is-pin.ensures ∙ c.before.before.before.before.if1.true), ← c.before.before.before.before.before.before.before.before.moves.ensures, ← c.before.before.before.before.before.before.before.time-of.ensures) c.before.before.changes.ensures
 
 same_watch_requires : tie.Need-same-watch-requires
 same_watch_requires c κs = search rules
 
 returns_2 : tie.Need-returns-2
-returns_2 c = rw (event-quiet c.before.before.before.before.before.before.before.before.args.w _ _ (sym c.before.before.before.is-pin.ensures ∙ c.before.before.if1.false) (sym c.before.same-watch.ensures ∙ c.if2.true)) (wrote_none _ _)
+returns_2 c = rw (event_quiet c.before.before.before.before.before.before.before.before.args.w _ _ (sym c.before.before.before.is-pin.ensures ∙ c.before.before.if1.false) (sym c.before.same-watch.ensures ∙ c.if2.true)) (wrote_none _ _)
 
 changes_requires_2 : tie.Need-changes-requires-2
 changes_requires_2 c κs = search rules
@@ -48,7 +48,7 @@ same_length_2 c = search rules
 returns_3 : tie.Need-returns-3
 returns_3 c =
     let start = c.before.before.before.before.before.before.before.before.before.before.before.before in
-    rw (event-watch start.args.w _ _ (sym c.before.before.before.before.before.before.before.is-pin.ensures ∙ c.before.before.before.before.before.before.if1.false) (sym c.before.before.before.before.before.same-watch.ensures ∙ c.before.before.before.before.if2.false), ← c.before.before.before.before.before.before.before.before.before.before.moves.ensures, ← c.before.before.before.before.before.before.before.before.before.time-of.ensures) c.before.before.changes2.ensures
+    rw (event_watch start.args.w _ _ (sym c.before.before.before.before.before.before.before.is-pin.ensures ∙ c.before.before.before.before.before.before.if1.false) (sym c.before.before.before.before.before.same-watch.ensures ∙ c.before.before.before.before.if2.false), ← c.before.before.before.before.before.before.before.before.before.before.moves.ensures, ← c.before.before.before.before.before.before.before.before.before.time-of.ensures) c.before.before.changes2.ensures
 
 pub event_lines_spec : {M : Type 1} → statement M
 event_lines_spec =

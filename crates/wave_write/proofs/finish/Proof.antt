@@ -2,7 +2,7 @@
 -- Assumes nothing.
 use mathlib.Core.Path.{sym, ◌∙◌}
 use native.Mathlib.Omega.{arith}
-use Rattle.wave_write.proofs.Laws.{wrote_none, fits_room, end-room, end_none}
+use Rattle.wave_write.proofs.Laws.{wrote_none, fits_room, end_room_lem, end_none}
 use borrow.Author.Rules.{rules}
 use Rattle.wave_write.proofs.finish.Statement.{statement}
 use Rattle.wave_write.proofs.finish.Tie as tie
@@ -25,7 +25,7 @@ same_length : tie.Need-same-length
 same_length c = search rules
 
 returns : tie.Need-returns
-returns c = rw (end-room _ _ _ (sym c.before.before.before.before.before.before.fits2.ensures ∙ c.before.before.before.before.before.if1.true), ← c.before.before.before.time-of.ensures) c.before.before.time-line.ensures
+returns c = rw (end_room_lem _ _ _ (sym c.before.before.before.before.before.before.fits2.ensures ∙ c.before.before.before.before.before.if1.true), ← c.before.before.before.time-of.ensures) c.before.before.time-line.ensures
 
 returns_2 : tie.Need-returns-2
 returns_2 c = rw (end_none _ _ _ (sym c.before.fits2.ensures ∙ c.if1.false)) (wrote_none _ _)

@@ -2,7 +2,7 @@
 -- Assumes nothing.
 use mathlib.Core.Path.{sym, ◌∙◌}
 use native.Mathlib.Omega.{arith}
-use Rattle.wave_write.proofs.Laws.{wrote_none, fits_room, event-room, event-none, moved-room, moved_none}
+use Rattle.wave_write.proofs.Laws.{wrote_none, fits_room, event_room_lem, event_none, moved_room, moved_none}
 use borrow.Author.Rules.{rules}
 use Rattle.wave_write.proofs.write_event.Statement.{statement}
 use Rattle.wave_write.proofs.write_event.Tie as tie
@@ -28,13 +28,13 @@ returns : tie.Need-returns
 returns c =
     let e = sym c.before.before.before.before.before.before.fits2.ensures ∙ c.before.before.before.before.before.if1.true in
     let start = c.before.before.before.before.before.before.before.before in
-    (rw (event-room _ _ start.args.w _ _ e) c.before.before.before.event-lines.ensures, c.moves.ensures ∙ sym (moved-room _ _ start.args.w _ _ e))
+    (rw (event_room_lem _ _ start.args.w _ _ e) c.before.before.before.event-lines.ensures, c.moves.ensures ∙ sym (moved_room _ _ start.args.w _ _ e))
 
 returns_2 : tie.Need-returns-2
 returns_2 c =
     let e = sym c.before.fits2.ensures ∙ c.if1.false in
     let start = c.before.before.before in
-    (rw (event-none _ _ start.args.w _ _ e) (wrote_none _ _), sym (moved_none _ _ start.args.w start.args.word start.args.watch e))
+    (rw (event_none _ _ start.args.w _ _ e) (wrote_none _ _), sym (moved_none _ _ start.args.w start.args.word start.args.watch e))
 
 pub write_event_spec : {M : Type 1} → statement M
 write_event_spec =

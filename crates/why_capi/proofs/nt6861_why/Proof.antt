@@ -1,7 +1,7 @@
 -- `why_capi::nt6861_why` meets its contract.
 -- Assumes nothing.
 use borrow.Author.Rules.{rules}
-use Rattle.why_capi.proofs.Told.{ill-formed, told, refused}
+use Rattle.why_capi.proofs.Told.{ill_formed_lem, told, refused}
 use Rattle.why_capi.proofs.nt6861_why.Statement.{statement}
 use Rattle.why_capi.proofs.nt6861_why.Tie as tie
 
@@ -17,7 +17,7 @@ nt6861_why_spec =
     (λ c. let found = c.before.before in
     let read = found.before.before.before in
     let s = read.before.before.before.args in
-    ill-formed s.area.now s.words.now s.told.now read.load.result read.load.ensures _ found.why.ensures.0 found.before.before.if1.true c.enum_told.given.1)
+    ill_formed_lem s.area.now s.words.now s.told.now read.load.result read.load.ensures _ found.why.ensures.0 found.before.before.if1.true c.enum_told.given.1)
     (λ c. let found = c.before.before.before.before in
     let read = found.before.before.before in
     let s = read.before.before.before.args in
