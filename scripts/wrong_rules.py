@@ -22,6 +22,7 @@ import subprocess
 import sys
 import tempfile
 
+sys.dont_write_bytecode = True
 import rattle
 
 ROWS = "scripts/wrong-rules.txt"
@@ -68,18 +69,29 @@ def listed():
 
 def without_functions(lines):
     """types and constants alone"""
-    skipping = False
+    skipping, importing = False, False
     for line in lines:
-        if skipping:
+        if importing:
+            importing = not line.endswith(";")
+        elif skipping:
             skipping = not line.startswith("}")
         elif FUNCTION.match(line):
             skipping = not ("{" in line and line.rstrip().endswith("}"))
-        elif not line.startswith(("#", "ghost use", "mod ", "pub use ")):
+        elif line.startswith(("use ", "pub use ", "ghost use ")):
+            importing = not line.endswith(";")
+            if line.startswith("use "):
+                yield line
+        elif not line.startswith(("#", "mod ")):
             yield line
 
 
 def stripped(crate):
     return "\n".join(without_functions(pathlib.Path(f"crates/{crate}/src/lib.rt").read_text().splitlines()))
+
+
+def own(text):
+    """the modules of this repository that a text names: (crate, part, module)"""
+    return [found for found in MODULE.findall(text) if pathlib.Path("crates", found[0]).is_dir()]
 
 
 def closure(modules):
@@ -90,12 +102,12 @@ def closure(modules):
         if name not in wanted:
             wanted[name] = set()
             for spec in pathlib.Path(f"crates/{name}/specs").glob("*.antt"):
-                todo += MODULE.findall(spec.read_text())
+                todo += own(spec.read_text())
             todo += [(used, "specs", "Lib") for used in TYPES.findall(stripped(name)) if pathlib.Path(f"crates/{used}").is_dir()]
         law = pathlib.Path(f"crates/{name}/proofs/{module}.antt")
         if part == "proofs" and module not in wanted[name] and law.is_file():
             wanted[name].add(module)
-            todo += MODULE.findall(law.read_text())
+            todo += own(law.read_text())
     return wanted
 
 
@@ -108,6 +120,8 @@ def renamed(text):
 
     def name(found):
         crate, part, module = found.groups()
+        if not pathlib.Path("crates", crate).is_dir():
+            return found[0]
         return f"Rattle.merged.{part}.{'declared' if module == 'declared' else stem(crate, module)}"
 
     return MODULE.sub(name, text)
@@ -154,7 +168,7 @@ def check(place):
 def refused(log, places):
     """what a log refuses: (part, crate, module, name) -> whether by a fact"""
     told = {}
-    for part, file, name, words in ERROR.findall(log):
+    for part, file, name, words in (found for found in ERROR.findall(log) if found[1] in places):
         place = (part, *places[file], name)
         told[place] = told.get(place, False) or not any(unfit in words for unfit in UNFIT)
     return told

@@ -3,7 +3,7 @@
 
 usage: python3 tools/spell_pages.py [--write] PAGE ..        at the top of the repository
 
-Only what stands between backquotes on one line is looked at, and no block of a program's text. A word is spelled as tools/spelled_names.txt has it; behind
+Only what stands between backquotes on one line is looked at, and MODULE.NAME of a law in a table, and no block of a program's text. A word is spelled as tools/spelled_names.txt has it; behind
 `crate.` it is the name that the crate has, and a crate by its name of today. Names of files, labels of edits and commands stay. Printed are the names
 `crate.name` that no crate has then. Without --write nothing is changed.
 """
@@ -41,6 +41,30 @@ def in_crate(crate, name):
     return NAMES.get(name, name)
 
 
+def in_module(crates, module, name):
+    """a law's name as the module of one of these crates has it"""
+    for crate in crates:
+        path = pathlib.Path("crates", crate, "proofs", f"{module}.antt")
+        words = set(WORD.findall(path.read_text())) if path.is_file() else set()
+        for one in (NAMES.get(name, name), name, snake(name), snake(name) + "_lem"):
+            if one in words:
+                return one
+    return None
+
+
+def laws(line, lost):
+    """the laws MODULE.NAME of a row of a table, of the crates that the row names"""
+    parts = re.split(r"(`[^`]+`)", line)
+    crates = [part[1:-1].split(".")[0] for part in parts[1::2]]
+
+    def law(found):
+        name = in_module(crates, found[1], found[2])
+        lost.extend([] if name else [f"no law {found[0]} in {crates}"])
+        return f"{found[1]}.{name or found[2]}"
+
+    return "".join(part if part.startswith("`") else re.sub(r"\b([A-Z][A-Za-z0-9]*)\.(?!md\b)([a-z][\w'-]*\w)", law, part) for part in parts)
+
+
 def word(text):
     if re.fullmatch(r"[A-Z]\w*", text):
         return text
@@ -63,7 +87,7 @@ def spelled(span):
 
 def main(arguments):
     write = "--write" in arguments
-    lost = 0
+    lost, laws_lost = 0, []
     for page in (pathlib.Path(name) for name in arguments if name != "--write"):
         lines, fenced = [], False
         for number, line in enumerate(page.read_text().split("\n"), 1):
@@ -74,10 +98,12 @@ def main(arguments):
                     if pathlib.Path("crates", crate).is_dir() and name not in words_of(crate):
                         lost += 1
                         print(f"{page}:{number}: {crate} has no {name}")
+                if line.startswith("|"):
+                    line = laws(line, laws_lost)
             lines.append(line)
         if write:
             page.write_text("\n".join(lines))
-    print(f"{lost} names that no crate has")
+    print("\n".join([*laws_lost, f"{lost + len(laws_lost)} names that no crate has"]))
 
 
 main(sys.argv[1:])

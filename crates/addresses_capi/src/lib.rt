@@ -1,5 +1,6 @@
 // The plain reading of the bus for programs in C or Rust.
 #![tactic(auto)]
+
 ghost use Rattle.std.specs.Prelude.{◌≡◌};
 ghost use Rattle.plain_bus.specs.Reading.{number_of, reading, places_left};
 ghost use Rattle.addresses_capi.specs.Count.{count_left};

@@ -1,5 +1,6 @@
 // Answer words as text, both ways: `done`, `done byte 3C`, `refused 2`, then `requests V A` and `watchdog reset`; or eight digits.
 #![tactic(auto)]
+
 ghost use Rattle.std.specs.Prelude.{◌≡◌, ◌≤◌, length};
 ghost use Rattle.answer_text.specs.Answer.{weight_of, bare as bare_of, at_start, at_done, at_byte, at_refused, at_head, at_requests, at_reset, next as next_of, take as take_of, ended as ended_of, is_answer, given as given_of, first_part, second_part, third_part, answer_parts, answer_tokens};
 

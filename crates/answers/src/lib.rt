@@ -1,5 +1,6 @@
 // Answer words (document 01, "Event words").
 #![tactic(auto)]
+
 ghost use Rattle.std.specs.Prelude.{◌≡◌};
 ghost use Rattle.answers.specs.Answer.{answer_word, answer_fields};
 

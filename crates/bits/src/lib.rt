@@ -1,5 +1,6 @@
 // Bytes, their bits, and a write under a mask.
 #![tactic(auto)]
+
 ghost use Rattle.std.specs.Prelude.{◌≡◌, ◌%◌};
 ghost use Rattle.bits.specs.Byte.{bit as bit_of, merge as merge_of, with_bit, num as num_of, weight_if};
 

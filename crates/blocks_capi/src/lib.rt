@@ -1,5 +1,6 @@
 // Reader and writer of a block, for programs in C or Rust.
 #![tactic(auto)]
+
 ghost use Rattle.std.specs.Prelude.{◌≡◌};
 ghost use Rattle.recording_blocks.specs.Block.{block_read, places_left, write_number, area_left};
 ghost use Rattle.blocks_capi.specs.Status.{status_of, count_left};

@@ -1,5 +1,6 @@
 // The bus: modes, edges of lines, the phases of a transfer, what the chip pulls, and the shift register of DDC1.
 #![tactic(auto)]
+
 ghost use Rattle.std.specs.Prelude.{◌≡◌};
 ghost use Rattle.bus.specs.Bus.{edge, mode, mode_number, changes_mode, line, pulls_at_bit, pulls_sda, pulls_scl, sda_pulled, scl_pulled, compared_in};
 ghost use Rattle.bus.specs.Ddc1.{loads_at_rise, shifter_at_rise};

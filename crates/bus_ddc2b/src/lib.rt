@@ -1,5 +1,6 @@
 // DDC2B: the phases of a transfer. What each edge of the SCL line does to the phase, to II DAT, to RXAK and to the flags.
 #![tactic(auto)]
+
 ghost use Rattle.std.specs.Prelude.{true, false, ◌≡◌};
 ghost use Rattle.bits.specs.Byte.{weight_if};
 ghost use Rattle.registers.specs.Names.{INTA};

@@ -1,5 +1,6 @@
 // Bytes copied to the front of a longer slice, as many as there are.
 #![tactic(auto)]
+
 ghost use Rattle.std.specs.Prelude.{◌≡◌, ◌≤◌, ◌++◌, length, take, drop};
 
 // Copies `from` to the front of `to`, and gives its length.

@@ -1,5 +1,6 @@
 // A line of a case, byte by byte in constant memory: an event, how often it is given, and the answer that it must get.
 #![tactic(auto)]
+
 ghost use Rattle.std.specs.Prelude.{◌≡◌};
 ghost use Rattle.case_lines.specs.Line.{is_read, unanswered as unanswered_of, asked as asked_of, begun as begun_of, event_token, answer_token, take_token, taken as taken_of, line_start, next as next_of, answer_end, word_end, found_end, tokens_end, line_end};
 

@@ -1,5 +1,6 @@
 // Cases: events with the answers that they must get, as text, run from a fresh chip.
 #![tactic(auto)]
+
 ghost use Rattle.std.specs.Prelude.{◌≡◌};
 ghost use Rattle.case_run.specs.Run.{goes, opened as opened_of, stopped as stopped_of, meets as meets_of, given as given_of, repeated as repeated_of, next_line, line_done, entered as entered_of, within as within_of, byte_taken, byte_read, read as read_of, concluded as concluded_of, closed as closed_of};
 

@@ -1,5 +1,6 @@
 // A word with its answer as a line of a listing: `read IRQX => done byte 01 requests V`.
 #![tactic(auto)]
+
 ghost use Rattle.std.specs.Prelude.{◌≡◌, ◌≤◌, length};
 ghost use Rattle.line_text.specs.Line.{size, content};
 ghost use Rattle.case_text.specs.Text.{joined as joined_of, case_text, answer_text};

@@ -1,5 +1,6 @@
 // The words of a listing, token by token: events by name or as eight digits, with a count before `*`, and answers passed over.
 #![tactic(auto)]
+
 ghost use Rattle.std.specs.Prelude.{◌≡◌};
 ghost use Rattle.case_words.specs.Case.{case_start, count_of, first as first_of, counted as counted_of, more as more_of, answered as answered_of, is_answer, after_word, following as following_of, later as later_of, take_case, times_of, word_end, case_end};
 

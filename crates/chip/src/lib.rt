@@ -1,5 +1,6 @@
 // The chip: its state, a fresh one and a reset one, and what other parts ask of a state.
 #![tactic(auto)]
+
 ghost use Rattle.std.specs.Prelude.{◌≡◌, set};
 ghost use Rattle.chip.specs.State.{idle_bus, released as released_of, requested as requested_of, requests as requests_of, reset_at, reset_core, fresh as fresh_of, mode_of, hsel_of, register_at, keep as keep_of, raised as raised_of, with_irqx, with_mdcon, with_polarity, with_bt, with_watchdog, with_sync, with_bus, with_pins, with_sda, with_scl, with_reset};
 

@@ -1,5 +1,6 @@
 // Which of the chip's addresses the current transfer was called by (document 02, Wish 12).
 #![tactic(auto)]
+
 ghost use Rattle.std.specs.Prelude.{◌≡◌};
 ghost use Rattle.chip_address_match.specs.AddressOutcome.{outcome_own, outcome_of, outcome_report, outcome_word, OutcomeCase};
 

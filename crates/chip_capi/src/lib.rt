@@ -1,6 +1,7 @@
 // The chip for programs in C, Rust and others: a state in an area of 128 bytes that the caller lends, and calls on it
 // (include/nt6861.h). A slice passes as a pointer and a length.
 #![tactic(auto)]
+
 ghost use Rattle.std.specs.Prelude.{◌≡◌};
 ghost use Rattle.chip.specs.State.{fresh};
 ghost use Rattle.list_call.specs.Run.{run as run_of, run_answers};

@@ -1,5 +1,6 @@
 // Clocks, and a polarity that is found.
 #![tactic(auto)]
+
 ghost use Rattle.std.specs.Prelude.{◌≡◌};
 ghost use Rattle.bits.specs.Byte.{pick};
 ghost use Rattle.registers.specs.Names.{HPOLI, VPOLI};

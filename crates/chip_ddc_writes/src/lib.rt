@@ -1,5 +1,6 @@
 // Writes to the registers of DDC: II ADR, II DAT, II STS, and MDCON, whose HSEL is in it too.
 #![tactic(auto)]
+
 ghost use Rattle.std.specs.Prelude.{◌≡◌};
 ghost use Rattle.chip_ddc_writes.specs.DdcWrites.{sync_at_hsel, mdcon_written, iiadr_written, status_written, iists_written, with_iidat, bus_let_go, bus_risen, bus_at_iidat, iidat_written};
 

@@ -1,5 +1,6 @@
 // Edges of SCL and SDA, and rises of VSYNCI in DDC1.
 #![tactic(auto)]
+
 ghost use Rattle.std.specs.Prelude.{◌≡◌};
 ghost use Rattle.bus.specs.Bus.{edge, line, pulls_sda, pulls_scl};
 ghost use Rattle.chip.specs.State.{bus_of, with_sda, with_scl};

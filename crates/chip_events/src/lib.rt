@@ -1,5 +1,6 @@
 // What an event does at a chip: reads, writes, pins, clocks and polarity, and words that are refused.
 #![tactic(auto)]
+
 ghost use Rattle.std.specs.Prelude.{◌≡◌};
 ghost use Rattle.events.specs.declared.Decoded.{Decoded};
 ghost use Rattle.chip.specs.State.{chip_of};

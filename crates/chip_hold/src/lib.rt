@@ -1,5 +1,6 @@
 // How long the chip has held SCL low, which is clock stretching (document 02, Wish 9).
 #![tactic(auto)]
+
 ghost use Rattle.std.specs.Prelude.{◌≡◌};
 ghost use Rattle.chip_hold.specs.Hold.{hold_of, hold_report, hold_word, HoldCase};
 

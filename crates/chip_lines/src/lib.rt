@@ -1,5 +1,6 @@
 // The levels of the two lines of the bus as the outside and the chip leave them, and which of them the chip pulls.
 #![tactic(auto)]
+
 ghost use Rattle.std.specs.Prelude.{◌≡◌};
 ghost use Rattle.chip_lines.specs.Lines.{sda_pulled_at, scl_pulled_at, lines_report, four_bits, lines_word, LinesCase};
 

@@ -1,5 +1,6 @@
 // What a pin's new outside level does to the chip.
 #![tactic(auto)]
+
 ghost use Rattle.std.specs.Prelude.{◌≡◌};
 ghost use Rattle.chip_pins.specs.Pins.{port_kind, pin_kind, rises as rises_of, port0_moved, port1_moved, port2_moved, p16_moved, hsync_level, vsync_level, hsync_moved, vsync_rise, vsync_moved, on_reset, reset_moved, pin_moved_as, pin_moved};
 

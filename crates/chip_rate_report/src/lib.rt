@@ -1,5 +1,6 @@
 // The rate report of a chip: the field rate or the line rate in Hz, or why there is none.
 #![tactic(auto)]
+
 ghost use Rattle.std.specs.Prelude.{◌≡◌};
 ghost use Rattle.chip_rate_report.specs.Report.{rate_report, RateCase};
 

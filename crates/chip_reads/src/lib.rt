@@ -1,5 +1,6 @@
 // Reads: what each register shows of a chip, and which reads are refused.
 #![tactic(auto)]
+
 ghost use Rattle.std.specs.Prelude.{◌≡◌};
 ghost use Rattle.chip.specs.State.{chip_of};
 ghost use Rattle.chip_reads.specs.Reads.{port_read, given0 as given_of0, given1 as given_of1, port0 as port_of0, port1 as port_of1, port2 as port_of2, port3 as port_of3, hvcon as hvcon_of, shown as shown_of, reading_of, reading};

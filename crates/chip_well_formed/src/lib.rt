@@ -1,5 +1,6 @@
 // Well formed states: ranges, reserved bits at reset value, and a bus that fits its mode.
 #![tactic(auto)]
+
 ghost use Rattle.std.specs.Prelude.{◌≡◌};
 ghost use Rattle.bits.specs.Finite.{all_below};
 ghost use Rattle.chip_well_formed.specs.WellFormed.{reserved_at, reserved_apart, gathered_fits, phase_fits, is_idle, is_unused, bus_fits, well_formed};

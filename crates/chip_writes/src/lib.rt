@@ -1,5 +1,6 @@
 // Register writes: what each does, and which are refused.
 #![tactic(auto)]
+
 ghost use Rattle.std.specs.Prelude.{◌≡◌};
 ghost use Rattle.chip_writes.specs.Writes.{target, clrflg_written, clrwdt_written, written_to, kept_by, written as written_of, stored_by, write_number, write_register, write_kept};
 

@@ -1,5 +1,6 @@
 // Counters by plain numbers, over their last value: counting, overflow and latching; the base timer and the watchdog.
 #![tactic(auto)]
+
 ghost use Rattle.std.specs.Prelude.{◌≡◌};
 ghost use Rattle.counters.specs.Count.{counted as counted_of, overflowed as overflowed_of, latched as latched_of, zeroed as zeroed_of, cycle_next, timer_next, timer_overflows, watchdog_next, watchdog_fires};
 

@@ -1,5 +1,6 @@
 // The line that tells a number given back and twelve numbers: decimal, with a blank between.
 #![tactic(auto)]
+
 ghost use Rattle.std.specs.Prelude.{◌≡◌, ◌≤◌, length};
 ghost use Rattle.counters6862_lines.specs.Text.{empty as empty_of, pushed, digits_to, number_to, line_to};
 

@@ -1,5 +1,6 @@
 // The lines of a script for the counters, read byte by byte to orders.
 #![tactic(auto)]
+
 ghost use Rattle.std.specs.Prelude.{◌≡◌};
 ghost use Rattle.counters6862_orders.specs.Line.{letter_of, symbol_of, reader_at, line_start, lettered, begun as begun_of, grown as grown_of, at_start, at_remark, at_word, at_gap, at_number, next_at, next as next_of};
 ghost use Rattle.counters6862_orders.specs.Orders.{with_number, bare as bare_of, report_order, put_order, order_of};

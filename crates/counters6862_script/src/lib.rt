@@ -1,5 +1,6 @@
 // A script for the counters of either chip, run on twelve numbers.
 #![tactic(auto)]
+
 ghost use Rattle.std.specs.Prelude.{◌≡◌};
 ghost use Rattle.rates.specs.Report.{rate_number};
 ghost use Rattle.counters6862_script.specs.Script.{one_more, opened as opened_of, with_reader, next_line, stopped as stopped_of, put_at, called_with, reported as reported_of, obeyed as obeyed_of, within as within_of, found as found_of, next as next_of, positive_bits, rate_bits};

@@ -1,5 +1,6 @@
 // The addressing modes of the 6502 (document 02, Wish 5).
 #![tactic(auto)]
+
 ghost use Rattle.std.specs.Prelude.{◌≡◌, ◌+◌, ◌-◌, ◌*◌, ◌%◌, ◌≤◌, get_or};
 ghost use Rattle.cpu_memory.specs.Memory.{memory};
 ghost use Rattle.cpu_memory.specs.Reads.{run, high_byte, word};

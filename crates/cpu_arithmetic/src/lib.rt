@@ -1,5 +1,6 @@
 // The arithmetic of the 6502: sums, differences and comparisons of bytes, and the flags that they leave (document 02, Wish 5).
 #![tactic(auto)]
+
 ghost use Rattle.std.specs.Prelude.{◌≡◌, ◌+◌, ◌%◌, ◌<◌};
 ghost use Rattle.bits.specs.Byte.{num as num_of};
 ghost use Rattle.cpu_arithmetic.specs.Arithmetic.{computed, nz as nz_of, nzc as nzc_of, with_carry, overflow as overflow_of, total as total_of, sum_flags, digit_sum, digit_difference, decimal_sum, decimal_difference, adc as adc_of, sbc as sbc_of, compared as compared_of};

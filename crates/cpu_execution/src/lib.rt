@@ -1,5 +1,6 @@
 // An instruction with its store in RAM (document 02, Wish 5).
 #![tactic(auto)]
+
 ghost use Rattle.std.specs.Prelude.{◌≡◌, ◌+◌, ◌*◌, ◌/◌, ◌%◌, ◌<◌};
 ghost use Rattle.cpu_opcodes.specs.Opcodes.{length_of};
 ghost use Rattle.cpu_operations.specs.Operations.{into_a, modify_operation, set_s, taken as taken_of};

@@ -1,5 +1,6 @@
 // The instructions of the 6502, the interrupt, and the reset (document 02, Wish 5).
 #![tactic(auto)]
+
 ghost use Rattle.std.specs.Prelude.{◌≡◌, true, ◌%◌, ◌/◌};
 ghost use Rattle.cpu_memory.specs.Memory.{rom_word};
 ghost use Rattle.cpu_operations.specs.Operations.{put_i};

@@ -1,5 +1,6 @@
 // The address map of the CPU (document 02, Wish 5).
 #![tactic(auto)]
+
 ghost use Rattle.std.specs.Prelude.{◌≡◌, ◌+◌, ◌<◌, get_or};
 ghost use Rattle.cpu_memory.specs.Memory.{place, known as known_of, memory, stack as stack_of, stack_place, below as below_of, above as above_of, is_stack_place, after_push, rom_word, Reaches, LoadedCase, number_at, byte_at, number_pushed, byte_pushed};
 

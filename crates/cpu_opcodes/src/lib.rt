@@ -1,5 +1,6 @@
 // The opcodes of the 6502: operation, addressing mode, length and base cycles of each of the 256 (document 02, Wish 5).
 #![tactic(auto)]
+
 ghost use Rattle.std.specs.Prelude.{◌≡◌, ◌/◌, ◌%◌, ◌<◌, get_or};
 ghost use Rattle.cpu_opcodes.specs.Table.{opcodes};
 ghost use Rattle.cpu_opcodes.specs.Opcodes.{operation_numbered, mode_numbered, operation_of, mode_of, length_of, cycles_of, is_jsr};

@@ -1,5 +1,6 @@
 // What the operations of the 6502 make of registers, flags and a byte (document 02, Wish 5).
 #![tactic(auto)]
+
 ghost use Rattle.std.specs.Prelude.{◌≡◌, ◌+◌, ◌%◌, ◌<◌};
 ghost use Rattle.cpu_operations.specs.Operations.{set_a, set_x, set_y, set_p, set_s, set_pc, jumped as jumped_of, set_over, tested as tested_of, read_operation, store_operation, modify_operation, flags as flags_from, implied_operation, is_clear, taken as taken_of, pushed_p, pulled_p};
 

@@ -1,5 +1,6 @@
 // The reads of the chip's registers, kept while they hold: an instruction looks them up here and needs no chip (document 02, Wish 5).
 #![tactic(auto)]
+
 ghost use Rattle.std.specs.Prelude.{◌≡◌, set};
 ghost use Rattle.std.specs.Int.Bits.{bit_and};
 ghost use Rattle.registers.specs.Table.{updated as updated_of};

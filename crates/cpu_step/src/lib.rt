@@ -1,5 +1,6 @@
 // An instruction without the chip: what it reads of the registers is what is known of them (document 02, Wish 5).
 #![tactic(auto)]
+
 ghost use Rattle.std.specs.Prelude.{◌≡◌};
 ghost use Rattle.cpu_memory.specs.Memory.{memory};
 ghost use Rattle.cpu_instruction.specs.Program.{perform};

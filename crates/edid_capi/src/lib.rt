@@ -1,5 +1,6 @@
 // The check of an EDID base block for programs in C or Rust.
 #![tactic(auto)]
+
 ghost use Rattle.std.specs.Prelude.{◌≡◌};
 ghost use Rattle.edid_check.specs.Edid.{verdict, number_of};
 

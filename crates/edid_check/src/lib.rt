@@ -1,5 +1,6 @@
 // The check of an EDID base block before it goes into RAM (document 02, Wishes 7 and 8).
 #![tactic(auto)]
+
 ghost use Rattle.std.specs.Prelude.{◌≡◌, ◌<◌, length};
 ghost use Rattle.edid_check.specs.Block.{header_fits, sum_of, sum_fits};
 ghost use Rattle.edid_check.specs.Edid.{version_fits, digital_fits, depth_fits, interface_fits, input_by3, input_by4, input_verdict, contents as contents_of, Judged, number_of};

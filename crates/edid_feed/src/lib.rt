@@ -1,5 +1,6 @@
 // The event words that send a block through DDC1, and words as bytes (document 02, Wish 7).
 #![tactic(auto)]
+
 ghost use Rattle.std.specs.Prelude.{◌≡◌, ◌+◌, ◌*◌, ◌<◌, ◌≤◌, ◌++◌, length, get_or, drop};
 ghost use Rattle.edid_feed.specs.Words.{pulses, lead, sending, feed_words, bytes_of, bytes_of_all, placed_count, placed};
 

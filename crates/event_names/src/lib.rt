@@ -1,6 +1,7 @@
 // The names of kinds, registers, pins, clocks and polarities in lines of text, and hex digits, each as one number: its bytes in base
 // 256, the first one highest, letters in upper case.
 #![tactic(auto)]
+
 ghost use Rattle.std.specs.Prelude.{◌≡◌, ◌≤◌, ◌<◌};
 ghost use Rattle.hex_digits.specs.Hex.{hex_digit};
 ghost use Rattle.event_names.specs.Digits.{digit_of, joined as joined_of, hex as hex_of, unhex as unhex_of};

@@ -1,6 +1,7 @@
 // A line of text as an event word: `read IRQX`, `write IEX 3F`, `pin VSYNCI 0`, `clock 8us`, `polarity H 1`, `word 06000000`, or eight
 // digits. A line is read token by token, so that a program needs no room for it.
 #![tactic(auto)]
+
 ghost use Rattle.std.specs.Prelude.{◌≡◌, ◌<◌};
 ghost use Rattle.events.specs.Word.{event_word};
 ghost use Rattle.event_text_read.specs.Event.{takes_b, digits_b, limit_b, bound_b, is_line, bare as bare_of, at_start, at_kind, at_place, at_other, next as next_of, take as take_of, take_all, taken as taken_of, line_end, parse};

@@ -1,5 +1,6 @@
 // An event word as a line of text, in its one form.
 #![tactic(auto)]
+
 ghost use Rattle.std.specs.Prelude.{◌≡◌, length};
 ghost use Rattle.line_text.specs.Line.{size, content};
 ghost use Rattle.event_text_write.specs.Event.{value_token, kind_tokens, event_tokens, print};

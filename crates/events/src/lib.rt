@@ -1,5 +1,6 @@
 // Event words, and the numbers that refuse a word (document 01, "Event words" and "Numbers given back").
 #![tactic(auto)]
+
 ghost use Rattle.std.specs.Prelude.{◌≡◌};
 ghost use Rattle.events.specs.Word.{decode as decode_of, encode as encode_of, event as event_of, is_pin, no_event, no_place, bad_byte};
 ghost use Rattle.events.specs.Word.{DecodedCase, refused_word, event_word};

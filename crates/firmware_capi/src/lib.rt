@@ -1,5 +1,6 @@
 // The firmware call for programs in C or Rust: CPU, RAM and chip in areas that the caller lends (document 02, Wish 5).
 #![tactic(auto)]
+
 ghost use Rattle.std.specs.Prelude.{◌≡◌, true, ◌+◌, ◌*◌, length};
 ghost use Rattle.state_bytes.specs.Layout.{bytes_of};
 ghost use Rattle.firmware_capi.specs.Call.{cpu_of, flags_byte, cpu_bytes, left, has_begun, counts_of, run_in, are_sized, firmware_in};

@@ -1,5 +1,6 @@
 // Lists of events as text: lines `NUMBER WORD`, read byte by byte.
 #![tactic(auto)]
+
 ghost use Rattle.std.specs.Prelude.{◌≡◌};
 ghost use Rattle.firmware_event_lines.specs.Lines.{symbol_of, letter_of, number_grown, at_start, at_number, word_begun, at_gap, word_grown, event_of, word_ended, at_word, at_end, after, line_start, next as next_of, meaning_of};
 

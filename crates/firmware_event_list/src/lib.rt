@@ -1,5 +1,6 @@
 // A list of events as text: lines that a newline ends, the last one by the end of the text too. It is read in blocks, whose borders mean nothing.
 #![tactic(auto)]
+
 ghost use Rattle.std.specs.Prelude.{◌≡◌, drop};
 ghost use Rattle.firmware_event_list.specs.Lists.{is_malformed, is_something, one_more, opened as opened_of, line_ended, checked_byte, checked_on, ends_well, found_on};
 

@@ -1,5 +1,6 @@
 // What is printed of a firmware run: registers, instructions and events as text (document 02, Wish 5; images/README.md).
 #![tactic(auto)]
+
 ghost use Rattle.std.specs.Prelude.{◌≡◌, ◌/◌, ◌%◌};
 ghost use Rattle.hex_digits.specs.Hex.{hex_digit};
 ghost use Rattle.firmware_lines.specs.Lines.{shown_p, register_line, instruction_text, idle_text, event_text};

@@ -1,5 +1,6 @@
 // Firmware run against the chip (document 02, Wish 5).
 #![tactic(auto)]
+
 ghost use Rattle.std.specs.Prelude.{◌≡◌, true, [], ◌+◌, ◌-◌, ◌<◌, ◌≤◌, ltb, length, drop, get_or, set};
 ghost use Rattle.bits.specs.Byte.{pick};
 ghost use Rattle.events.specs.Word.{decode};

@@ -1,6 +1,7 @@
 // A firmware run in steps: power up, an event given, the interrupt before an instruction, the opcode to come, and instructions with no event
 // between (document 02, Wish 5).
 #![tactic(auto)]
+
 ghost use Rattle.std.specs.Prelude.{◌≡◌, [], set};
 ghost use Rattle.chip_reads.specs.Reads.{reading};
 ghost use Rattle.cpu_memory.specs.Memory.{place, stack_place, LoadedCase};

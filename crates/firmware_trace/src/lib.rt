@@ -1,6 +1,7 @@
 // A firmware run from power up, as a program hands it on from one step to the next, and what a trace shows of the instruction to come
 // (document 02, Wish 5).
 #![tactic(auto)]
+
 ghost use Rattle.std.specs.Prelude.{◌≡◌};
 ghost use Rattle.firmware_trace.specs.Trace.{powered_up, goes_on, ran_on, ram_on, given_to, fetched};
 

@@ -1,5 +1,6 @@
 // A word as a line of text: hex digits and a newline (document 01, "Replay program and cases").
 #![tactic(auto)]
+
 ghost use Rattle.std.specs.Prelude.{◌≡◌, ◌<◌};
 ghost use Rattle.hex_digits.specs.Hex.{hex_digit, hex_line};
 

@@ -1,5 +1,6 @@
 // Tokens written as a line: the bytes of each, with one blank between two.
 #![tactic(auto)]
+
 ghost use Rattle.std.specs.Prelude.{◌≡◌, ◌+◌, ◌*◌, ◌≤◌, length};
 ghost use Rattle.line_tokens.specs.Written.{written, piece, pieces};
 ghost use Rattle.line_text.specs.Line.{Put, line_size, line_content};

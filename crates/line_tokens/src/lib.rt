@@ -1,6 +1,7 @@
 // The tokens of a line of text, byte by byte, in constant memory: what stands between white space, up to a comment. A token is one number:
 // its bytes in base 256, the first one highest, letters in upper case.
 #![tactic(auto)]
+
 ghost use Rattle.std.specs.Prelude.{◌≡◌, ◌<◌};
 ghost use Rattle.line_tokens.specs.Scan.{one_more, blank as is_blank, fold as fold_of, grown as grown_by, counted as counted_by, no_token, longer as longer_by, start as start_of, passed as passed_of, ended as ended_of, begun as begun_of, within as within_of, scanned as scanned_of, scan as scan_of};
 

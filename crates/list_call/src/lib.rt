@@ -1,5 +1,6 @@
 // The list call: words in a lent slice, answers in another.
 #![tactic(auto)]
+
 ghost use Rattle.std.specs.Prelude.{◌≡◌, ◌≤◌, ◌++◌, length, drop};
 ghost use Rattle.list_call.specs.Run.{advanced, advanced_answers, advance_all, advance_all_answers, run as run_of, run_answers};
 

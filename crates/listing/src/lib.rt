@@ -1,5 +1,6 @@
 // Listings: words with their expected answers, as text, run from a fresh chip.
 #![tactic(auto)]
+
 ghost use Rattle.std.specs.Prelude.{◌≡◌};
 ghost use Rattle.listing.specs.Listing.{one_more, opened as opened_of, stopped as stopped_of, given as given_of, given_at, repeated as repeated_of, next_line, line_end, within as within_of, entered as entered_of, taken as taken_of, byte_read, read as read_of, concluded as concluded_of, closed as closed_of};
 

@@ -1,5 +1,6 @@
 // The lines of a listing, read byte by byte to entries.
 #![tactic(auto)]
+
 ghost use Rattle.std.specs.Prelude.{◌≡◌};
 ghost use Rattle.listing_lines.specs.Line.{digit_of, symbol_of, reader_at, counted as counted_of, begun as begun_of, grown as grown_of, count_end, word_end, answer_end, entry_end, commented as commented_of, at_start, at_remark, at_first, at_repeated, at_word, at_gap, at_answer, at_rest, next_at, line_start, next as next_of};
 

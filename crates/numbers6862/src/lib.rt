@@ -1,5 +1,6 @@
 // The counters of either chip as twelve numbers, and calls by number on them.
 #![tactic(auto)]
+
 ghost use Rattle.std.specs.Prelude.{◌≡◌};
 ghost use Rattle.sync6862.specs.Unit.{chip_number};
 ghost use Rattle.sync6862_laws.specs.Counting.{run, clocks as clocks_of};

@@ -1,6 +1,7 @@
 // A plain reading of the bus: the addresses in a list of outside changes of SCL and SDA (document 02, Wish 11). Each question is
 // answered by looking at the list anew, so the time grows with the square of its length.
 #![tactic(auto)]
+
 ghost use Rattle.std.specs.Prelude.{◌≡◌, ◌+◌, ◌*◌, ◌%◌, ◌<◌, ◌≤◌, map, ◌++◌, length, drop, set};
 ghost use Rattle.bits.specs.Byte.{pick, num};
 ghost use Rattle.plain_bus.specs.Plain.{level_before, rise_at, start_at, stop_at, rises_since, levels_at, found, addresses};

@@ -1,5 +1,6 @@
 // The field rate and the line rate in Hz, from the latches of the sync counters.
 #![tactic(auto)]
+
 ghost use Rattle.std.specs.Prelude.{◌≡◌, ◌≤◌, ◌<◌, ◌*◌};
 ghost use Rattle.rates.specs.Hertz.{Exactly, field_hz, interval_hz, line_hz};
 ghost use Rattle.rates.specs.Report.{rate_number, by_periods, by_interval, by_field, field_report, line_report, PeriodsCase, FieldCase, LineCase};

@@ -1,5 +1,6 @@
 // The field rate of the counters of either chip.
 #![tactic(auto)]
+
 ghost use Rattle.std.specs.Prelude.{◌≡◌};
 ghost use Rattle.rates6862.specs.Report.{field_report, FieldCase};
 

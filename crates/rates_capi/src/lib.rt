@@ -1,5 +1,6 @@
 // The rates for programs in C or Rust, from the latches of counters that are not in overflow.
 #![tactic(auto)]
+
 ghost use Rattle.std.specs.Prelude.{◌≡◌, true, false};
 ghost use Rattle.rates.specs.Report.{field_report, line_report};
 ghost use Rattle.rates_capi.specs.Latches.{latches as latches_of, hertz as hertz_of};

@@ -1,5 +1,6 @@
 // A block of a recording, written and read (document 02, Wish 1).
 #![tactic(auto)]
+
 ghost use Rattle.std.specs.Prelude.{◌≡◌, ◌+◌, ◌*◌, ◌≤◌, ◌<◌, ◌++◌, length, take, drop, get_or};
 ghost use Rattle.recording_blocks.specs.Bytes.{four_bytes, from_two, from_four, words_bytes, all_zero, sum as sum_bytes};
 ghost use Rattle.recording_blocks.specs.Block.{padded, front, all_words, write_number, area_left, refusal as refusal_of, block_read, places_left, BlockCase};

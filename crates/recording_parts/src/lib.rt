@@ -1,5 +1,6 @@
 // Recordings: lists of blocks (document 02, Wish 1).
 #![tactic(auto)]
+
 ghost use Rattle.std.specs.Prelude.{◌≡◌, ◌*◌, ◌/◌, ◌≤◌, ◌++◌, length, drop};
 ghost use Rattle.recording_parts.specs.Recording.{blocks_of, read_words, read_number, read_next, blocks_read, words_left};
 

@@ -1,5 +1,6 @@
 // A recording replayed: from its blocks to the text of the answers (document 02, Wish 1).
 #![tactic(auto)]
+
 ghost use Rattle.std.specs.Prelude.{◌≡◌, true, ◌+◌, ◌*◌, ◌≤◌, ◌++◌, length, take, drop};
 ghost use Rattle.chip_well_formed.specs.WellFormed.{well_formed};
 ghost use Rattle.list_call.specs.Run.{advanced, advanced_answers};

@@ -1,5 +1,6 @@
 // The writer of a recording: words from bytes, and blocks from words (document 02, Wish 1).
 #![tactic(auto)]
+
 ghost use Rattle.std.specs.Prelude.{◌≡◌, ◌+◌, ◌*◌, ◌/◌, ◌≤◌, ◌<◌, min, ◌++◌, length, drop, get_or};
 ghost use Rattle.recording_blocks.specs.Bytes.{words_of};
 ghost use Rattle.recording_writer.specs.Written.{words_given, words_put, block_count, blocks_bytes, blocks_written, blocks_put};

@@ -1,5 +1,6 @@
 // The registers: names of addresses and bits, and the table.
 #![tactic(auto)]
+
 ghost use Rattle.std.specs.Prelude.{◌≡◌};
 ghost use Rattle.registers.specs.Table.{updated as updated_of, unpacked as unpacked_of, row_of, reset_value, write_mask, is_register, resets as resets_of};
 

@@ -1,5 +1,6 @@
 // From the bytes of event words to the text of the answers (document 01, "Replay program and cases").
 #![tactic(auto)]
+
 ghost use Rattle.std.specs.Prelude.{◌≡◌, ◌+◌, ◌-◌, ◌*◌, ◌/◌, ◌≤◌, ◌<◌, ◌++◌, length, take, drop, get_or};
 ghost use Rattle.list_call.specs.Run.{advanced, advanced_answers};
 ghost use Rattle.hex_digits.specs.Hex.{hex_line};

@@ -1,5 +1,6 @@
 // A state in a lent area of 128 bytes: read in, written out (document 02, Wish 14).
 #![tactic(auto)]
+
 ghost use Rattle.std.specs.Prelude.{◌≡◌, length};
 ghost use Rattle.state_bytes.specs.Layout.{bytes_of};
 ghost use Rattle.state_area.specs.Area.{same_bytes, refused as refused_by, read_as, loaded, put_in, store_number, store_left};

@@ -1,5 +1,6 @@
 // The state as 128 bytes, in the layout of docs/STATE.md, and the state that bytes are read as.
 #![tactic(auto)]
+
 ghost use Rattle.std.specs.Prelude.{◌≡◌, ◌+◌, ◌≤◌, ◌++◌, length, take, drop};
 ghost use Rattle.state_bytes.specs.Layout.{low as low_of, high as high_of, word as word_of, own_number, own_of, ninth_count, fields_of, phase_of, sync_of, bus_of, core_bytes, core_of, bytes_of, state_of};
 

@@ -1,5 +1,6 @@
 // A state in a lent area of 128 bytes: a fresh one, the step, the list call, the hold of SCL, the address outcome and the lines.
 #![tactic(auto)]
+
 ghost use Rattle.std.specs.Prelude.{◌≡◌, true, ◌*◌};
 ghost use Rattle.chip.specs.State.{fresh as fresh_of};
 ghost use Rattle.chip_well_formed.specs.WellFormed.{well_formed};

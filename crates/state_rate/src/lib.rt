@@ -1,5 +1,6 @@
 // The rate report on a state in a lent area of 128 bytes.
 #![tactic(auto)]
+
 ghost use Rattle.std.specs.Prelude.{◌≡◌};
 ghost use Rattle.chip_rate_report.specs.Report.{rate_report};
 ghost use Rattle.state_rate.specs.Rate.{report_word, report_hertz, rate_word, rate_hertz, rate_in, hertz_in};

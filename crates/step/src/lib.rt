@@ -1,5 +1,6 @@
 // The step: the next chip and the answer to an event word.
 #![tactic(auto)]
+
 ghost use Rattle.std.specs.Prelude.{◌≡◌};
 ghost use Rattle.registers.specs.Names.{IEX};
 ghost use Rattle.events.specs.Word.{decode as decode_of};

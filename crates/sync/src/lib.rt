@@ -1,5 +1,6 @@
 // Sync counters HCNT and VCNT with their latches and overflow bits, and the interval.
 #![tactic(auto)]
+
 ghost use Rattle.std.specs.Prelude.{◌≡◌};
 ghost use Rattle.sync.specs.Sync.{step_lines, latch_lines, clear_lines, zero_lines, step_periods, latch_periods, clear_periods, on_hsync, lines_on_vsync, on_vsync, interval_next, lines_on_period, on_period, hsel_cleared, clear_overflow, zero_sync, well_sync};
 

@@ -1,5 +1,6 @@
 // The sync counters of the NT6861 and of the NT6862 as a unit: state, calls, numbers.
 #![tactic(auto)]
+
 ghost use Rattle.std.specs.Prelude.{◌≡◌};
 ghost use Rattle.sync6862.specs.Unit.{periods_last, interval_last, per_field, differs as differs_of, restarts as restarts_of, step_periods_to, interval_next_to, lines_on_period_to, on_period_to, well_to, well_formed, release_lines, clear_lines_of, restarted_if, on_hsync_if, on_vsync_if, with_sync, hsync_moved, vsync_moved, clocked as clocked_of, hsel_set, enhsel_set, cleared_h, cleared_v, done_with, on_enhsel, answered as answered_of, answer as answer_of, fresh_as, fresh as fresh_of, latches as latches_of};
 

@@ -1,5 +1,6 @@
 // The counters of either chip for programs in C or Rust, in twelve numbers that the caller lends.
 #![tactic(auto)]
+
 ghost use Rattle.std.specs.Prelude.{◌≡◌, length};
 ghost use Rattle.sync6862_capi.specs.Lent.{lent, hertz as hertz_of, field_lent};
 

@@ -1,5 +1,6 @@
 // A value change dump (IEEE 1364, four states) to event words.
 #![tactic(auto)]
+
 ghost use Rattle.std.specs.Prelude.{◌≡◌, false, List, [], ℕ, ◌≤◌, ◌+◌, length, ltb};
 ghost use Rattle.bits.specs.Byte.{pick};
 ghost use Rattle.vcd_text.specs.Token.{tokens};

@@ -1,5 +1,6 @@
 // The body of a value change dump, token by token, into event words.
 #![tactic(auto)]
+
 ghost use Rattle.std.specs.Prelude.{◌≡◌, true, false, ℕ, ◌<◌, ◌≤◌, ◌+◌, ◌-◌, ◌*◌, ◌/◌, List, [], ◌∷◌, length, take, drop, get_or};
 ghost use Rattle.vcd_text.specs.declared.Number.TheVariants.{Of};
 ghost use Rattle.vcd_text.specs.Token.{tokens, white_length, word_length, decimal_of};

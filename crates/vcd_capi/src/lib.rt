@@ -1,5 +1,6 @@
 // Value change dumps to event words, exported to C and Rust.
 #![tactic(auto)]
+
 ghost use Rattle.std.specs.Prelude.{◌≡◌, [], ◌∷◌, length, get_or};
 ghost use Rattle.vcd_capi.specs.Export.{exported, vcd_of, mode_number, mode_of, flag_of, cursor_of, cursor_numbers, continued, more_of};
 ghost use Rattle.bits.specs.Byte.{num};

@@ -1,5 +1,6 @@
 // The declared variables, their codes kept as places in the file, and what a code stands for.
 #![tactic(auto)]
+
 ghost use Rattle.std.specs.Prelude.{◌≡◌, ◌+◌, ◌-◌, ◌*◌, ◌<◌, get_or, ltb};
 ghost use Rattle.bits.specs.Byte.{pick};
 ghost use Rattle.vcd_text.specs.Token.{same_bytes};

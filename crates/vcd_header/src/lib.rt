@@ -1,5 +1,6 @@
 // The header of a value change dump, token by token.
 #![tactic(auto)]
+
 ghost use Rattle.std.specs.Prelude.{◌≡◌, ◌<◌, ◌≤◌, eqb, false};
 ghost use Rattle.bits.specs.Byte.{pick};
 ghost use Rattle.vcd_keywords.specs.Words.{pin_of};

@@ -1,5 +1,6 @@
 // What a token of a dump's body is, by its bytes alone.
 #![tactic(auto)]
+
 ghost use Rattle.std.specs.Prelude.{◌≡◌, ◌<◌, length, get_or};
 ghost use Rattle.vcd_items.specs.Items.{four_state, all_states, is_vector, letter_class, real_class, real_next, real_state, whole_real, is_real, kind_of, is_dump, keyword_of, item_as, item_of};
 

@@ -1,5 +1,6 @@
 // The words of a dump's header: keywords, units, types, names and indices.
 #![tactic(auto)]
+
 ghost use Rattle.std.specs.Prelude.{◌≡◌, ◌<◌, ◌≤◌};
 ghost use Rattle.vcd_keywords.specs.Words.{is_text, keyword_of, count_of, letters_of, times_unit, joined_of, is_scope, is_net, is_discrete, is_real, sort_of, pin_of, index_class, index_by, index_next, index_state};
 

@@ -1,5 +1,6 @@
 // Event words written into places that the caller lends, up to the first that finds none.
 #![tactic(auto)]
+
 ghost use Rattle.std.specs.Prelude.{Bool, ◌≡◌, ◌-◌, ◌≤◌, replicate, drop};
 ghost use Rattle.vcd_output.specs.Room.{wrote, put, clock_word, pin_word, pin_words};
 

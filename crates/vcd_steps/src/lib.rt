@@ -1,5 +1,6 @@
 // What each token of a dump's body does: a refusal, or the reader's next state and the events that it brings.
 #![tactic(auto)]
+
 ghost use Rattle.std.specs.Prelude.{◌≡◌, ◌<◌, ◌-◌};
 ghost use Rattle.vcd_codes.specs.Codes.{meant};
 ghost use Rattle.vcd_steps.specs.Steps.{at_mode, in_dump, at_time, advanced, time_of, change_of, code_of, dump_of, end_of, comment_of, commented, item_step, ends_as, meaning};

@@ -1,5 +1,6 @@
 // The text of a value change dump: tokens between white space, compared with words and read as decimal numbers.
 #![tactic(auto)]
+
 ghost use Rattle.std.specs.Prelude.{◌≡◌, ◌+◌, ◌*◌, ◌<◌, drop};
 ghost use Rattle.vcd_text.specs.Token.{white as white_of, white_length, word_length, same_bytes, graphic as graphic_of, all_graphic, end_word, number_of, grown_by, longer_by, decimal_of};
 

@@ -1,5 +1,6 @@
 // The dump of a run: each word to the chip, and what is watched of the chip after it to the dump.
 #![tactic(auto)]
+
 ghost use Rattle.std.specs.Prelude.{◌≡◌, ◌*◌, ◌≤◌, length};
 ghost use Rattle.wave_write.specs.Lines.{text, lines};
 ghost use Rattle.wave_write.specs.Wrote.{Wrote, begin_bytes};

@@ -1,5 +1,6 @@
 // What a dump shows of a chip: ten lines and six vectors, and the outside levels of the four pins.
 #![tactic(auto)]
+
 ghost use Rattle.std.specs.Prelude.{◌≡◌, ◌%◌, ◌≤◌, ◌<◌};
 ghost use Rattle.bits.specs.Byte.{num};
 ghost use Rattle.chip.specs.State.{chip_of};

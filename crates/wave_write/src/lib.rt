@@ -1,6 +1,7 @@
 // Replays as value change dumps (IEEE 1364): what an event word, and what is watched of the chip after it, add to a dump, into places that
 // the caller lends.
 #![tactic(auto)]
+
 ghost use Rattle.std.specs.Prelude.{true, ◌≡◌, List, ◌++◌, ◌∷◌, [], ◌+◌, ◌-◌, ◌*◌, ◌/◌, ◌%◌, ◌≤◌, ◌<◌, length};
 ghost use Rattle.bits.specs.Byte.{num};
 ghost use Rattle.wave_write.specs.Decimal.{decimal_to, binary};

@@ -1,5 +1,6 @@
 // Why request lines are up, for programs in C or Rust: from a state in a lent area, in twelve numbers that the caller lends.
 #![tactic(auto)]
+
 ghost use Rattle.std.specs.Prelude.{◌≡◌};
 ghost use Rattle.why_capi.specs.Told.{own_code, sort_code, reason_code, reason_place, numbers_of, why_number_in, told_in};
 

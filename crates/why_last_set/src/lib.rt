@@ -1,5 +1,6 @@
 // The last event that took each flag of IRQX from 0 to 1, and of which sort it was (document 02, Wish 3).
 #![tactic(auto)]
+
 ghost use Rattle.std.specs.Prelude.{◌≡◌, ◌%◌};
 ghost use Rattle.why_last_set.specs.LastSet.{goes_up, byte_sort, last_at, address_at, Source, noted as noted_of, none_set as none_set_of, all_noted};
 

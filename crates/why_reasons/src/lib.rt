@@ -1,5 +1,6 @@
 // Why a request line is up: for each source what set its flag, found in one pass over the words (document 02, Wish 3).
 #![tactic(auto)]
+
 ghost use Rattle.std.specs.Prelude.{◌≡◌};
 ghost use Rattle.why_reasons.specs.Explain.{next_place, start as start_of, followed, reason_by, reasons_of, why as why_of, WhyCase};
 

@@ -66,4 +66,4 @@ put_number-requires c = tt
 
 pub returns : goal.returns
 unfolding line_to
-returns c =  line_says c.args.number c.args.n _ (simp (c.put_number.ensures, c.put_number-t11.ensures, c.put_number-t10.ensures, c.put_number-t9.ensures, c.put_number-t8.ensures, c.put_number-t7.ensures, c.put_number-t6.ensures, c.put_number-t5.ensures, c.put_number-t4.ensures, c.put_number-t3.ensures, c.put_number-t2.ensures, c.put_number-t1.ensures, c.five_digits-t0.ensures, c.wide.ensures, c.empty.ensures))
+returns c = line_says c.args.number c.args.n _ (simp (c.put_number.ensures, c.put_number-t11.ensures, c.put_number-t10.ensures, c.put_number-t9.ensures, c.put_number-t8.ensures, c.put_number-t7.ensures, c.put_number-t6.ensures, c.put_number-t5.ensures, c.put_number-t4.ensures, c.put_number-t3.ensures, c.put_number-t2.ensures, c.put_number-t1.ensures, c.five_digits-t0.ensures, c.wide.ensures, c.empty.ensures))

@@ -26,7 +26,7 @@ pub overflow_add-result : goal.overflow_add-result
 overflow_add-result c = omega arith
 
 pub shape_of-words : goal.shape_of-words
-shape_of-words c =     placed_length (feed_words c.args.block.now) c.args.words.now (omega (arith, length_feed c.args.block.now)) _ c.put_words.ensures
+shape_of-words c = placed_length (feed_words c.args.block.now) c.args.words.now (omega (arith, length_feed c.args.block.now)) _ c.put_words.ensures
 
 pub returns : goal.returns
-returns c =     placed_whole (feed_words c.args.block.now) c.args.words.now (omega (arith, length_feed c.args.block.now)) _ (sym (length_feed c.args.block.now)) _ c.put_words.ensures
+returns c = placed_whole (feed_words c.args.block.now) c.args.words.now (omega (arith, length_feed c.args.block.now)) _ (sym (length_feed c.args.block.now)) _ c.put_words.ensures

@@ -11,7 +11,7 @@ pub overflow_mul-n : goal.overflow_mul-n
 overflow_mul-n c = omega arith
 
 pub loop-i-init : goal.loop-i-init
-loop-i-init c =     record { within = omega arith; room = omega (arith, length_bytes c.args.words.now); filled = refl }
+loop-i-init c = record { within = omega arith; room = omega (arith, length_bytes c.args.words.now); filled = refl }
 
 pub offset_bounds-words-k : goal.offset_bounds-words-k
 offset_bounds-words-k c = omega arith
@@ -23,7 +23,7 @@ pub word_byte-requires : goal.word_byte-requires
 word_byte-requires c = omega arith
 
 pub bounds-bytes-i : goal.bounds-bytes-i
-bounds-bytes-i c =     omega (arith, kept _ _ _ _ c.loop-i.invariant)
+bounds-bytes-i c = omega (arith, kept _ _ _ _ c.loop-i.invariant)
 
 pub overflow_add-i : goal.overflow_add-i
 overflow_add-i c = omega arith

@@ -17,7 +17,7 @@ pub overflow_mul-result : goal.overflow_mul-result
 overflow_mul-result c = omega arith
 
 pub shape_of-bytes : goal.shape_of-bytes
-shape_of-bytes c =     placed_length (bytes_of_all c.args.words.now) c.args.bytes.now (omega (arith, length_bytes c.args.words.now)) _ c.put_bytes.ensures
+shape_of-bytes c = placed_length (bytes_of_all c.args.words.now) c.args.bytes.now (omega (arith, length_bytes c.args.words.now)) _ c.put_bytes.ensures
 
 pub returns : goal.returns
-returns c =     placed_whole (bytes_of_all c.args.words.now) c.args.bytes.now (omega (arith, length_bytes c.args.words.now)) _ (sym (length_bytes c.args.words.now)) _ c.put_bytes.ensures
+returns c = placed_whole (bytes_of_all c.args.words.now) c.args.bytes.now (omega (arith, length_bytes c.args.words.now)) _ (sym (length_bytes c.args.words.now)) _ c.put_bytes.ensures

@@ -15,7 +15,7 @@ advance_all-requires c = search rules
 
 pub returns-then-well_formed : goal.returns-then-well_formed
 unfolding run run_answers
-returns-then-well_formed c =  simp (← c.well_formed-2.ensures, c.if-well_formed.true)
+returns-then-well_formed c = simp (← c.well_formed-2.ensures, c.if-well_formed.true)
     c.advance_all.ensures
 
 pub returns-else-well_formed : goal.returns-else-well_formed

@@ -6,9 +6,9 @@ use Rattle.listing.proofs.Reading.{same, other}
 use Rattle.listing.proofs.given.Goals as goal
 
 pub returns-then-done-expected : goal.returns-then-done-expected
-returns-then-done-expected c =  rw c.one_more.ensures
+returns-then-done-expected c = rw c.one_more.ensures
     (same _ _ _ _ (c.advance-done.ensures ∙ ap (advance _) c.decode.ensures.0) c.if-done-expected.true)
 
 pub returns-else-done-expected : goal.returns-else-done-expected
-returns-else-done-expected c =  c.stopped.ensures
+returns-else-done-expected c = c.stopped.ensures
     ∙ other _ _ _ _ (c.advance-done.ensures ∙ ap (advance _) c.decode.ensures.0) c.if-done-expected.false

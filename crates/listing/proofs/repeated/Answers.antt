@@ -12,7 +12,7 @@ pub loop-left-init : goal.loop-left-init
 loop-left-init c = refl
 
 pub loop-left-preserved : goal.loop-left-preserved
-loop-left-preserved c =     ap (λ (p : Progress). repeated (c.loop-left.left - 1) p c.args.word c.args.expected) c.given_at-p.ensures
+loop-left-preserved c = ap (λ (p : Progress). repeated (c.loop-left.left - 1) p c.args.word c.args.expected) c.given_at-p.ensures
     ∙ once c.loop-left.left c.loop-left.p c.args.word c.args.expected (search rules)
     ∙ c.loop-left.invariant
 

@@ -13,7 +13,7 @@ pub counted-n-requires : goal.counted-n-requires
 counted-n-requires c = omega arith
 
 pub returns-then-ends : goal.returns-then-ends
-returns-then-ends c =     count_last_lem _ _ c.loop-i.i c.loop-i.n _ _ c.loop-i-test.true c.transfer_at-t.ensures c.counted-n.ensures c.loop-i.invariant.1
+returns-then-ends c = count_last_lem _ _ c.loop-i.i c.loop-i.n _ _ c.loop-i-test.true c.transfer_at-t.ensures c.counted-n.ensures c.loop-i.invariant.1
     (sym c.ends.ensures ∙ c.if-ends.true)
 
 pub overflow_add-i : goal.overflow_add-i

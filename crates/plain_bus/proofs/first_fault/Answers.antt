@@ -16,13 +16,13 @@ pub loop-i-smaller : goal.loop-i-smaller
 loop-i-smaller c = omega arith
 
 pub loop-i-preserved : goal.loop-i-preserved
-loop-i-preserved c =     c.loop-i.invariant ∙ fault_more _ c.loop-i.i _ c.loop-i-test.true (sym c.fault_of.ensures ∙ c.in-NoFault.is)
+loop-i-preserved c = c.loop-i.invariant ∙ fault_more _ c.loop-i.i _ c.loop-i-test.true (sym c.fault_of.ensures ∙ c.in-NoFault.is)
 
 pub returns-in-OtherLine : goal.returns-in-OtherLine
-returns-in-OtherLine c =     sym (c.loop-i.invariant ∙ fault_more _ c.loop-i.i _ c.loop-i-test.true (sym c.fault_of.ensures ∙ c.in-OtherLine.is))
+returns-in-OtherLine c = sym (c.loop-i.invariant ∙ fault_more _ c.loop-i.i _ c.loop-i-test.true (sym c.fault_of.ensures ∙ c.in-OtherLine.is))
 
 pub returns-in-OtherLevel : goal.returns-in-OtherLevel
-returns-in-OtherLevel c =     sym (c.loop-i.invariant ∙ fault_more _ c.loop-i.i _ c.loop-i-test.true (sym c.fault_of.ensures ∙ c.in-OtherLevel.is))
+returns-in-OtherLevel c = sym (c.loop-i.invariant ∙ fault_more _ c.loop-i.i _ c.loop-i-test.true (sym c.fault_of.ensures ∙ c.in-OtherLevel.is))
 
 pub returns : goal.returns
 returns c = sym (c.loop-i.invariant ∙ fault_none _ c.loop-i.i c.loop-i-test.false)

@@ -18,13 +18,13 @@ pub bounds-changes-i-then-changes-i : goal.bounds-changes-i-then-changes-i
 bounds-changes-i-then-changes-i c = omega arith
 
 pub returns-then-changes-i : goal.returns-then-changes-i
-returns-then-changes-i c =     level_found _ _ c.loop-i.i _ (omega arith) c.if-changes-i.true ∙ c.loop-i.invariant.1
+returns-then-changes-i c = level_found _ _ c.loop-i.i _ (omega arith) c.if-changes-i.true ∙ c.loop-i.invariant.1
 
 pub loop-i-smaller : goal.loop-i-smaller
 loop-i-smaller c = omega arith
 
 pub loop-i-preserved : goal.loop-i-preserved
-loop-i-preserved c =     (omega arith, level_earlier _ _ c.loop-i.i _ (omega arith) c.if-changes-i.false ∙ c.loop-i.invariant.1)
+loop-i-preserved c = (omega arith, level_earlier _ _ c.loop-i.i _ (omega arith) c.if-changes-i.false ∙ c.loop-i.invariant.1)
 
 pub returns : goal.returns
 returns c = level_first _ _ _ (omega arith) ∙ c.loop-i.invariant.1

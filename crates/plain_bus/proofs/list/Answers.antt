@@ -12,7 +12,7 @@ pub loop-i-init : goal.loop-i-init
 loop-i-init c = (omega arith, listing_first _ _ _)
 
 pub put-requires : goal.put-requires
-put-requires c =     room_place _ _ _ _ c.loop-i.n c.loop-i.i _ c.loop-i-test.true c.transfer_at-t.ensures c.requires c.loop-i.invariant.1
+put-requires c = room_place _ _ _ _ c.loop-i.n c.loop-i.i _ c.loop-i-test.true c.transfer_at-t.ensures c.requires c.loop-i.invariant.1
 
 pub counted-n-requires : goal.counted-n-requires
 counted-n-requires c = omega arith

@@ -10,10 +10,10 @@ pub loop-i-init : goal.loop-i-init
 loop-i-init c = at_first _ _
 
 pub returns-then-is_start : goal.returns-then-is_start
-returns-then-is_start c =     sym (c.loop-i.invariant ∙ at_start_lem _ c.loop-i.i _ c.loop-i-test.true (sym c.is_start.ensures ∙ c.if-is_start.true))
+returns-then-is_start c = sym (c.loop-i.invariant ∙ at_start_lem _ c.loop-i.i _ c.loop-i-test.true (sym c.is_start.ensures ∙ c.if-is_start.true))
 
 pub returns-then-is_stop : goal.returns-then-is_stop
-returns-then-is_stop c =     sym (c.loop-i.invariant ∙ at_stop _ c.loop-i.i _ c.loop-i-test.true (sym c.is_stop.ensures ∙ c.if-is_stop.true))
+returns-then-is_stop c = sym (c.loop-i.invariant ∙ at_stop _ c.loop-i.i _ c.loop-i-test.true (sym c.is_stop.ensures ∙ c.if-is_stop.true))
 
 pub overflow_add-i-in-loop-i : goal.overflow_add-i-in-loop-i
 overflow_add-i-in-loop-i c = omega arith
@@ -22,7 +22,7 @@ pub loop-i-smaller : goal.loop-i-smaller
 loop-i-smaller c = omega arith
 
 pub loop-i-preserved : goal.loop-i-preserved
-loop-i-preserved c =     c.loop-i.invariant
+loop-i-preserved c = c.loop-i.invariant
     ∙ at_other _ c.loop-i.i _ _ c.loop-i-test.true (sym c.is_start.ensures ∙ c.if-is_start.false)
     (sym c.is_stop.ensures ∙ c.if-is_stop.false) c.taken-t.ensures
 

@@ -38,4 +38,4 @@ pub shape_of-area : goal.shape_of-area
 shape_of-area c = c.loop-i.invariant.same
 
 pub returns : goal.returns
-returns c =     put_all _ _ _ c.loop-i.i c.loop-i.invariant c.loop-i-test.false (length_padded c.args.words.now c.requires.0)
+returns c = put_all _ _ _ c.loop-i.i c.loop-i.invariant c.loop-i-test.false (length_padded c.args.words.now c.requires.0)

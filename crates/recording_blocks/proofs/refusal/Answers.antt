@@ -20,24 +20,24 @@ sum-requires c = omega (arith, length-take-le 508 c.args.bytes.now (omega arith)
 
 pub returns-then-is_zero_from : goal.returns-then-is_zero_from
 unfolding sum_of number_of count_of
-returns-then-is_zero_from c =     ap (λ (z : Bool). pick z 0 14) (sym c.if-is_zero_from.true)
+returns-then-is_zero_from c = ap (λ (z : Bool). pick z 0 14) (sym c.if-is_zero_from.true)
     ∙ gives_rest _ _ c.if-bytes-lt512.false _ _ c.four_at.ensures c.sum.ensures
     c.if-four_at-sum.true _ c.two_at.ensures c.if-two_at-due.true _ c.two_at-count.ensures c.if-count-lt127.true _ c.is_zero_from.ensures
 
 pub returns-then-count-lt127 : goal.returns-then-count-lt127
 unfolding sum_of number_of count_of
-returns-then-count-lt127 c =     ap (λ (z : Bool). pick z 0 14) (sym c.if-is_zero_from.false)
+returns-then-count-lt127 c = ap (λ (z : Bool). pick z 0 14) (sym c.if-is_zero_from.false)
     ∙ gives_rest _ _ c.if-bytes-lt512.false _ _ c.four_at.ensures c.sum.ensures
     c.if-four_at-sum.true _ c.two_at.ensures c.if-two_at-due.true _ c.two_at-count.ensures c.if-count-lt127.true _ c.is_zero_from.ensures
 
 pub returns-then-two_at-due : goal.returns-then-two_at-due
 unfolding sum_of number_of count_of
-returns-then-two_at-due c =     gives_thirteen _ _ c.if-bytes-lt512.false _ _ c.four_at.ensures c.sum.ensures
+returns-then-two_at-due c = gives_thirteen _ _ c.if-bytes-lt512.false _ _ c.four_at.ensures c.sum.ensures
     c.if-four_at-sum.true _ c.two_at.ensures c.if-two_at-due.true _ c.two_at-count.ensures c.if-count-lt127.false
 
 pub returns-then-four_at-sum : goal.returns-then-four_at-sum
 unfolding sum_of number_of count_of
-returns-then-four_at-sum c =     gives_twelve _ _ c.if-bytes-lt512.false _ _ c.four_at.ensures c.sum.ensures
+returns-then-four_at-sum c = gives_twelve _ _ c.if-bytes-lt512.false _ _ c.four_at.ensures c.sum.ensures
     c.if-four_at-sum.true _ c.two_at.ensures c.if-two_at-due.false
 
 pub returns : goal.returns

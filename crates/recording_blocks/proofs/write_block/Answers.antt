@@ -13,14 +13,14 @@ unfolding write_number area_left
 returns-then-words-gt126 c = simp (lt-ltb _ _ c.if-words-gt126.true) (refl, refl)
 
 pub slice_bounds-sum-end-then-area-eq512 : goal.slice_bounds-sum-end-then-area-eq512
-slice_bounds-sum-end-then-area-eq512 c =     sym (length-take-le 508 c.put_front.new.area (omega (arith, front_size c.args.area.now c.args.words.now _ c.args.number c.if-words-gt126.false c.if-area-eq512.true c.put_front.ensures)))
+slice_bounds-sum-end-then-area-eq512 c = sym (length-take-le 508 c.put_front.new.area (omega (arith, front_size c.args.area.now c.args.words.now _ c.args.number c.if-words-gt126.false c.if-area-eq512.true c.put_front.ensures)))
 
 pub sum-total-requires : goal.sum-total-requires
-sum-total-requires c =     omega (arith, length-take-le 508 c.put_front.new.area (omega (arith, front_size c.args.area.now c.args.words.now _ c.args.number c.if-words-gt126.false c.if-area-eq512.true c.put_front.ensures)))
+sum-total-requires c = omega (arith, length-take-le 508 c.put_front.new.area (omega (arith, front_size c.args.area.now c.args.words.now _ c.args.number c.if-words-gt126.false c.if-area-eq512.true c.put_front.ensures)))
 
 pub returns-then-area-eq512 : goal.returns-then-area-eq512
 unfolding write_number area_left
-returns-then-area-eq512 c =     simp (eq-eqb _ _ c.if-area-eq512.true, le-ltb _ _ c.if-words-gt126.false)
+returns-then-area-eq512 c = simp (eq-eqb _ _ c.if-area-eq512.true, le-ltb _ _ c.if-words-gt126.false)
     (refl, block_put c.args.area.now c.args.words.now _ _ c.args.number _ c.if-words-gt126.false c.if-area-eq512.true c.put_front.ensures c.sum-total.ensures c.put_four.ensures)
 
 pub returns : goal.returns

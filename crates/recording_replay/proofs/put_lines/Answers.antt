@@ -27,7 +27,7 @@ pub loop-i-smaller : goal.loop-i-smaller
 loop-i-smaller c = omega arith
 
 pub loop-i-preserved : goal.loop-i-preserved
-loop-i-preserved c =     more c.args.answers.now _ _ c.loop-i.i _ c.loop-i.invariant c.loop-i-test.true c.requires refl _ c.put_line.ensures
+loop-i-preserved c = more c.args.answers.now _ _ c.loop-i.i _ c.loop-i.invariant c.loop-i-test.true c.requires refl _ c.put_line.ensures
 
 pub shape_of-text : goal.shape_of-text
 shape_of-text c = c.loop-i.invariant.same

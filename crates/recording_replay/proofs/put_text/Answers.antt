@@ -9,16 +9,16 @@ use Rattle.recording_replay.proofs.Replaying.{one_last, room_lines, lines_kept, 
 use Rattle.recording_replay.proofs.put_text.Goals as goal
 
 pub put_lines-requires : goal.put_lines-requires
-put_lines-requires c =     omega (arith, c.requires, room_lines c.args.answers.now c.args.number)
+put_lines-requires c = omega (arith, c.requires, room_lines c.args.answers.now c.args.number)
 
 pub shape_of-text-then-number-eq0 : goal.shape_of-text-then-number-eq0
-shape_of-text-then-number-eq0 c =     lines_kept c.args.answers.now _ _ c.args.number c.put_lines.ensures (omega (arith, c.requires, room_lines c.args.answers.now c.args.number))
+shape_of-text-then-number-eq0 c = lines_kept c.args.answers.now _ _ c.args.number c.put_lines.ensures (omega (arith, c.requires, room_lines c.args.answers.now c.args.number))
 
 pub returns-then-number-eq0 : goal.returns-then-number-eq0
 returns-then-number-eq0 c = text_plain _ _ _ _ c.put_lines.ensures c.if-number-eq0.true
 
 pub overflow_mul-answers : goal.overflow_mul-answers
-overflow_mul-answers c =     omega (arith, c.requires, room_lines c.args.answers.now c.args.number)
+overflow_mul-answers c = omega (arith, c.requires, room_lines c.args.answers.now c.args.number)
 
 pub put_line-requires : goal.put_line-requires
 put_line-requires c =

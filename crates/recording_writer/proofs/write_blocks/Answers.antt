@@ -23,7 +23,7 @@ pub overflow_mul-count : goal.overflow_mul-count
 overflow_mul-count c = omega arith
 
 pub returns-then-area-count : goal.returns-then-area-count
-returns-then-area-count c =  gives_seventeen c.args.first c.args.words.now c.args.area.now (blocks (length c.args.words.now)) (omega arith) c.if-next-le65536.true c.if-area-count.true
+returns-then-area-count c = gives_seventeen c.args.first c.args.words.now c.args.area.now (blocks (length c.args.words.now)) (omega arith) c.if-next-le65536.true c.if-area-count.true
 
 pub write_all-requires : goal.write_all-requires
 write_all-requires c = omega arith
@@ -35,10 +35,10 @@ pub overflow_cast-result : goal.overflow_cast-result
 overflow_cast-result c = omega arith
 
 pub returns-then-next-le65536 : goal.returns-then-next-le65536
-returns-then-next-le65536 c =  wrote c.args.first c.args.words.now c.args.area.now (blocks (length c.args.words.now)) (omega arith) c.if-next-le65536.true c.if-area-count.false _ c.write_all.ensures
+returns-then-next-le65536 c = wrote c.args.first c.args.words.now c.args.area.now (blocks (length c.args.words.now)) (omega arith) c.if-next-le65536.true c.if-area-count.false _ c.write_all.ensures
 
 pub returns-else-next-le65536 : goal.returns-else-next-le65536
-returns-else-next-le65536 c =  gives_twelve c.args.first c.args.words.now c.args.area.now (blocks (length c.args.words.now)) (omega arith) c.if-next-le65536.false
+returns-else-next-le65536 c = gives_twelve c.args.first c.args.words.now c.args.area.now (blocks (length c.args.words.now)) (omega arith) c.if-next-le65536.false
 
 pub returns-else-count-le65536 : goal.returns-else-count-le65536
-returns-else-count-le65536 c =  gives_twelve c.args.first c.args.words.now c.args.area.now (blocks (length c.args.words.now)) (omega arith) (omega arith)
+returns-else-count-le65536 c = gives_twelve c.args.first c.args.words.now c.args.area.now (blocks (length c.args.words.now)) (omega arith) (omega arith)

@@ -52,5 +52,5 @@ shape_of-text c =
     ∙ kept
 
 pub returns : goal.returns
-returns c =     block_left _ _ _ c.if-text-whole.false _ _ c.answer_words-c.ensures c.if-rest-eq0.false
+returns c = block_left _ _ _ c.if-text-whole.false _ _ c.answer_words-c.ensures c.if-rest-eq0.false
     _ c.left_over_answer.ensures _ c.put_line.ensures

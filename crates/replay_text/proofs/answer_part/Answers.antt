@@ -20,4 +20,4 @@ pub overflow_mul-result : goal.overflow_mul-result
 overflow_mul-result c = omega arith
 
 pub returns : goal.returns
-returns c =  part_fits _ _ _ c.if-text-whole.false _ _ _ c.answer_words-c.ensures c.carry.ensures
+returns c = part_fits _ _ _ c.if-text-whole.false _ _ _ c.answer_words-c.ensures c.carry.ensures

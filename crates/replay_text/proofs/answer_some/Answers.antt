@@ -20,14 +20,14 @@ pub slice_bounds-words-end : goal.slice_bounds-words-end
 slice_bounds-words-end c =
     let fits : (c.args.from + c.args.count ≤ length c.args.bytes.now / 4) × (c.args.count ≤ length c.places-words.result) = (c.requires.1.0, omega (arith, c.requires.0, c.places-words.ensures)) in
     let held : length c.read_words.new.words ≡ 1024 =
-        read_length c.args.bytes.now c.places-words.result c.args.from c.args.count fits c.read_words.new.words c.args.count (omega arith) c.read_words.ensures ∙ sym c.places-words.ensures in
+    read_length c.args.bytes.now c.places-words.result c.args.from c.args.count fits c.read_words.new.words c.args.count (omega arith) c.read_words.ensures ∙ sym c.places-words.ensures in
     omega (arith, c.requires.0, held)
 
 pub slice_bounds-advance_all-end : goal.slice_bounds-advance_all-end
 slice_bounds-advance_all-end c =
     let fits : (c.args.from + c.args.count ≤ length c.args.bytes.now / 4) × (c.args.count ≤ length c.places-words.result) = (c.requires.1.0, omega (arith, c.requires.0, c.places-words.ensures)) in
     let held : length c.read_words.new.words ≡ 1024 =
-        read_length c.args.bytes.now c.places-words.result c.args.from c.args.count fits c.read_words.new.words c.args.count (omega arith) c.read_words.ensures ∙ sym c.places-words.ensures in
+    read_length c.args.bytes.now c.places-words.result c.args.from c.args.count fits c.read_words.new.words c.args.count (omega arith) c.read_words.ensures ∙ sym c.places-words.ensures in
     let within : c.args.count ≤ length c.read_words.new.words = omega (arith, c.requires.0, held) in
     sym (length-take-le c.args.count c.read_words.new.words within)
 
@@ -37,12 +37,12 @@ slice_bounds-answers-end c =
     let enough : c.args.count ≤ length (drop c.args.from (words_of c.args.bytes.now)) = left_words c.args.bytes.now c.places-words.result c.args.from c.args.count fits in
     let room : c.args.count ≤ length c.places-answers.result = omega (arith, c.requires.0, c.places-answers.ensures) in
     let given : c.args.count ≤ length c.advance_all-done.new.answers =
-        omega (
-          arith,
-          room,
-          answers_length (drop c.args.from (words_of c.args.bytes.now)) c.places-words.result c.read_words.new.words c.args.count enough c.read_words.ensures
-              c.args.c c.places-answers.result room c.advance_all-done.new.answers c.advance_all-done.ensures.1,
-        ) in
+    omega (
+      arith,
+      room,
+      answers_length (drop c.args.from (words_of c.args.bytes.now)) c.places-words.result c.read_words.new.words c.args.count enough c.read_words.ensures
+          c.args.c c.places-answers.result room c.advance_all-done.new.answers c.advance_all-done.ensures.1,
+    ) in
     given
 
 pub slice_bounds-put_lines-end : goal.slice_bounds-put_lines-end
@@ -51,12 +51,12 @@ slice_bounds-put_lines-end c =
     let enough : c.args.count ≤ length (drop c.args.from (words_of c.args.bytes.now)) = left_words c.args.bytes.now c.places-words.result c.args.from c.args.count fits in
     let room : c.args.count ≤ length c.places-answers.result = omega (arith, c.requires.0, c.places-answers.ensures) in
     let given : c.args.count ≤ length c.advance_all-done.new.answers =
-        omega (
-          arith,
-          room,
-          answers_length (drop c.args.from (words_of c.args.bytes.now)) c.places-words.result c.read_words.new.words c.args.count enough c.read_words.ensures
-              c.args.c c.places-answers.result room c.advance_all-done.new.answers c.advance_all-done.ensures.1,
-        ) in
+    omega (
+      arith,
+      room,
+      answers_length (drop c.args.from (words_of c.args.bytes.now)) c.places-words.result c.read_words.new.words c.args.count enough c.read_words.ensures
+          c.args.c c.places-answers.result room c.advance_all-done.new.answers c.advance_all-done.ensures.1,
+    ) in
     sym (length-take-le c.args.count c.advance_all-done.new.answers given)
 
 pub put_lines-requires : goal.put_lines-requires
@@ -65,12 +65,12 @@ put_lines-requires c =
     let enough : c.args.count ≤ length (drop c.args.from (words_of c.args.bytes.now)) = left_words c.args.bytes.now c.places-words.result c.args.from c.args.count fits in
     let room : c.args.count ≤ length c.places-answers.result = omega (arith, c.requires.0, c.places-answers.ensures) in
     let given : c.args.count ≤ length c.advance_all-done.new.answers =
-        omega (
-          arith,
-          room,
-          answers_length (drop c.args.from (words_of c.args.bytes.now)) c.places-words.result c.read_words.new.words c.args.count enough c.read_words.ensures
-              c.args.c c.places-answers.result room c.advance_all-done.new.answers c.advance_all-done.ensures.1,
-        ) in
+    omega (
+      arith,
+      room,
+      answers_length (drop c.args.from (words_of c.args.bytes.now)) c.places-words.result c.read_words.new.words c.args.count enough c.read_words.ensures
+          c.args.c c.places-answers.result room c.advance_all-done.new.answers c.advance_all-done.ensures.1,
+    ) in
     let counted : length (take c.args.count c.advance_all-done.new.answers) ≡ c.args.count = length-take-le c.args.count c.advance_all-done.new.answers given in
     omega (arith, counted, c.requires.1.1)
 
@@ -80,14 +80,13 @@ returns c =
     let enough : c.args.count ≤ length (drop c.args.from (words_of c.args.bytes.now)) = left_words c.args.bytes.now c.places-words.result c.args.from c.args.count fits in
     let room : c.args.count ≤ length c.places-answers.result = omega (arith, c.requires.0, c.places-answers.ensures) in
     let given : c.args.count ≤ length c.advance_all-done.new.answers =
-        omega (
-          arith,
-          room,
-          answers_length (drop c.args.from (words_of c.args.bytes.now)) c.places-words.result c.read_words.new.words c.args.count enough c.read_words.ensures
-              c.args.c c.places-answers.result room c.advance_all-done.new.answers c.advance_all-done.ensures.1,
-        ) in
-    let counted : length (take c.args.count c.advance_all-done.new.answers) ≡ c.args.count = length-take-le c.args.count c.advance_all-done.new.answers given in
-    (
+    omega (
+      arith,
+      room,
+      answers_length (drop c.args.from (words_of c.args.bytes.now)) c.places-words.result c.read_words.new.words c.args.count enough c.read_words.ensures
+          c.args.c c.places-answers.result room c.advance_all-done.new.answers c.advance_all-done.ensures.1,
+    ) in
+    let counted : length (take c.args.count c.advance_all-done.new.answers) ≡ c.args.count = length-take-le c.args.count c.advance_all-done.new.answers given in (
       ap (λ (x : RunResult). x.chip) c.advance_all-done.ensures.0
           ∙ chip_after_lem (drop c.args.from (words_of c.args.bytes.now)) c.places-words.result c.read_words.new.words c.args.count enough c.read_words.ensures c.args.c c.places-answers.result room,
       c.put_lines.ensures

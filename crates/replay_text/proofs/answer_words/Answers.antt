@@ -13,15 +13,14 @@ use Rattle.replay_text.proofs.Lines.{no_word, length_kept, words_more, words_all
 use Rattle.replay_text.proofs.answer_words.Goals as goal
 
 pub loop-i-init : goal.loop-i-init
-loop-i-init c =     no_word (words_of c.args.bytes.now) c.args.text.now c.args.start (omega (arith, length_words c.args.bytes.now, c.requires))
+loop-i-init c = no_word (words_of c.args.bytes.now) c.args.text.now c.args.start (omega (arith, length_words c.args.bytes.now, c.requires))
 
 pub overflow_sub-bytes : goal.overflow_sub-bytes
 overflow_sub-bytes c = omega arith
 
 pub answer_some-c-requires : goal.answer_some-c-requires
 answer_some-c-requires c =
-    let some = c.at_a_time-count.ensures in
-    (
+    let some = c.at_a_time-count.ensures in (
       some.0,
       (
         omega (arith, some.1.0),
@@ -43,7 +42,7 @@ loop-i-preserved c =
     words_more _ _ _ (omega (arith, length_words c.args.bytes.now, c.requires)) _ _ _ c.loop-i.invariant _ (omega (arith, length_words c.args.bytes.now, c.at_a_time-count.ensures.1.0)) _ done.0 _ done.1
 
 pub shape_of-text : goal.shape_of-text
-shape_of-text c =     length_kept _ _ _ (omega (arith, length_words c.args.bytes.now, c.requires)) _ _ _ c.loop-i.invariant
+shape_of-text c = length_kept _ _ _ (omega (arith, length_words c.args.bytes.now, c.requires)) _ _ _ c.loop-i.invariant
 
 pub returns : goal.returns
 returns c =

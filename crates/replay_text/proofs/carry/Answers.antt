@@ -12,19 +12,19 @@ pub overflow_sub-bytes : goal.overflow_sub-bytes
 overflow_sub-bytes c = omega (arith, c.requires, same _ _ c.requires _ _ c.loop-i.invariant)
 
 pub overflow_add-bytes : goal.overflow_add-bytes
-overflow_add-bytes c =     omega (arith, c.requires, same _ _ c.requires _ _ c.loop-i.invariant)
+overflow_add-bytes c = omega (arith, c.requires, same _ _ c.requires _ _ c.loop-i.invariant)
 
 pub bounds-bytes-from : goal.bounds-bytes-from
-bounds-bytes-from c =     omega (arith, c.requires, same _ _ c.requires _ _ c.loop-i.invariant)
+bounds-bytes-from c = omega (arith, c.requires, same _ _ c.requires _ _ c.loop-i.invariant)
 
 pub bounds-bytes-i : goal.bounds-bytes-i
-bounds-bytes-i c =     omega (arith, c.requires, same _ _ c.requires _ _ c.loop-i.invariant)
+bounds-bytes-i c = omega (arith, c.requires, same _ _ c.requires _ _ c.loop-i.invariant)
 
 pub overflow_add-i : goal.overflow_add-i
 overflow_add-i c = omega arith
 
 pub loop-i-smaller : goal.loop-i-smaller
-loop-i-smaller c =     omega (arith, c.requires, same _ _ c.requires _ _ c.loop-i.invariant)
+loop-i-smaller c = omega (arith, c.requires, same _ _ c.requires _ _ c.loop-i.invariant)
 
 pub loop-i-preserved : goal.loop-i-preserved
 loop-i-preserved c =

@@ -6,7 +6,7 @@ use Rattle.replay_text.proofs.Lines.{no_line, lined_length, line_more, lines_all
 use Rattle.replay_text.proofs.put_lines.Goals as goal
 
 pub loop-i-init : goal.loop-i-init
-loop-i-init c =     no_line c.args.answers.now c.args.text.now c.args.from c.requires
+loop-i-init c = no_line c.args.answers.now c.args.text.now c.args.from c.requires
 
 pub overflow_add-from : goal.overflow_add-from
 overflow_add-from c = omega (arith, c.requires)
@@ -29,10 +29,10 @@ pub loop-i-smaller : goal.loop-i-smaller
 loop-i-smaller c = omega arith
 
 pub loop-i-preserved : goal.loop-i-preserved
-loop-i-preserved c =     line_more c.args.answers.now _ _ c.requires _ c.loop-i.i c.loop-i.invariant c.loop-i-test.true _ c.put_line.ensures
+loop-i-preserved c = line_more c.args.answers.now _ _ c.requires _ c.loop-i.i c.loop-i.invariant c.loop-i-test.true _ c.put_line.ensures
 
 pub shape_of-text : goal.shape_of-text
-shape_of-text c =     lined_length _ _ _ c.requires _ _ c.loop-i.invariant
+shape_of-text c = lined_length _ _ _ c.requires _ _ c.loop-i.invariant
 
 pub returns : goal.returns
-returns c =     lines_all _ _ _ c.requires _ _ c.loop-i.invariant c.loop-i-test.false
+returns c = lines_all _ _ _ c.requires _ _ c.loop-i.invariant c.loop-i-test.false

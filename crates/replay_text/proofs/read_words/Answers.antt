@@ -27,10 +27,10 @@ pub loop-i-smaller : goal.loop-i-smaller
 loop-i-smaller c = omega arith
 
 pub loop-i-preserved : goal.loop-i-preserved
-loop-i-preserved c =     (omega arith, read_more _ _ _ _ c.requires _ _ _ c.loop-i-test.true c.loop-i.invariant.1 c.word_at.ensures)
+loop-i-preserved c = (omega arith, read_more _ _ _ _ c.requires _ _ _ c.loop-i-test.true c.loop-i.invariant.1 c.word_at.ensures)
 
 pub shape_of-words : goal.shape_of-words
-shape_of-words c =     read_length _ _ _ _ c.requires _ _ c.loop-i.invariant.0 c.loop-i.invariant.1
+shape_of-words c = read_length _ _ _ _ c.requires _ _ c.loop-i.invariant.0 c.loop-i.invariant.1
 
 pub returns : goal.returns
-returns c =     read_all _ _ _ _ c.requires _ _ c.loop-i.invariant.0 c.loop-i-test.false c.loop-i.invariant.1
+returns c = read_all _ _ _ _ c.requires _ _ c.loop-i.invariant.0 c.loop-i-test.false c.loop-i.invariant.1

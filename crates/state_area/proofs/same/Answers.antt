@@ -27,7 +27,7 @@ pub loop-i-smaller : goal.loop-i-smaller
 loop-i-smaller c = omega arith
 
 pub loop-i-preserved : goal.loop-i-preserved
-loop-i-preserved c =     compared_more c.args.a.now c.args.b.now c.if-a-b.false c.loop-i.i c.loop-i-test.true _ c.loop-i.invariant
+loop-i-preserved c = compared_more c.args.a.now c.args.b.now c.if-a-b.false c.loop-i.i c.loop-i-test.true _ c.loop-i.invariant
 
 pub returns : goal.returns
-returns c =     compared_all c.args.a.now c.args.b.now c.if-a-b.false c.loop-i.i c.loop-i-test.false _ c.loop-i.invariant
+returns c = compared_all c.args.a.now c.args.b.now c.if-a-b.false c.loop-i.i c.loop-i-test.false _ c.loop-i.invariant

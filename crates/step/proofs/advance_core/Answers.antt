@@ -27,7 +27,7 @@ answer-requires c = search rules
 
 pub returns : goal.returns
 unfolding advance answered outcome next
-returns c =  (
-      simp (c.answer.ensures, c.requested.ensures, c.enables.ensures, c.keep.ensures, c.carry_out-done.ensures),
-      simp (c.keep.ensures, c.carry_out-done.ensures),
-    )
+returns c = (
+  simp (c.answer.ensures, c.requested.ensures, c.enables.ensures, c.keep.ensures, c.carry_out-done.ensures),
+  simp (c.keep.ensures, c.carry_out-done.ensures),
+)

@@ -14,7 +14,7 @@ pub bounds-lists-k : goal.bounds-lists-k
 bounds-lists-k c = omega (arith, c.loop-k.invariant.1.size)
 
 pub loop-k-preserved : goal.loop-k-preserved
-loop-k-preserved c =     (omega arith, lists_more _ _ _ _ c.loop-k.lists c.loop-k.k _ (search rules) c.list_at.ensures c.loop-k.invariant.1)
+loop-k-preserved c = (omega arith, lists_more _ _ _ _ c.loop-k.lists c.loop-k.k _ (search rules) c.list_at.ensures c.loop-k.invariant.1)
 
 pub shape_of-lists : goal.shape_of-lists
 shape_of-lists c = c.loop-k.invariant.1.size ∙ sym c.requires

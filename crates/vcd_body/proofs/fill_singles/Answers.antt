@@ -14,7 +14,7 @@ pub bounds-singles-b : goal.bounds-singles-b
 bounds-singles-b c = omega (arith, c.loop-b.invariant.1.size)
 
 pub loop-b-preserved : goal.loop-b-preserved
-loop-b-preserved c =     (omega arith, singles_more _ _ _ _ c.loop-b.singles c.loop-b.b _ (search rules) c.of_byte.ensures c.loop-b.invariant.1)
+loop-b-preserved c = (omega arith, singles_more _ _ _ _ c.loop-b.singles c.loop-b.b _ (search rules) c.of_byte.ensures c.loop-b.invariant.1)
 
 pub shape_of-singles : goal.shape_of-singles
 shape_of-singles c = c.loop-b.invariant.1.size ∙ sym c.requires

@@ -26,7 +26,7 @@ pub shape_of-out-in-Stop : goal.shape_of-out-in-Stop
 shape_of-out-in-Stop c = c.perform-turn.auto.out ∙ c.pass_run-after.auto.out ∙ c.loop-at.invariant.0
 
 pub returns-in-Stop : goal.returns-in-Stop
-returns-in-Stop c =     rw c.close.ensures
+returns-in-Stop c = rw c.close.ensures
     (let a = c.args in
     let run = c.pass_run-after in
     token_stops (find (variables a.text.now a.places.now a.pins.now 0 a.entries)) a.scale a.text.now run.result.at _ _ c.skip_white-p.ensures c.word_end-e.ensures c.if-p-text.true run.result.state c.loop-at.done run.result.count _ _ _ _ c.token-step.ensures c.perform-turn.ensures _ _ c.in-Stop.is ∙ run.ensures.1 ∙ c.loop-at.invariant.1)
@@ -35,7 +35,7 @@ pub shape_of-out-in-Full : goal.shape_of-out-in-Full
 shape_of-out-in-Full c = c.perform-turn.auto.out ∙ c.pass_run-after.auto.out ∙ c.loop-at.invariant.0
 
 pub returns-in-Full : goal.returns-in-Full
-returns-in-Full c =     rw c.pause.ensures
+returns-in-Full c = rw c.pause.ensures
     (let a = c.args in
     let run = c.pass_run-after in
     token_pauses (find (variables a.text.now a.places.now a.pins.now 0 a.entries)) a.scale a.text.now run.result.at _ _ c.skip_white-p.ensures c.word_end-e.ensures c.if-p-text.true run.result.state c.loop-at.done run.result.count _ _ _ _ c.token-step.ensures c.perform-turn.ensures _ _ c.in-Full.is ∙ run.ensures.1 ∙ c.loop-at.invariant.1)
@@ -44,7 +44,7 @@ pub loop-at-smaller : goal.loop-at-smaller
 loop-at-smaller c = omega (arith, c.pass_run-after.ensures.0, c.loop-at-test.true, c.skip_white-p.ensures, word_some _ c.pass_run-after.result.at _ c.skip_white-p.ensures _ c.word_end-e.ensures c.if-p-text.true)
 
 pub loop-at-preserved : goal.loop-at-preserved
-loop-at-preserved c =  (
+loop-at-preserved c = (
   c.perform-turn.auto.out ∙ c.pass_run-after.auto.out ∙ c.loop-at.invariant.0,
   let a = c.args in
       let run = c.pass_run-after in

@@ -11,7 +11,7 @@ pub loop-k-init : goal.loop-k-init
 loop-k-init c = (omega arith, entry_none _ _ _ _ _ _ refl)
 
 pub loop-k-preserved : goal.loop-k-preserved
-loop-k-preserved c =     (omega arith, c.with_entry-list.ensures ∙ rw c.loop-k.invariant.1 (entry_more _ _ _ _ _ c.loop-k.k (search rules) c.loop-k.invariant.0))
+loop-k-preserved c = (omega arith, c.with_entry-list.ensures ∙ rw c.loop-k.invariant.1 (entry_more _ _ _ _ _ c.loop-k.k (search rules) c.loop-k.invariant.0))
 
 pub returns : goal.returns
 returns c = c.loop-k.invariant.1 ∙ entry_all _ _ _ _ _ c.loop-k.k (search rules)

@@ -15,7 +15,7 @@ pub returns-then-rest-eq0 : goal.returns-then-rest-eq0
 returns-then-rest-eq0 c = λ high. pass_none _ high c.loop-i.i _ (search rules) (omega arith) c.if-rest-eq0.true ∙ c.loop-i.invariant.1 high
 
 pub loop-i-preserved : goal.loop-i-preserved
-loop-i-preserved c =     (search rules, λ high. pass_more c.loop-i.rest high c.loop-i.i _ (search rules) (omega arith) c.if-rest-eq0.false ∙ c.loop-i.invariant.1 high)
+loop-i-preserved c = (search rules, λ high. pass_more c.loop-i.rest high c.loop-i.i _ (search rules) (omega arith) c.if-rest-eq0.false ∙ c.loop-i.invariant.1 high)
 
 pub returns : goal.returns
 returns c = λ high. pass_end _ high c.loop-i.i _ (search rules) (search rules) ∙ c.loop-i.invariant.1 high

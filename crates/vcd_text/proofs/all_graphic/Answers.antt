@@ -10,12 +10,12 @@ pub loop-i-init : goal.loop-i-init
 loop-i-init c = (search rules, refl)
 
 pub loop-i-preserved : goal.loop-i-preserved
-loop-i-preserved c =     let t = c.args.t.now in
+loop-i-preserved c = let t = c.args.t.now in
     let w = sym c.graphic.ensures ∙ c.if-graphic.true in
     (search rules, graphic_more t c.loop-i.i (search rules) w ∙ c.loop-i.invariant.1)
 
 pub returns-else-graphic : goal.returns-else-graphic
-returns-else-graphic c =     let t = c.args.t.now in
+returns-else-graphic c = let t = c.args.t.now in
     let w = sym c.graphic.ensures ∙ c.if-graphic.false in
     graphic_stop t c.loop-i.i (search rules) w ∙ c.loop-i.invariant.1
 

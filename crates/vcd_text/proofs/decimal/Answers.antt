@@ -23,7 +23,7 @@ pub loop-i-smaller : goal.loop-i-smaller
 loop-i-smaller c = omega arith
 
 pub loop-i-preserved : goal.loop-i-preserved
-loop-i-preserved c =     let t = c.args.t.now in
+loop-i-preserved c = let t = c.args.t.now in
     (omega arith, ap (λ (n : Number). digits_from n (drop (c.loop-i.i + 1) t)) c.longer-n.ensures ∙ digit_more c.loop-i.n t c.loop-i.i (search rules) ∙ c.loop-i.invariant.1)
 
 pub returns : goal.returns

@@ -17,10 +17,10 @@ pub loop-i-smaller : goal.loop-i-smaller
 loop-i-smaller c = omega arith
 
 pub loop-i-preserved : goal.loop-i-preserved
-loop-i-preserved c =     (omega arith, same_more _ _ c.loop-i.i (search rules) (omega arith) c.if-a-i.true ∙ c.loop-i.invariant.1)
+loop-i-preserved c = (omega arith, same_more _ _ c.loop-i.i (search rules) (omega arith) c.if-a-i.true ∙ c.loop-i.invariant.1)
 
 pub returns-else-a-i : goal.returns-else-a-i
-returns-else-a-i c =     same_less _ _ c.loop-i.i (search rules) (omega arith) c.if-a-i.false ∙ c.loop-i.invariant.1
+returns-else-a-i c = same_less _ _ c.loop-i.i (search rules) (omega arith) c.if-a-i.false ∙ c.loop-i.invariant.1
 
 pub returns-after-loop-i : goal.returns-after-loop-i
 returns-after-loop-i c = same_end _ _ c.loop-i.i (search rules) (omega arith) ∙ c.loop-i.invariant.1

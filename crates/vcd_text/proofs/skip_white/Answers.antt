@@ -17,12 +17,12 @@ pub loop-i-smaller : goal.loop-i-smaller
 loop-i-smaller c = omega arith
 
 pub loop-i-preserved : goal.loop-i-preserved
-loop-i-preserved c =     let text = c.args.text.now in
+loop-i-preserved c = let text = c.args.text.now in
     let w = sym c.white.ensures ∙ c.if-white.true in
     blank_more text c.loop-i.i (search rules) w ∙ c.loop-i.invariant
 
 pub returns-else-white : goal.returns-else-white
-returns-else-white c =     let text = c.args.text.now in
+returns-else-white c = let text = c.args.text.now in
     let w = sym c.white.ensures ∙ c.if-white.false in
     blank_stop text c.loop-i.i (search rules) w ∙ c.loop-i.invariant
 

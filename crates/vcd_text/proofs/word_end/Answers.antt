@@ -11,7 +11,7 @@ pub loop-i-init : goal.loop-i-init
 loop-i-init c = refl
 
 pub returns-then-white : goal.returns-then-white
-returns-then-white c =     let text = c.args.text.now in
+returns-then-white c = let text = c.args.text.now in
     let w = sym c.white.ensures ∙ c.if-white.true in
     word_stops text c.loop-i.i (search rules) w ∙ c.loop-i.invariant
 
@@ -22,7 +22,7 @@ pub loop-i-smaller : goal.loop-i-smaller
 loop-i-smaller c = omega arith
 
 pub loop-i-preserved : goal.loop-i-preserved
-loop-i-preserved c =     let text = c.args.text.now in
+loop-i-preserved c = let text = c.args.text.now in
     let w = sym c.white.ensures ∙ c.if-white.false in
     word_more text c.loop-i.i (search rules) w ∙ c.loop-i.invariant
 
