@@ -1,18 +1,21 @@
 #!/usr/bin/env python3
 """apart.py [CRATE ..]: each wrong answer that shares an edit file with others and may touch them, tried by itself.
 
-That is one under '# MODULE.THEOREM (LABEL): ..' or '# FUNCTION/NEED (LABEL): ..', and one that edits a definition. By itself it must be
+That is one under '# MODULE.THEOREM (LABEL): ..' or '# FUNCTION/GOAL (LABEL): ..', and one that edits a definition. By itself it must be
 refused by a fact of what it names, and refuse by a fact nothing that another of its file names: then each refusal of the file is that of
 its own wrong answer. An edit of code alone under a function's name refuses that function only, since callers rest on its contract.
 """
 import pathlib
 import re
-import shutil
-import subprocess
 import sys
 
-HEADER = re.compile(r"# ([a-z0-9_]+(?:/[a-z0-9-]+)?|[A-Z]\w*\.[^ .:]+)(?: of [a-z0-9_]+)?(?: \(([a-z0-9_]+)\))?: ")
-ERROR = re.compile(r"^\S*?/proofs/([\w/]+)\.antt:\d+:\d+: error: `?([^`:\s]+)`?: (.*)", re.M)
+sys.dont_write_bytecode = True
+import rattle
+
+HEADER = re.compile(r"# ([a-z0-9_]+(?:/[\w-]+)?|[A-Z]\w*\.[^ .:]+)(?: of [a-z0-9_]+)?(?: \(([a-z0-9_]+)\))?: ")
+ERROR = re.compile(r"^\S*?proofs/([\w/]+)\.antt:\d+:\d+: error: `?([^`:\s]+)`?: (.*)", re.M)
+OPEN = re.compile(r"^fn \w+::(?:\S*::)?(\w+): no proof: .*`search` did not prove (.*)", re.M)
+UNFIT = re.compile(r"can be named from here|has no field|has no `|is not in scope|is no name|room for only|was not admitted|not checked|was rejected|operand is missing|expected the end|cannot continue")
 
 
 def parts(path):
@@ -45,53 +48,39 @@ def touches(names, lines):
 
 
 def refused(log):
-    """what a log refuses by a fact: functions by name, needs as FUNCTION/NEED, theorems as MODULE.THEOREM"""
+    """what a log refuses by a fact: functions by name, goals as FUNCTION/GOAL, theorems as MODULE.THEOREM"""
     told = set()
-    for module, theorem, words in ERROR.findall(log):
-        function = module.split("/")[0]
-        if "was not admitted" not in words:
-            told |= {function, f"{function}/{theorem}"} if module.endswith("/Proof") else {f"{module}.{theorem}"}
+    for module, name, words in ERROR.findall(log):
+        *above, last = module.split("/")
+        if not UNFIT.search(words):
+            told |= {above[-1], f"{above[-1]}/{name}"} if above and last in ("Answers", "Invariants", "Proof") else {f"{module}.{name}"}
+    for function, goals in OPEN.findall(log):
+        told |= {function, *(f"{function}/{goal}" for goal in re.findall(r"`([^`]+)`", goals))}
     return told
 
 
-def main(crates):
-    top = pathlib.Path("target/apart")
-    shutil.rmtree(top, ignore_errors=True)
-    top.mkdir(parents=True)
-    shutil.copy("crates.txt", top)
-    shutil.copytree("crates", top / "crates", ignore=shutil.ignore_patterns("must-fail"))
-    for part in ("rlib", "stamp", "log"):
-        subprocess.run(["cp", "-al", f"target/{part}", str(top / part)], check=True)
-    (top / "target").mkdir()
-    for part in ("rlib", "stamp", "log"):
-        (top / part).rename(top / "target" / part)
-    files = {}
+def main(names):
+    crates, files, todo = rattle.listed(), {}, []
     for path in sorted(pathlib.Path("crates").glob("*/must-fail/*.edit")):
         found = parts(path)
-        if (crates and path.parts[1] not in crates) or len(found) < 2 or not any(touches(names, lines) for names, _, lines in found):
+        if (names and path.parts[1] not in names) or len(found) < 2 or not any(touches(one, lines) for one, _, lines in found):
             continue
         files[path] = found
-        folder = top / path.parent
-        folder.mkdir(exist_ok=True)
-        for number, (names, label, lines) in enumerate(found):
-            if touches(names, lines):
-                (folder / f"{path.stem}-{number}.edit").write_text("\n".join(lines) + "\n")
-    named = sorted({path.parts[1] for path in files})
-    subprocess.run(["rt", "must-fail", *named], cwd=top, stdout=subprocess.DEVNULL, stderr=subprocess.DEVNULL)
-    bad = tried = 0
-    for path, found in files.items():
-        for number, (names, label, lines) in enumerate(found):
-            if not touches(names, lines):
-                continue
-            tried += 1
-            log = top / "target/must-fail" / path.parts[1] / f"{path.stem}-{number}" / ".log"
-            told = refused(log.read_text()) if log.is_file() else set()
-            others = sorted({other for one, _, _ in found for other in one} & told - set(names))
-            if not set(names) <= told or others:
-                bad += 1
-                print(f"apart: {path}, {label}: {names[0]} {'is refused' if set(names) <= told else 'is not refused by a fact'}; also {', '.join(others) or 'none'}")
-    shutil.rmtree(top)
-    print(f"apart: {tried} wrong answers of {len(files)} files tried by themselves, {tried - bad} refused by what they name alone")
+        todo += [(path, number) for number, (one, _, lines) in enumerate(found) if touches(one, lines)]
+
+    def judged(one):
+        path, number = one
+        found = files[path]
+        own, label, lines = found[number]
+        told = refused(rattle.tried(path.parts[1], lines, crates))
+        others = sorted({other for some, _, _ in found for other in some} & told - set(own))
+        if not set(own) <= told or others:
+            print(f"apart: {path}, {label}: {own[0]} {'is refused' if set(own) <= told else 'is not refused by a fact'}; also {', '.join(others) or 'none'}", flush=True)
+            return 1
+        return 0
+
+    bad = sum(rattle.side_by_side(judged, todo))
+    print(f"apart: {len(todo)} wrong answers of {len(files)} files tried by themselves, {len(todo) - bad} refused by what they name alone")
     return bad > 0
 
 

@@ -59,9 +59,9 @@ def library(name, file):
 
 
 def edited(crate, edit):
-    """the files that an edit changes, with their new text; each old text stands there once"""
+    """the files that the lines of an edit change, with their new text; each old text stands there once"""
     path, old, texts = "", None, {}
-    for line in edit.read_text().split("\n"):
+    for line in edit:
         if line.startswith("file: "):
             path = line[6:].strip()
             texts.setdefault(path, (crate / path).read_text())
@@ -74,9 +74,8 @@ def edited(crate, edit):
     return texts
 
 
-def tried(edit, crates):
-    """all that the prover says of a crate with an edit, and the status as the last line"""
-    name = edit.parts[-3]
+def tried(name, edit, crates):
+    """all that the prover says of a crate with the lines of an edit, and the status as the last line"""
     crate = ROOT / "crates" / name
     try:
         texts = edited(crate, edit)
@@ -93,21 +92,25 @@ def tried(edit, crates):
     return f"{done.stdout}status {done.returncode}\n"
 
 
+def side_by_side(call, items):
+    """what the call gives for each, as many at a time as RT_JOBS says or there are processors"""
+    with concurrent.futures.ThreadPoolExecutor(int(os.environ.get("RT_JOBS") or len(os.sched_getaffinity(0)))) as pool:
+        return list(pool.map(call, items))
+
+
 def edits(folder, names):
     crates = listed()
     found = [it for it in sorted(ROOT.glob("crates/*/must-fail/*.edit")) if not names or it.parts[-3] in names]
-    lanes = int(os.environ.get("RT_JOBS") or len(os.sched_getaffinity(0)))
 
     def one(edit):
         log = pathlib.Path(folder, edit.parts[-3], f"{edit.stem}.log")
         log.parent.mkdir(parents=True, exist_ok=True)
         log.unlink(missing_ok=True)
-        log.write_text(tried(edit, crates))
+        log.write_text(tried(edit.parts[-3], edit.read_text().split("\n"), crates))
 
     # the largest crates first, so that no long check is the last
     size = {it: sum(file.stat().st_size for file in (it.parent.parent / "src").rglob("*.rt")) for it in found}
-    with concurrent.futures.ThreadPoolExecutor(lanes) as pool:
-        list(pool.map(one, sorted(found, key=lambda it: -size[it])))
+    side_by_side(one, sorted(found, key=lambda it: -size[it]))
     return 0
 
 

@@ -1,0 +1,9 @@
+use mathlib.Core.Path.{refl}
+use Rattle.cpu_instruction.proofs.Performs.{perform_reads}
+use Rattle.cpu_execution.proofs.jsr.Goals as goal
+
+pub returns-in-Byte : goal.returns-in-Byte
+returns-in-Byte c = simp (perform_reads, c.jsr_high.ensures.0, c.jsr_high.ensures.1, c.in-Byte.is, ← c.load-p.ensures.0, ← c.ahead-a.ensures) (refl, refl)
+
+pub returns-in-Refused : goal.returns-in-Refused
+returns-in-Refused c = simp (perform_reads, c.in-Refused.is, ← c.load-p.ensures.0, ← c.ahead-a.ensures) (refl, refl)
