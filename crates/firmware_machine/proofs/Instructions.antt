@@ -74,7 +74,7 @@ module _ (seen : List ℕ) (c : Cpu) (ram : List ℕ) (k : Chip) where
   shows_result (refuses n) y (waits r h u g) l =
       let z : n ≡ 64 + r = cc in
       let y : n - 64 ≡ r = omega arith in
-      rw (le-ltb n 64 (omega arith), y) (refl, record { below_38 = h; not_seen = u })
+      rw (le-ltb n 64 (omega arith), y) (refl, record { below_38 = h; not_seen_lem = u })
 
   shows_instruct : (rom : List ℕ) → Knows seen k
       → Shows seen c ram k (turn_with (perform (memory seen ram rom) (instruction c))) (ram_with (perform (memory seen ram rom) (instruction c)) ram) (instruct rom (machine c ram k))

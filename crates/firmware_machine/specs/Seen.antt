@@ -22,4 +22,4 @@ Knows seen k = (r : ℕ) → r < 38 → Known k r (get_or seen r 0)
 -- nothing is known of the register r
 pub record Waiting (seen : List ℕ) (r : ℕ) : Type 0 where
   pub below_38 : r < 38
-  pub not_seen : get_or seen r 0 ≡ not_seen r
+  pub not_seen_lem : get_or seen r 0 ≡ not_seen r

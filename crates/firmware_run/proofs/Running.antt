@@ -278,4 +278,4 @@ module _ (rom : List ℕ) (from to : ℕ) (start : Machine) (ram seen registers 
         pub waits_less : (x : Reading) → x ≡ reading k r → (v : ℕ) → v ≡ known_reading x → (s : List ℕ) → s ≡ set seen r v → measure to i clocked c s < measure to i clocked c seen
         waits_less x y v z s u =
             let m = waiting.1 in
-            rw (u, z, y, e) (omega (arith, unseen_set seen k r (omega (arith, m.below_38, h.size)) m.not_seen))
+            rw (u, z, y, e) (omega (arith, unseen_set seen k r (omega (arith, m.below_38, h.size)) m.not_seen_lem))

@@ -401,18 +401,18 @@ module _ (n q : ℕ) where
   give_within (e ∷ rest) room count h = within_by e rest room count (ltb count (length room)) refl h (λ k. give_within rest (set room count e.word) (count + 1) k)
 
   -- and what is left are those after as many
-  left_by : (e : Event) (rest : List Event) (room : List ℕ) (count : ℕ) (b : Bool) → ltb count (length room) ≡ b → count ≤ length room
+  left_by_lem : (e : Event) (rest : List Event) (room : List ℕ) (count : ℕ) (b : Bool) → ltb count (length room) ≡ b → count ≤ length room
       → (count + 1 ≤ length (set room count e.word)
       → drop ((give rest n q (set room count e.word) (count + 1)).count - (count + 1)) rest ≡ drop (length (set room count e.word) - (count + 1)) rest)
       → drop ((give (e ∷ rest) n q room count).count - count) (e ∷ rest) ≡ drop (length room - count) (e ∷ rest)
-  left_by e rest room count true f h ih =
+  left_by_lem e rest room count true f h ih =
       let l : count < length room = ltb-true count (length room) f in
       let size = length-set room count e.word in
       let grows = (give_keeps rest n q (set room count e.word) (count + 1)).grows in
       let z : length room - count ≡ suc (length (set room count e.word) - (count + 1)) = omega (arith, l, size) in
       let y : (give rest n q (set room count e.word) (count + 1)).count - count ≡ suc ((give rest n q (set room count e.word) (count + 1)).count - (count + 1)) = omega (arith, grows) in
       rw (give_place e rest room count l, z, y) (ih (omega (arith, l, size)))
-  left_by e rest room count false f h ih =
+  left_by_lem e rest room count false f h ih =
       let l : length room ≤ count = ltb-false count (length room) f in
       let z : count - count ≡ length room - count = omega arith in
       rw (give_none e rest room count l, z) refl
@@ -420,7 +420,7 @@ module _ (n q : ℕ) where
   give_left : (es : List Event) (room : List ℕ) (count : ℕ) → count ≤ length room → drop ((give es n q room count).count - count) es ≡ drop (length room - count) es
   unfolding give
   give_left [] room count h = rw (drop-nil (count - count), drop-nil (length room - count)) refl
-  give_left (e ∷ rest) room count h = left_by e rest room count (ltb count (length room)) refl h (λ k. give_left rest (set room count e.word) (count + 1) k)
+  give_left (e ∷ rest) room count h = left_by_lem e rest room count (ltb count (length room)) refl h (λ k. give_left rest (set room count e.word) (count + 1) k)
 
 -- ---- pieces joined
 

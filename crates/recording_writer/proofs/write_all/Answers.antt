@@ -9,12 +9,6 @@ use lib.ListN.{length, take, drop}
 use Rattle.recording_writer.proofs.Writing.{finished, fits, more}
 use Rattle.recording_writer.proofs.write_all.Goals as goal
 
-room : (l : goal.In-loop-at) → l.loop-at.put + 512 ≤ length l.args.area.now
-room l = fits _ _ _ _ _ _ _ l.loop-at.invariant l.requires.1 l.loop-at-test.true
-
-small : (l : goal.In-loop-at) → l.loop-at.next < 65536
-small l = omega (arith, l.loop-at.invariant.counted, l.requires.0, l.loop-at-test.true)
-
 pub loop-at-init : goal.loop-at-init
 loop-at-init c = record { inside = omega arith; same = refl; counted = omega arith; total = omega arith; written = refl; rest = refl }
 
@@ -22,10 +16,10 @@ pub end_of-end-requires : goal.end_of-end-requires
 end_of-end-requires c = omega arith
 
 pub overflow_add-stop : goal.overflow_add-stop
-overflow_add-stop c = omega (arith, room c.before)
+overflow_add-stop c = omega (arith, (fits _ _ _ _ _ _ _ c.loop-at.invariant c.requires.1 c.loop-at-test.true))
 
 pub overflow_cast-next : goal.overflow_cast-next
-overflow_cast-next c = omega (arith, small c.before)
+overflow_cast-next c = omega (arith, c.loop-at.invariant.counted, c.requires.0, c.loop-at-test.true)
 
 pub slice_bounds-write_block-count : goal.slice_bounds-write_block-count
 slice_bounds-write_block-count c = omega (arith, c.end_of-end.ensures)
@@ -43,10 +37,10 @@ pub slice_bounds-write_block-start-in-loop-at : goal.slice_bounds-write_block-st
 slice_bounds-write_block-start-in-loop-at c = omega arith
 
 pub slice_bounds-write_block-end-in-loop-at : goal.slice_bounds-write_block-end-in-loop-at
-slice_bounds-write_block-end-in-loop-at c = omega (arith, room c.before.before, c.loop-at.invariant.same)
+slice_bounds-write_block-end-in-loop-at c = omega (arith, (fits _ _ _ _ _ _ _ c.loop-at.invariant c.requires.1 c.loop-at-test.true), c.loop-at.invariant.same)
 
 pub overflow_add-next : goal.overflow_add-next
-overflow_add-next c = omega (arith, small c.before.before.before.before.before.before)
+overflow_add-next c = omega (arith, c.loop-at.invariant.counted, c.requires.0, c.loop-at-test.true)
 
 pub loop-at-smaller : goal.loop-at-smaller
 loop-at-smaller c = omega (arith, c.end_of-end.ensures)
