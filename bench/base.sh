@@ -11,8 +11,8 @@ import re, sys
 stands = {}
 for line in open("crates.txt"):
     name, colon, rest = line.split("#")[0].partition(":")
-    if colon:
-        stands[name.strip()] = rest.split()
+    if colon and name.strip():
+        stands[name.split()[0]] = rest.split()
 found, todo = set(), sys.argv[1:]
 while todo:
     name = todo.pop()
@@ -24,11 +24,11 @@ EOF
 )
 mkdir "$work/crates"
 for crate in $wanted; do
-    cp -R "crates/$crate" "$work/crates/$crate"
-    grep "^$crate:" crates.txt >> "$work/crates.txt"
+    mkdir "$work/crates/$crate"
+    tar c --exclude=./out -C "crates/$crate" . | tar x -C "$work/crates/$crate"
+    grep -E "^$crate( staticlib)?:" crates.txt >> "$work/crates.txt"
 done
 cd "$work"
-export RT_JOBS=${RT_JOBS:-6}
 began=$(date +%s)
-rt ci > log 2>&1 || { tail -n 20 log; exit 1; }
+rt ci --anew > log 2>&1 || { tail -n 20 log; exit 1; }
 echo "the base alone, $(wc -l < crates.txt) crates and $(find crates -name '*.edit' | wc -l) must-fail edits: $(tail -n 1 log), $((($(date +%s) - began) / 60)) min $((($(date +%s) - began) % 60)) s"

@@ -147,9 +147,9 @@ refuses "an edit during the proof" 'have changed while they were proved' 'echo "
 refuses "an edit of what a static library is made of" 'have changed while they were proved' 'echo "echo // edited >> crates/one_capi/src/lib.rt" > ../stand-in/hook'
 
 # ---- the environment
-environment=(COUNT=0 PAIRS=0 SEED=9 SHEET=/dev/null VECTORS=/tmp CARGO_TARGET_DIR=/tmp/elsewhere RT_CUT=1 'BASH_FUNC_cat%%=() { :; }')
+environment=(COUNT=0 PAIRS=0 SEED=9 SHEET=/dev/null VECTORS=/tmp PROGRAM=/bin/true LOGS=/tmp CARGO_TARGET_DIR=/tmp/elsewhere RT_CUT=1 'BASH_FUNC_cat%%=() { :; }')
 passes "with variables and functions that reach into checks" \
-    "sed -i '1i [ -z \"\${COUNT+set}\${PAIRS+set}\${SEED+set}\${SHEET+set}\${VECTORS+set}\${CARGO_TARGET_DIR+set}\${RT_CUT+set}\" ] && ! declare -F cat || exit 9' scripts/check-model.sh"
+    "sed -i '1i [ -z \"\${COUNT+set}\${PAIRS+set}\${SEED+set}\${SHEET+set}\${VECTORS+set}\${PROGRAM+set}\${LOGS+set}\${CARGO_TARGET_DIR+set}\${RT_CUT+set}\" ] && ! declare -F cat || exit 9' scripts/check-model.sh"
 environment=()
 
 # ---- a signal to the gate ends its checks
@@ -161,7 +161,10 @@ for _ in $(seq 100); do [ ! -s ../stand-in/running ] || break; sleep 0.2; done
 kill "$gate"
 status=0
 wait "$gate" || status=$?
-if [ "$status" = 143 ] && ! kill -0 "$(cat ../stand-in/running)" 2> /dev/null; then
+# what was ended may take a moment to be gone
+runs_on() { grep -qs '^State:.[^Z]' "/proc/$(cat ../stand-in/running)/status"; }
+for _ in $(seq 20); do ! runs_on || sleep 0.1; done
+if [ "$status" = 143 ] && ! runs_on; then
     refused=$((refused + 1))
 else
     echo "gate: a signal: status $status, and a check may run on"

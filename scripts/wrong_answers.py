@@ -8,10 +8,9 @@ right program. A run that differs tells the two apart:
     listings    vectors over crates/vectors/data and a listing made of the model's words and the model's answers
     CRATE       a program of this repository over its file `stdin`
 A driver runs the right crate and all wrong ones in one program: the crate and those above it are there once for each answer, under names
-of their own. Where that program does not come to its end, each answer is run alone. An answer that no run tells apart fails: it is no
+of their own. Where that program does not come to its end, each answer is run alone. All is run by `rt try`, which proves nothing, in a repository of its own. An answer that no run tells apart fails: it is no
 wrong answer, or a driver is missing. --write puts the result into FILE, where answers that are not run now keep their row.
 """
-import os
 import pathlib
 import re
 import shutil
@@ -20,38 +19,40 @@ import sys
 import tempfile
 
 ROOT = pathlib.Path(__file__).resolve().parent.parent
-RT = pathlib.Path(shutil.which("rt") or sys.exit("wrong answers: the Rattle toolchain (rt) is not on the PATH")).resolve()
-KIT = pathlib.Path(os.environ.get("RATTLE_HOME", RT.parent.parent))
-OWN = KIT / "on" / os.uname().machine
+RT = shutil.which("rt") or sys.exit("wrong answers: the Rattle toolchain (rt) is not on the PATH")
 WORDS = 30000
 # what a driver reads of standard input at once
 BUFFER = 65536
-HEADER = re.compile(r"# ([a-z0-9_]+|[A-Z]\w*\.[^ .:]+)(?:/[a-z0-9-]+)?(?: of ([a-z0-9_]+))?(?: \(([a-z0-9_]+)\))?: (.*)")
+HEADER = re.compile(r"# ([a-z0-9_]+|[A-Z]\w*\.[^ .:]+)(?:/[\w-]+)?(?: of ([a-z0-9_]+))?(?: \(([a-z0-9_]+)\))?: (.*)")
 
 
 def dependencies(path):
-    lines = (line.split("#")[0] for line in path.read_text().split("\n"))
-    return {name.strip(): rest.split() for name, _, rest in (line.partition(":") for line in lines) if rest or name.strip()}
+    lines = (line.split("#")[0].partition(":") for line in path.read_text().split("\n"))
+    return {name.split()[0]: rest.split() for name, _, rest in lines if name.strip()}
 
 
 DEPS = dependencies(ROOT / "crates.txt")
-KIT_DEPS = dependencies(KIT / "libs/libs.txt")
 
 
 def reached(names):
-    """the libraries that a program reaches, besides std"""
+    """the crates that a program reaches"""
     seen, todo = [], list(names)
     while todo:
         name = todo.pop(0)
-        if name not in seen and name != "std":
+        if name not in seen and name in DEPS:
             seen.append(name)
-            todo += DEPS.get(name, KIT_DEPS.get(name, []))
+            todo += DEPS[name]
     return seen
 
 
-def source(name):
-    own = ROOT / "crates" / name / "src/lib.rt"
-    return own if own.is_file() else KIT / "libs" / name / "src/lib.rt"
+def sources(name):
+    """the files of a crate's code, by their names in src/"""
+    top = ROOT / "crates" / name / "src"
+    return {str(path.relative_to(top)): path.read_text() for path in sorted(top.rglob("*.rt"))}
+
+
+def text_of(path):
+    return path.read_bytes().decode(errors="surrogateescape")
 
 
 def written(path, text):
@@ -80,14 +81,15 @@ class Answer:
         return self.title(), self.words.replace("|", "/")
 
     def edited(self):
-        """the crate's code with the edit; None where no code changes"""
-        path = source(self.crate)
-        right = text = path.read_text()
+        """the files of the crate's code with the edit; None where no code changes"""
+        right = sources(self.crate)
+        texts = dict(right)
         for file, old, new in self.pairs:
-            if file != "src/lib.rt" or text.count(old) != 1:
-                sys.exit(f"wrong answers: {self.title()}: the old text is {text.count(old)} times in {file}")
-            text = text.replace(old, new)
-        return text if without_contracts(text) != without_contracts(right) else None
+            name = file.removeprefix("src/")
+            if texts.get(name, "").count(old) != 1:
+                sys.exit(f"wrong answers: {self.title()}: the old text is {texts.get(name, '').count(old)} times in {file}")
+            texts[name] = texts[name].replace(old, new)
+        return texts if any(without_contracts(texts[name]) != without_contracts(right[name]) for name in right) else None
 
 
 def answers():
@@ -112,55 +114,60 @@ def answers():
                 old = line[5:]
             elif line.startswith("new:") and file.startswith("src/"):
                 for answer in named:
-                    answer.pairs.append((file, old, line[5:]))
+                    answer.pairs.append((file, old, line[4:].removeprefix(" ")))
         yield from (answer for answer in found if answer.pairs)
 
 
-def ran(root, libs, options, expected=None):
-    """what is said of a program that is built unproved and run: None where it writes what is expected"""
-    words = [str(OWN / "bin/rattle-cases"), "--toolchain", str(OWN / "toolchain"), *options]
-    words += ["--link", str(KIT / "lib/libos_c.a")] if "os" in libs else []
-    words += ["--stdout", str(expected)] if expected else []
-    words += [str(root), "--crate-name", "program", "--lib", f"std={KIT}/libs/std/src/lib.rt"]
-    for name, path in libs.items():
-        words += ["--lib", f"{name}={path}"]
-    done = subprocess.run(["nice", "-n", "10", *words], capture_output=True, text=True, cwd=ROOT)
-    said = done.stdout + done.stderr
-    if done.returncode == 0:
-        return None
-    if "FAIL: " not in said:
-        sys.exit(f"wrong answers: {root} is not built: {said.strip()[:2000]}")
-    return said
+def laid_out(room, libs, program, needs):
+    """a repository of a program and of the libraries that it needs, each with its files and with the libraries that it lists"""
+    shutil.rmtree(room, ignore_errors=True)
+    (room / ".git").mkdir(parents=True)
+    for name, (files, _) in [*libs.items(), ("program", (program, needs))]:
+        for file, text in files.items():
+            written(room / "crates" / name / "src" / file, text)
+    written(room / "crates.txt", "".join(f"{name}: {' '.join(listed)}\n" for name, (_, listed) in [*libs.items(), ("program", (program, needs))]))
+
+
+def ran(room, options=(), arguments=(), given=b""):
+    """the status and the output of a program that is run unproved; an end where it is not built"""
+    command = ["nice", "-n", "10", RT, "try", *options, "--", *arguments]
+    done = subprocess.run(command, input=given, capture_output=True, cwd=room / "crates/program")
+    said = done.stderr.decode(errors="replace")
+    if "run=none" in said or done.returncode == 2 and "run=" not in said:
+        sys.exit(f"wrong answers: {room} is not built: {said.strip()[:2000]}")
+    return done.returncode, done.stdout.decode(errors="surrogateescape")
 
 
 class Program:
     """a program of this repository: its name here, its crate, what it is run on, and what it writes"""
 
-    def __init__(self, name, crate, options, expected):
-        self.name, self.deps = name, reached(DEPS[crate])
-        self.root, self.options, self.expected, self.ready = ROOT / "crates" / crate / "src/main.rt", options, expected, False
+    def __init__(self, name, crate, options, arguments, given, expected):
+        self.name, self.crate, self.deps = name, crate, reached(DEPS[crate])
+        self.options, self.arguments, self.given, self.expected, self.ready = options, arguments, given, expected, False
 
-    def told(self, crate, path):
-        """None where it writes what is expected, with the crate's code in a file; else what is told of the difference"""
-        said = ran(self.root, {name: path if name == crate else source(name) for name in self.deps}, self.options, self.expected)
-        return said and (f"{self.name}, {self.difference(said)}" if self.name == "listings" else self.name)
+    def told(self, crate, texts, work):
+        """None where it writes what is expected, with these files of the crate's code; else what is told of the difference"""
+        libs = {name: (texts if name == crate else sources(name), DEPS[name]) for name in self.deps}
+        laid_out(work / "alone", libs, sources(self.crate), DEPS[self.crate])
+        status, wrote = ran(work / "alone", self.options, self.arguments, self.given)
+        if (status, wrote) == (0, self.expected):
+            return None
+        return f"{self.name}, {self.difference(status, wrote)}" if self.name == "listings" else self.name
 
-    def difference(self, said):
+    def difference(self, status, wrote):
         """the expected line in which the run that failed differs, or how it failed"""
-        place = re.search(r"on standard output, at byte (\d+)", said)
-        if not place:
-            return re.search(r"^FAIL: (.*)$", said, re.M)[1]
-        text = self.expected.read_text()
-        at = int(place[1])
-        return "in place of '" + text[text.rfind("\n", 0, at) + 1:].split("\n")[0] + "'"
+        if wrote == self.expected:
+            return f"which ends with status {status}"
+        at = next((i for i, (one, other) in enumerate(zip(wrote, self.expected)) if one != other), min(len(wrote), len(self.expected)))
+        return "in place of '" + self.expected[self.expected.rfind("\n", 0, at) + 1:].split("\n")[0] + "'"
 
-    def tell(self, crate, texts, work):
+    def tell(self, crate, codes, work):
         """for each code of the crate, what is told of the difference, or None"""
         if not self.ready:
-            if said := self.told(None, None):
+            if said := self.told(None, None, work):
                 sys.exit(f"wrong answers: the right program differs in {said}")
             self.ready = True
-        return [self.told(crate, written(work / "alone/lib.rt", text)) for text in texts]
+        return [self.told(crate, texts, work) for texts in codes]
 
 
 class Driver:
@@ -171,39 +178,35 @@ class Driver:
         self.needs = re.search(r"^// needs: (.*)$", self.text, re.M)[1].split()
         self.deps = reached(self.needs)
 
-    def parts(self, crate, texts, work):
+    def parts(self, crate, codes, work):
         """what the driver writes with each code of the crate, in one program; None where that does not come to its end"""
-        shutil.rmtree(work / "copies", ignore_errors=True)
         above = [name for name in self.deps if crate in reached([name])]
-        libs = {name: source(name) for name in self.deps if name not in above}
+        libs = {name: (sources(name), DEPS[name]) for name in self.deps if name not in above}
         calls = re.compile(r"\b(" + "|".join(above) + r")(?=::)")
-        main = ["// One driver with several codes of a crate.", "use libc::STDERR_FILENO;", "", "fn main() {", "    os::arg_count();"]
-        for number, text in enumerate(texts):
-            copies = {name: text if name == crate else source(name).read_text() for name in above}
-            copies["driver"] = self.text.replace("\nfn main() {", "\npub fn drive() {").replace("STDOUT_FILENO", "STDERR_FILENO")
-            for name, code in copies.items():
-                code = calls.sub(rf"\1_{number}", code).replace("#[no_mangle]\n", "").replace('pub extern "C" fn', "pub fn")
-                libs[f"{name}_{number}"] = written(work / "copies" / f"{name}_{number}" / "lib.rt", code)
-            main += [f"    driver_{number}::drive();", '    io::write_all(STDERR_FILENO, b"=\\n");']
-        root = written(work / "copies/main/main.rt", "\n".join([*main, "}", ""]))
-        words = work / "copies/words"
-        words.write_bytes(self.words * len(texts))
-        # standard error is shown whole where standard output is not the expected one
-        said = ran(root, libs, ["--stdin", str(words)], written(work / "copies/expected", "nothing\n"))
-        wrote = re.search(r"^what the run said:\nthe program exited with status 0\n(.*?)^(?=FAIL: |\Z)", said, re.M | re.S)
-        found = [part.strip() for part in wrote[1].split("=")] if wrote else []
-        return found[:-1] if len(found) == len(texts) + 1 else None
+        main = ["// One driver with several codes of a crate.", "use std::io::Print;", "", "fn main(rt: HostRuntime) {", "    let mut given = rt.stdin();"]
+        for number, texts in enumerate(codes):
+            own = lambda listed: [f"{name}_{number}" if name in above else name for name in listed]
+            copies = {name: (texts if name == crate else sources(name), DEPS[name]) for name in above}
+            copies["driver"] = ({"lib.rt": self.text[:self.text.index("\nfn main(")] + "\n"}, self.needs)
+            for name, (files, listed) in copies.items():
+                files = {file: calls.sub(rf"\1_{number}", code).replace("#[unsafe(no_mangle)]\n", "").replace('pub extern "C" fn', "pub fn") for file, code in files.items()}
+                libs[f"{name}_{number}"] = (files, own(listed))
+            main += [f"    driver_{number}::drive(&mut given, rt.stdout());", '    let _ = rt.stdout().write_all(b"=\\n");']
+        laid_out(work / "copies", libs, {"main.rt": "\n".join([*main, "}", ""])}, [f"driver_{number}" for number in range(len(codes))])
+        status, wrote = ran(work / "copies", given=self.words * len(codes))
+        found = [part.strip() for part in wrote.split("=\n")]
+        return found[:-1] if status == 0 and len(found) == len(codes) + 1 else None
 
-    def tell(self, crate, texts, work):
+    def tell(self, crate, codes, work):
         """for each code of the crate, the driver's name where it writes something else than with the right one, or None"""
-        right = source(crate).read_text()
-        parts = self.parts(crate, [right, *texts, right], work)
+        right = sources(crate)
+        parts = self.parts(crate, [right, *codes, right], work)
         if parts:
             if parts[0] != parts[-1]:
                 sys.exit(f"wrong answers: {self.name} does not write the same twice with the right {crate}")
             return [self.name if part != parts[0] else None for part in parts[1:-1]]
         right_alone = self.parts(crate, [right], work) or sys.exit(f"wrong answers: {self.name} does not come to its end")
-        return [self.name if self.parts(crate, [text], work) != right_alone else None for text in texts]
+        return [self.name if self.parts(crate, [texts], work) != right_alone else None for texts in codes]
 
 
 def generated(work):
@@ -220,11 +223,11 @@ def generated(work):
 def listings(work):
     """vectors over its listings and the generated one"""
     data = ROOT / "crates/vectors"
-    options = ["--arg", "generated.txt", "--data", f"generated.txt={work}/generated.txt"]
-    for name in (data / "args").read_text().split():
-        options += ["--arg", name, "--data", f"{name}={data}/data/{name}"]
-    (work / "listings").write_text(f"generated.txt: words {WORDS}\n" + (data / "stdout").read_text())
-    return Program("listings", "vectors", options, work / "listings")
+    names = (data / "args").read_text().split()
+    options = ["--data", f"generated.txt={work}/generated.txt"]
+    for name in names:
+        options += ["--data", f"{name}={data}/data/{name}"]
+    return Program("listings", "vectors", options, ["generated.txt", *names], b"", f"generated.txt: words {WORDS}\n" + (data / "stdout").read_text())
 
 
 def runs(work):
@@ -235,7 +238,9 @@ def runs(work):
     for path in sorted(ROOT.glob("crates/*/src/main.rt")):
         crate = path.parent.parent
         if crate.name != "vectors" and (crate / "stdin").is_file():
-            found.append(Program(crate.name, crate.name, ["--stdin", str(crate / "stdin")], crate / "stdout"))
+            arguments = (crate / "args").read_text().splitlines() if (crate / "args").is_file() else []
+            options = [word for path in sorted((crate / "data").rglob("*")) if path.is_file() for word in ("--data", f"{path.relative_to(crate / 'data')}={path}")]
+            found.append(Program(crate.name, crate.name, options, arguments, (crate / "stdin").read_bytes(), text_of(crate / "stdout")))
     return found
 
 

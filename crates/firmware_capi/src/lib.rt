@@ -178,8 +178,7 @@ fn are_sized(cpu: usize, ram: usize, area: usize, counts: usize) -> bool
 
 // Runs `instructions` instructions of the firmware in `rom` from the CPU, with the events between them, and gives 0 or the number of the
 // refusal of an instruction. Refused before anything runs (15, 8, 22, 7), nothing is touched.
-#[unsafe(no_mangle)]
-pub extern "C" fn nt6861_firmware(
+pub fn nt6861_firmware(
     cpu: &mut [u8],
     ram: &mut [u8],
     rom: &[u8],

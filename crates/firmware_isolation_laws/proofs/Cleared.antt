@@ -64,16 +64,16 @@ high_cleared (cleared _ _ _ _ _ _ _ g) (cleared _ _ _ _ _ _ _ f) w v h = h
 
 pub throughout_cleared : {o q : Observer} (ws : List ℕ) → Cleared o q → words.throughout permitted o ws ≡ true → words.throughout permitted q ws ≡ true
 throughout_cleared [] t h = refl
-throughout_cleared {o} (w ∷ ws) t h =
+throughout_cleared {o} {q} (w ∷ ws) t h =
     let z = both_true (permitted o (decode w)) _ h in
-    rw (permitted_cleared t (decode w) z.0) (throughout_cleared ws (observe_cleared t (decode w)) z.1)
+    rw (permitted_cleared t (decode w) z.0) (throughout_cleared {o = observe o (decode w)} {q = observe q (decode w)} ws (observe_cleared t (decode w)) z.1)
 
 pub equal_cleared : {o q p r : Observer} (ws vs : List ℕ) → Cleared o q → Cleared p r → words.equal_throughout o p ws vs ≡ true → words.equal_throughout q r ws vs ≡ true
 equal_cleared [] vs t u h = refl
 equal_cleared (w ∷ ws) [] t u h = refl
 equal_cleared {o} {q} {p} {r} (w ∷ ws) (v ∷ vs) t u h =
     let z = both_true (equal_at_high o p w v) _ h in
-    rw (high_cleared t u w v z.0) (equal_cleared ws vs (observe_cleared t (decode w)) (observe_cleared u (decode v)) z.1)
+    rw (high_cleared t u w v z.0) (equal_cleared {o = observe o (decode w)} {q = observe q (decode w)} {p = observe p (decode v)} {r = observe r (decode v)} ws vs (observe_cleared t (decode w)) (observe_cleared u (decode v)) z.1)
 
 -- ---- a write that is not to II ADR
 

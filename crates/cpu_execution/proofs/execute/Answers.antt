@@ -14,10 +14,6 @@ pub store_operation-v-requires : goal.store_operation-v-requires
 unfolding execute destination stored executed_to
 store_operation-v-requires c = search rules
 
-pub put_requires : goal.put-requires
-unfolding execute destination stored executed_to
-put_requires c = search rules
-
 pub modify_at-requires : goal.modify_at-requires
 unfolding execute destination stored executed_to
 modify_at-requires c = search rules

@@ -9,10 +9,6 @@ pub line_ended-requires : goal.line_ended-requires
 unfolding checked_byte
 line_ended-requires c = search rules
 
-pub next_requires : goal.next-requires
-unfolding checked_byte
-next_requires c = search rules
-
 pub returns-then-b-eq10 : goal.returns-then-b-eq10
 unfolding checked_byte
 returns-then-b-eq10 c = simp (c.line_ended.ensures, eq-eqb _ _ c.if-b-eq10.true)

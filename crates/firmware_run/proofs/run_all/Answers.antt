@@ -7,9 +7,6 @@ use Rattle.firmware_run.proofs.run_all.Goals as goal
 pub loop-i-init : goal.loop-i-init
 loop-i-init c = first _ _ _ _ _ _ _ _ _ refl
 
-pub overflow_add-given : goal.overflow_add-given
-overflow_add-given c = omega (arith, c.well-formed.1.1.1.1.0, some _ _ _ _ _ _ _ _ _ _ _ _ _ c.requires c.loop-i.invariant c.loop-i-test.true _ c.until-to.ensures c.if-to-i.true)
-
 pub loop-i-smaller-then-to-i : goal.loop-i-smaller-then-to-i
 loop-i-smaller-then-to-i c = after_events_less _ _ _ _ _ _ _ _ _ _ _ _ _ c.requires c.loop-i.invariant c.loop-i-test.true _ c.until-to.ensures c.if-to-i.true
 

@@ -1,0 +1,29 @@
+-- `event_names::kind_shown` meets its contract.
+-- Assumes nothing.
+use Rattle.event_names.specs.Names.{kind_name, lower, lowered}
+use borrow.Author.Tests.{ne_eqb}
+use Rattle.event_names.proofs.kind_shown.Goals as goal
+
+pub returns-in-1 : goal.returns-in-1
+unfolding kind_name lower lowered
+returns-in-1 c = simp c.in-1.is
+
+pub returns-in-2 : goal.returns-in-2
+unfolding kind_name lower lowered
+returns-in-2 c = simp c.in-2.is
+
+pub returns-in-3 : goal.returns-in-3
+unfolding kind_name lower lowered
+returns-in-3 c = simp c.in-3.is
+
+pub returns-in-4 : goal.returns-in-4
+unfolding kind_name lower lowered
+returns-in-4 c = simp c.in-4.is
+
+pub returns-in-5 : goal.returns-in-5
+unfolding kind_name lower lowered
+returns-in-5 c = simp c.in-5.is
+
+pub returns-in_default : goal.returns-in_default
+unfolding kind_name lower lowered
+returns-in_default c = simp (ne_eqb _ _ c.in_default.in_default-own.rest.1, ne_eqb _ _ c.in_default.in_default-own.rest.0.1, ne_eqb _ _ c.in_default.in_default-own.rest.0.0.1, ne_eqb _ _ c.in_default.in_default-own.rest.0.0.0.1, ne_eqb _ _ c.in_default.in_default-own.rest.0.0.0.0.1)

@@ -1,0 +1,9 @@
+-- `firmware_capi::ram_of` meets its contract.
+-- Assumes nothing.
+use mathlib.Core.Path.{◌∙◌}
+use native.Mathlib.Omega.{arith}
+use Rattle.state_area.proofs.Accepted.{copied_over}
+use Rattle.firmware_capi.proofs.ram_of.Goals as goal
+
+pub returns : goal.returns
+returns c = c.copy.ensures.1 ∙ copied_over _ _ (omega arith)

@@ -1,0 +1,39 @@
+-- `why_reasons::why` meets its contract.
+-- Assumes nothing.
+use mathlib.Core.Path.{sym, ◌∙◌}
+use native.Mathlib.Omega.{arith}
+use borrow.Author.Rules.{rules}
+use Rattle.why_reasons.specs.Explain.{why, WhyValues}
+use Rattle.why_reasons.proofs.Whole.{whole}
+use Rattle.why_reasons.proofs.why.Goals as goal
+
+pub well_formed-requires : goal.well_formed-requires
+unfolding why WhyValues
+well_formed-requires c = search rules
+
+pub start-requires : goal.start-requires
+unfolding why WhyValues
+start-requires c = search rules
+
+pub follow-requires : goal.follow-requires
+unfolding why WhyValues
+follow-requires c = search rules
+
+pub reasons_after-requires : goal.reasons_after-requires
+unfolding why WhyValues
+reasons_after-requires c = search rules
+
+pub returns-then-well_formed : goal.returns-then-well_formed
+unfolding why WhyValues
+returns-then-well_formed c =
+    let formed = sym c.well_formed-2.ensures ∙ c.if-well_formed.true in
+    let all = whole c.args.c c.args.words.now (omega (arith, c.well_formed.1.0.0)) in
+    let after = c.reasons_after.ensures in
+    let passed = c.follow.ensures in
+    let begun = c.start.ensures in
+    (simp (formed, after, passed, begun, all), record { number = simp formed; values = (formed, simp (after, passed, begun, all)) })
+
+pub returns-else-well_formed : goal.returns-else-well_formed
+unfolding why WhyValues
+returns-else-well_formed c =
+    let formed = sym c.well_formed-2.ensures ∙ c.if-well_formed.false in (simp formed, record { number = simp formed; values = formed })
