@@ -85,7 +85,7 @@ echo "library: $said"
 
 # ---- install, from a copy
 mkdir -p "$work/copy/target"
-tar c --exclude=./target --exclude=./.git . | tar x -C "$work/copy"
+tar c --exclude=./target --exclude=./.git --exclude='./crates/*/out' . | tar x -C "$work/copy"
 cp -a target/bin target/made target/staticlib target/lib "$work/copy/target"
 tree() {
     (cd "$1" && find . -printf '%p %y %m %l\n' | LC_ALL=C sort && find . -type f -exec sha256sum {} + | LC_ALL=C sort)

@@ -18,7 +18,7 @@ def crates():
 
 def text_of(crate):
     """the code, the definitions and the laws of a crate"""
-    return "".join(path.read_text() for path in pathlib.Path("crates", crate).rglob("*") if path.suffix in (".rt", ".antt"))
+    return "".join(path.read_text() for part in ("src", "specs", "proofs") for path in pathlib.Path("crates", crate, part).rglob("*") if path.suffix in (".rt", ".antt"))
 
 
 def paths(page, text):

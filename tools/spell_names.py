@@ -16,7 +16,7 @@ import re
 import sys
 
 NAME = r"[^\s(){}\[\],;.:|`\"@]+"
-WORD = re.compile(r"(?<![\w.'-]goal\.)(?<![\w.'-]c\.)(?<![\w.'-]l\.)(?<![^\s(){}\[\],;.:|`\"@/=])[^\s(){}\[\],;.:|`\"@/=]+")
+WORD = re.compile(r"[^\s(){}\[\],;.:|`\"@/=]+")
 DECLARED = re.compile(r"^(?:(?:abbrev|unfoldable|pub)\s+)*(" + NAME + r")\s+:\s")
 FIELD = re.compile(r"^\s+(?:(?:abbrev|unfoldable|pub)\s+)*(" + NAME + r")\s+:\s")
 # files whose names are those of generated goals, which stay

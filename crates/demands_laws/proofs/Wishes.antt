@@ -160,14 +160,14 @@ length_of_mode = opcodes.length_by_mode
 -- 8, then 22, then 7, before anything runs
 module _ (c : Cpu) (ram rom : List ℕ) (k : Chip) (events places : List ℕ) (n : ℕ) where
   pub run_ill_formed : is_well_formed c k ≡ false → firmware c ram rom k events places n ≡ not_run 8 c ram k places
-  run_ill_formed = firmware-call.ill-formed c ram rom k events places n
+  run_ill_formed = firmware-call.ill_formed_lem c ram rom k events places n
 
   pub run_wrong_rom : is_well_formed c k ≡ true → eqb (length rom) 24576 ≡ false → firmware c ram rom k events places n ≡ not_run 22 c ram k places
-  run_wrong_rom = firmware-call.wrong-rom c ram rom k events places n
+  run_wrong_rom = firmware-call.wrong_rom c ram rom k events places n
 
   pub run_few_places : is_well_formed c k ≡ true → eqb (length rom) 24576 ≡ true → ltb (length places) (length events) ≡ true
       → firmware c ram rom k events places n ≡ not_run 7 c ram k places
-  run_few_places = firmware-call.few-places c ram rom k events places n
+  run_few_places = firmware-call.few_places c ram rom k events places n
 
 -- a run that has begun is refused with 20, 21, 5 or 6, or not at all
 pub run_refusals : (n first : ℕ) (rom events : List ℕ) (m : Machine) → RunNumber (runs n first rom events m).number

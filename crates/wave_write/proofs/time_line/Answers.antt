@@ -12,7 +12,7 @@ digits-m-requires c = simp length-set (omega arith)
 pub bounds-out-m : goal.bounds-out-m
 bounds-out-m c =
     let call = c.digits-m in
-    let size : length call.new.0 ≡ length c.args.out.now = simp length-set at call.auto.0 in
+    let size : length call.new.out ≡ length c.args.out.now = simp length-set at call.auto.out in
     let end = call.ensures.to in
     let most = digits_length 19 c.args.t in
     omega arith
@@ -20,10 +20,10 @@ bounds-out-m c =
 pub overflow_add-result : goal.overflow_add-result
 overflow_add-result c =
     let call = c.digits-m in
-    let size : length call.new.0 ≡ length c.args.out.now = simp length-set at call.auto.0 in
+    let size : length call.new.out ≡ length c.args.out.now = simp length-set at call.auto.out in
     let end = call.ensures.to in
     let most = digits_length 19 c.args.t in
-    record { fits = omega (arith, c.well-formed.0.0) }
+    omega (arith, c.well_formed.0.0)
 
 pub shape_of-out : goal.shape_of-out
 shape_of-out c = simp length-set (simp length-set at c.digits-m.auto.out)

@@ -12,7 +12,7 @@ bits-m-requires c = simp length-set (omega (arith, c.width_of.ensures.1))
 pub three_bytes-requires : goal.three_bytes-requires
 three_bytes-requires c =
     let call = c.bits-m in
-    let size : length call.new.0 ≡ length c.args.out.now = simp length-set at call.auto.0 in
+    let size : length call.new.out ≡ length c.args.out.now = simp length-set at call.auto.out in
     omega (arith, call.ensures.to, binary_length c.width_of.result c.aligned.result, c.width_of.ensures.1)
 
 pub shape_of-out : goal.shape_of-out

@@ -1,0 +1,10 @@
+-- `firmware_print::least` meets its contract.
+-- Assumes nothing.
+use borrow.Author.Tests.{lt-ltb, le-ltb}
+use Rattle.firmware_print.proofs.least.Goals as goal
+
+pub returns-then-a-b : goal.returns-then-a-b
+returns-then-a-b c = simp (lt-ltb _ _ c.if-a-b.true)
+
+pub returns-else-a-b : goal.returns-else-a-b
+returns-else-a-b c = simp (le-ltb _ _ c.if-a-b.false)
