@@ -6,9 +6,9 @@ use Rattle.case_run.proofs.Reading.{same, other}
 use Rattle.case_run.proofs.given.Goals as goal
 
 pub returns-then-meets : goal.returns-then-meets
-returns-then-meets c =  rw c.one_more.ensures
+returns-then-meets c = rw c.one_more.ensures
     (same _ _ _ _ _ (c.advance-done.ensures ∙ ap (advance _) c.decode.ensures.0) (sym c.meets.ensures ∙ c.if-meets.true))
 
 pub returns : goal.returns
-returns c =  c.stopped.ensures
+returns c = c.stopped.ensures
     ∙ other _ _ _ _ _ (c.advance-done.ensures ∙ ap (advance _) c.decode.ensures.0) (sym c.meets.ensures ∙ c.if-meets.false)

@@ -19,7 +19,7 @@ loop-left-preserved c =
     ∙ c.loop-left.invariant
 
 pub returns-else-goes_on : goal.returns-else-goes_on
-returns-else-goes_on c =     stays c.loop-left.left _ _ _ _ (sym c.goes_on.ensures ∙ c.if-goes_on.false) ∙ c.loop-left.invariant
+returns-else-goes_on c = stays c.loop-left.left _ _ _ _ (sym c.goes_on.ensures ∙ c.if-goes_on.false) ∙ c.loop-left.invariant
 
 pub returns : goal.returns
 returns c = none c.loop-left.left _ _ _ _ (search rules) ∙ c.loop-left.invariant

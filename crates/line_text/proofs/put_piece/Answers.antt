@@ -18,4 +18,4 @@ shape_of-buf c =
     put_size c.put.ensures (omega (arith, written_length 8 c.args.v)) ∙ n
 
 pub returns : goal.returns
-returns c =  piece_some _ _ _ _ _ c.if-v-eq0.false c.requires c.put.ensures
+returns c = piece_some _ _ _ _ _ c.if-v-eq0.false c.requires c.put.ensures

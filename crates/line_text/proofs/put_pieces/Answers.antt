@@ -21,10 +21,10 @@ pub loop-i-smaller : goal.loop-i-smaller
 loop-i-smaller c = omega arith
 
 pub loop-i-preserved : goal.loop-i-preserved
-loop-i-preserved c =     standing_next (search rules) c.requires c.loop-i.invariant c.put_piece-at.ensures
+loop-i-preserved c = standing_next (search rules) c.requires c.loop-i.invariant c.put_piece-at.ensures
 
 pub shape_of-buf : goal.shape_of-buf
 shape_of-buf c = standing_size c.loop-i.invariant c.requires
 
 pub returns : goal.returns
-returns c =     standing_last (search rules) c.loop-i.invariant
+returns c = standing_last (search rules) c.loop-i.invariant

@@ -12,7 +12,7 @@ pub loop-left-init : goal.loop-left-init
 loop-left-init c = refl
 
 pub loop-left-preserved : goal.loop-left-preserved
-loop-left-preserved c =     ap (λ (o : Outcome). run o.state (clocks (c.loop-left.left - 1))) c.answer-done.ensures
+loop-left-preserved c = ap (λ (o : Outcome). run o.state (clocks (c.loop-left.left - 1))) c.answer-done.ensures
     ∙ one_more c.loop-left.left c.loop-left.s (search rules)
     ∙ c.loop-left.invariant
 

@@ -9,7 +9,7 @@ pub loop-i-init : goal.loop-i-init
 loop-i-init c = begun _ _ _
 
 pub overflow_add-i : goal.overflow_add-i
-overflow_add-i c =     omega (arith, c.loop-i-test.true, c.well_formed.1.0.0)
+overflow_add-i c = omega (arith, c.loop-i-test.true, c.well_formed.1.0.0)
 
 pub loop-i-smaller : goal.loop-i-smaller
 loop-i-smaller c = omega (arith, c.loop-i-test.true)

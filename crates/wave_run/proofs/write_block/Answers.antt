@@ -7,7 +7,7 @@ use Rattle.wave_run.proofs.Blocks.{bytes_none, after_none, bytes_room, after_roo
 use Rattle.wave_run.proofs.write_block.Goals as goal
 
 pub returns-then-out-words : goal.returns-then-out-words
-returns-then-out-words c =     (rw (bytes_none _ c.args.run _ c.if-out-words.true) (wrote_none _ _), sym (after_none _ c.args.run _ c.if-out-words.true))
+returns-then-out-words c = (rw (bytes_none _ c.args.run _ c.if-out-words.true) (wrote_none _ _), sym (after_none _ c.args.run _ c.if-out-words.true))
 
 pub write_all-requires : goal.write_all-requires
 write_all-requires c = omega (arith, c.if-out-words.false)

@@ -19,5 +19,5 @@ pub shape_of-out : goal.shape_of-out
 shape_of-out c = simp length-set at (c.three_bytes.auto.out ∙ c.bits-m.auto.out)
 
 pub returns : goal.returns
-returns c =     rw (vector_text, ← c.width_of.ensures.0, ← c.aligned.ensures)
+returns c = rw (vector_text, ← c.width_of.ensures.0, ← c.aligned.ensures)
     (wrote_then (wrote_one _ _ 98) (wrote_then c.bits-m.ensures c.three_bytes.ensures))
