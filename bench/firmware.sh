@@ -11,7 +11,7 @@ work=$(mktemp -d)
 trap 'rm -rf "$work"' EXIT
 source scripts/library.sh
 program firmware
-library chip_capi firmware_capi
+library chip_capi firmware_capi_c
 cargo build --offline --quiet --release --features proved,area --bin firmware_compare
 
 # a row for each image; one with two lists of events has two ratios with them

@@ -9,7 +9,7 @@ cd "$(dirname "$0")/.."
 source scripts/library.sh
 front vcd vcd_capi
 front addresses addresses_capi
-front hosted firmware_capi chip_capi
+front hosted firmware_capi_c chip_capi
 work=$(mktemp -d)
 trap 'rm -rf "$work"' EXIT
 bad=0

@@ -89,7 +89,7 @@ same "$work/random.rom" 1 "$work/malformed"
 
 # the call for C, beside the same core
 if grep -qE '^firmware_capi( staticlib)?:' crates.txt; then
-    library firmware_capi
+    library firmware_capi_c
     cargo build --offline --quiet --release --features proved,area --bin firmware_compare
     target/cargo/release/firmware_compare
     library chip_capi
@@ -107,7 +107,7 @@ hosted() {
     [ "$status" = "$1" ] && [[ $(cat "$work/said") == $2 ]] || fail "${*:3}: status $status, told: $(cat "$work/said")"
 }
 if grep -qE '^firmware_capi( staticlib)?:' crates.txt; then
-    front hosted firmware_capi chip_capi
+    front hosted firmware_capi_c chip_capi
     hosts=0
     while read -r image list count; do
         hosted 0 '' --host "images/$list.host" --events "$work/list" "images/$image.rom"

@@ -16,7 +16,7 @@ replay_ceiling=138
 firmware_ceiling=104
 host_ceiling=163
 
-library chip_capi firmware_capi
+library chip_capi firmware_capi_c
 program replay
 cargo build --offline --quiet --release --features proved --bin bench --bin model
 cargo build --offline --quiet --release --features proved,area --bin firmware_compare

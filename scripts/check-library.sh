@@ -10,7 +10,7 @@ source scripts/library.sh
 whole_library
 front vcd vcd_capi
 front addresses addresses_capi
-front hosted firmware_capi chip_capi
+front hosted firmware_capi_c chip_capi
 for name in $(sed -n 's/^crate \([a-z0-9_]*\)$/\1/p' scripts/commands.txt); do
     [ ! -f "crates/$name/src/main.rt" ] || program "$name"
 done

@@ -7,5 +7,5 @@ source scripts/library.sh
 program vectors
 front vcd vcd_capi
 front addresses addresses_capi
-front hosted firmware_capi chip_capi
+front hosted firmware_capi_c chip_capi
 python3 scripts/readme.py README.md docs/COMMANDS.md docs/CAPTURES.md docs/FIRMWARE.md docs/CONTRIBUTING.md

@@ -13,14 +13,14 @@ made_or_told() (
     "$@" 2>&1
 )
 
-# library NAME..: target/staticlib/libNAME.a of each
+# library NAME..: target/staticlib/libNAME.a of each; of NAME_c it is libNAME.a
 library() {
     local name before
     for name in "$@"; do
-        before=$(sha256sum "target/staticlib/lib$name.a" 2> /dev/null) || true
+        before=$(sha256sum "target/staticlib/lib${name%_c}.a" 2> /dev/null) || true
         made_or_told proved_library "$name" || exit 1
         # cargo does not look into a library: where it is another one, the programs that link it are built anew
-        [ -z "$before" ] || [ "$before" = "$(sha256sum "target/staticlib/lib$name.a")" ] || awk -F '"' '/^name/ { name = $2 } /^required-features/ { print name }' Cargo.toml |
+        [ -z "$before" ] || [ "$before" = "$(sha256sum "target/staticlib/lib${name%_c}.a")" ] || awk -F '"' '/^name/ { name = $2 } /^required-features/ { print name }' Cargo.toml |
             while read -r program; do rm -f target/cargo/release/deps/"$program"-*; done
     done
 }

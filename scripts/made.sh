@@ -247,7 +247,7 @@ program_of() {
 }
 
 library_of() {
-    echo "$top/target/staticlib/lib$1.a"
+    echo "$top/target/staticlib/lib${1%_c}.a"
 }
 
 proved_program() {
@@ -306,9 +306,9 @@ built_front() { # FRONT CRATE..
 # ---- libnt6861: every call of include/nt6861.h in one library, static and shared. Each crate of the C interface stays an object of its own in it:
 # compiled together, they made the list call three times as slow (docs/PERFORMANCE.md).
 
-# interface_crates: the crates of the C interface
+# interface_crates: the static libraries of the C interface. One that another crate stands on is a library, and NAME_c its static library.
 interface_crates() {
-    sed -nE 's/^([a-z0-9_]*_capi)( staticlib)?:.*/\1/p' "$top/crates.txt"
+    sed -nE 's/^([a-z0-9_]*_capi(_c)?) staticlib:.*/\1/p' "$top/crates.txt"
 }
 
 # library_version: MAJOR.MINOR.PATCH, as include/nt6861.h has it

@@ -42,7 +42,7 @@ def manual(shown):
         ".I COMMAND",
         "[ARGUMENT ..]",
         ".SH DESCRIPTION",
-        "In the repository what a command runs is proved and built first, where that is not done yet, which takes some minutes and is told; installed, it runs at",
+        "In the repository what a command runs is proved and built first, where that is not done yet, which may take many minutes and is told; installed, it runs at",
         "once. A file that is not named is standard input. Errors are told on standard error, as nt6861 COMMAND: FILE: what.",
         ".SH COMMANDS",
     ]

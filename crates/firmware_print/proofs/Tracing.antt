@@ -1,11 +1,10 @@
 -- Instructions one by one, each with its lines.
 -- Assumes nothing.
 use Prim.Native.Nat.{ℕ, ◌+◌, ◌<◌, ◌≤◌}
-use mathlib.Core.Path.{◌≡◌, refl, sym, ◌∙◌}
-use mathlib.Core.Bool.{Bool, true, false, not}
+use mathlib.Core.Path.{◌≡◌, sym, ◌∙◌}
+use mathlib.Core.Bool.{Bool, true, false}
 use mathlib.Core.List.{List}
 use native.Mathlib.Omega.{arith}
-use borrow.Author.Tests.{not-true, not-false}
 use Rattle.firmware_trace.specs.declared.Run.{Run}
 use Rattle.firmware_trace.specs.Trace.{ran_on, ram_on}
 use Rattle.firmware_print.specs.Marked.{marked}
@@ -28,8 +27,8 @@ module _ (rom : List ℕ) (n : ℕ) (start : Run) (ram : List ℕ) (r : Run) (m 
     one_more : Traced rom start ram (i + 1) (marked q p) m'
     one_more = rw (e, f) (done i r m p h.traced h.followed)
 
-    pub stop : not b ≡ true → TracedTo rom n start ram (marked q p) m'
-    stop z = record { count = i + 1; traced = one_more; most = omega (arith, l); all = λ y. sym g ∙ not-true b z }
+    pub stop : b ≡ false → TracedTo rom n start ram (marked q p) m'
+    stop z = record { count = i + 1; traced = one_more; most = omega (arith, l); all = λ y. sym g ∙ z }
 
-    pub again : not b ≡ false → Tracing rom n start ram (marked q p) m' (i + 1)
-    again z = record { traced = one_more; most = omega (arith, l); followed = λ y. sym g ∙ not-false b z }
+    pub again : b ≡ true → Tracing rom n start ram (marked q p) m' (i + 1)
+    again z = record { traced = one_more; most = omega (arith, l); followed = λ y. sym g ∙ z }

@@ -1,0 +1,13 @@
+-- What `wave::finish` writes is within its buffer.
+-- Assumes nothing.
+use Rattle.std.proofs.Common.{sym}
+use Rattle.std.proofs.lemmas.List.{length-take-le}
+use Rattle.wave_write.proofs.Laws.{end_within}
+use Rattle.wave_run.proofs.Blocks.{ends_within}
+use Rattle.wave.proofs.finish.Goals as goal
+
+pub slice_bounds-text-end : goal.slice_bounds-text-end
+slice_bounds-text-end g c = ends_within (end_within _ _) c.finish-end.ensures
+
+pub slice_bounds-write-end : goal.slice_bounds-write-end
+slice_bounds-write-end g c = sym (length-take-le _ _ (ends_within (end_within _ _) c.finish-end.ensures))
