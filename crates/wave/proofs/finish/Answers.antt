@@ -6,8 +6,8 @@ use Rattle.wave_write.proofs.Laws.{end_within}
 use Rattle.wave_run.proofs.Blocks.{ends_within}
 use Rattle.wave.proofs.finish.Goals as goal
 
-pub slice_bounds-text-end : goal.slice_bounds-text-end
-slice_bounds-text-end g c = ends_within (end_within _ _) c.finish-end.ensures
-
 pub slice_bounds-write-end : goal.slice_bounds-write-end
-slice_bounds-write-end g c = sym (length-take-le _ _ (ends_within (end_within _ _) c.finish-end.ensures))
+slice_bounds-write-end g c = ends_within (end_within _ _) c.finish-end.ensures
+
+pub slice_bounds-write-end-2 : goal.slice_bounds-write-end-2
+slice_bounds-write-end-2 g c = sym (length-take-le _ _ (ends_within (end_within _ _) c.finish-end.ensures))
