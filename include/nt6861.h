@@ -9,7 +9,8 @@
  *   - Areas that are lent to one call must not overlap where one of them is written to. Those that are read alone may.
  *   - Pointers to uint16_t, uint32_t, uint64_t, size_t and double must be aligned for their type, as C asks; those to bytes need no alignment.
  *
- * The parts of the library are named below with their calls: a part NAME alone is made by `rt lib` in crates/NAME as out/libNAME.a there. */
+ * The parts of the library are named below with their calls: a part NAME alone is made by `rt lib` in crates/NAME as out/libNAME.a there, and
+ * firmware_capi in crates/firmware_capi_c. */
 #ifndef NT6861_H
 #define NT6861_H
 
