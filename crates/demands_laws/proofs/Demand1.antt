@@ -44,4 +44,4 @@ kept_by c words places true false w s n = absurd (n refl)
 pub refused_list_kept : (c : Chip) (words places : List ℕ) → ((run c words places).number ≡ 0 → ⊥)
     → ((run c words places).chip ≡ c) × (run_answers c words places ≡ places)
 refused_list_kept c words places n =
-    kept_by c words places (well_formed c) (ltb (length places) (length words)) refl refl (λ e. n (list_answered c words places ∙ e))
+    kept_by c words places (well_formed c) (ltb (length places) (length words)) refl refl (λ e. n (calls.number c words places ∙ e))
