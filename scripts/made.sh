@@ -79,7 +79,8 @@ sources_of() (
 identity() {
     local rt
     rt=$(type -P rt) || return 0
-    "$rt" version 2> /dev/null || echo unknown
+    # (`rt` reads nothing here, and does not start where its standard input is a folder)
+    "$rt" version < /dev/null 2> /dev/null || echo unknown
 }
 
 sum_of() {
