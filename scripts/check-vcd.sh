@@ -29,10 +29,10 @@ done
 # The dumps whose trace is computed in a proof are the stored ones.
 python3 - <<'PYTHON'
 import re, sys
-worked = re.findall(r'^(\w+)Dump =\n((?: .*\n)+)', open('crates/vcd_laws/specs/Worked.antt').read(), re.M)
+worked = re.findall(r'^(\w+)_dump =\n((?: .*\n)+)', open('crates/vcd_laws/specs/Worked.antt').read(), re.M)
 for name, listed in worked:
     if bytes(map(int, re.findall(r'\d+', listed))) != open(f'tests/vcd/{name}.vcd', 'rb').read():
-        sys.exit(f'vcd: {name}Dump of vcd_laws/specs/Worked.antt is not tests/vcd/{name}.vcd')
+        sys.exit(f'vcd: {name}_dump of vcd_laws/specs/Worked.antt is not tests/vcd/{name}.vcd')
 if len(worked) < 4:
     sys.exit(f'vcd: {len(worked)} dumps are found in vcd_laws/specs/Worked.antt')
 print(f'vcd: {len(worked)} dumps computed in a proof are the stored ones')

@@ -52,7 +52,7 @@ compare('recall.rom', rom, list(open(f'{images}/recall.rom', 'rb').read()), lamb
 
 # the lists
 counts = []
-for name, file in (('foreignEvents', 'recall-foreign'), ('ownEvents', 'recall-own')):
+for name, file in (('foreign_events', 'recall-foreign'), ('own_events', 'recall-own')):
     given = []
     for item in items('Lists.antt', name):
         part = re.fullmatch(r'event (\S+) (\S+)', item)
@@ -74,7 +74,7 @@ for line in open(f'{images}/runs.txt', encoding='ascii'):
     if words:
         stored[words[1]] = int(words[2])
 proof = open(f'{crate}/proofs/Files.antt', encoding='utf-8').read()
-for name, file in (('foreignEvents', 'recall-foreign'), ('ownEvents', 'recall-own')):
+for name, file in (('foreign_events', 'recall-foreign'), ('own_events', 'recall-own')):
     run = set(re.findall(r'\bruns ([0-9]+) 0 rom %s ' % name, proof))
     if run != {str(stored[file])}:
         bad.append(f'{file}: the theorems run {", ".join(sorted(run)) or "no"} instructions, images/runs.txt says {stored[file]}')
