@@ -17,19 +17,18 @@ pub struct AnswerFields {
 pub fn answer(number: u8, watchdog: bool, requests: u8, byte: u8) -> u32
     ensures { result ≡ answer_word number watchdog requests byte }
 {
-    let low = (requests as u32) * 256 + (byte as u32);
-    let reset = (bits::num(watchdog) as u32) * 65536;
-    (number as u32) * 16777216 + reset + low
+    u32::from_be_bytes([number, u8::from(watchdog), requests, byte])
 }
 
 // The parts of an answer word; bits 23..17 are not looked at.
 pub fn answer_fields(word: u32) -> AnswerFields
     ensures { result ≡ answer_fields word }
 {
+    let [number, reset, requests, byte] = word.to_be_bytes();
     AnswerFields {
-        number: (word / 16777216) as u8,
-        watchdog: word / 65536 % 2 == 1,
-        requests: (word / 256 % 256) as u8,
-        byte: (word % 256) as u8,
+        number,
+        watchdog: reset % 2 == 1,
+        requests,
+        byte,
     }
 }

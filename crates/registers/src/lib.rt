@@ -166,6 +166,7 @@ const TABLE: [u32; 38] = [
 ];
 
 // The address is that of a register.
+#[tactic(auto, unfolding(crate::specs::Table::is_register))]
 pub fn is_register(address: u8) -> bool
     ensures { result ≡ is_register address }
 {
@@ -176,12 +177,13 @@ pub fn is_register(address: u8) -> bool
 fn unpacked(n: u32) -> Row
     ensures { result ≡ unpacked_of n }
 {
+    let [reset, write, read, taken] = n.to_be_bytes();
     Row {
-        reset: (n / 16777216) as u8,
-        write: (n / 65536 % 256) as u8,
-        read: (n / 256 % 256) as u8,
-        writable: 1 < n % 256,
-        readable: n % 2 == 1,
+        reset,
+        write,
+        read,
+        writable: 1 < taken,
+        readable: taken % 2 == 1,
     }
 }
 
@@ -189,7 +191,7 @@ fn unpacked(n: u32) -> Row
 pub fn row_of(address: u8) -> Row
     ensures { result ≡ row_of address }
 {
-    let i = address as usize;
+    let i = usize::from(address);
     if i < 38 {
         unpacked(TABLE[i])
     } else {
@@ -198,14 +200,15 @@ pub fn row_of(address: u8) -> Row
 }
 
 // The value that a reset gives.
+#[tactic(auto, unfolding(crate::specs::Table::reset_value))]
 pub fn reset_value(address: u8) -> u8
     ensures { result ≡ reset_value address }
 {
-    let row = row_of(address);
-    row.reset
+    row_of(address).reset
 }
 
 // The bits that a write changes, register by register in the order of the sheet.
+#[tactic(auto, using(crate::proofs::Rules::mask_choice_lem), unfolding(crate::specs::Table::mask_choice))]
 pub fn write_mask(address: u8) -> u8
     ensures { result ≡ write_mask address }
 {
@@ -251,12 +254,8 @@ pub fn resets() -> [u8; 38]
     ensures { result ≡ resets_of }
 {
     let mut registers = [0u8; 38];
-    let mut i: u8 = 0;
-    while i < 38 {
-        let value = reset_value(i);
-        let at = i as usize;
-        registers[at] = value;
-        i = i + 1;
+    for i in 0..38u8 {
+        registers[usize::from(i)] = reset_value(i);
     }
     registers
 }

@@ -1,7 +1,6 @@
 -- `registers::resets` meets its contract: the loop fills the array with the reset values.
 -- Assumes nothing.
 use mathlib.Core.Path.{◌≡◌, refl, sym, ◌∙◌}
-use Prim.Native.Nat.{◌-◌}
 use native.Mathlib.Omega.{arith}
 use Rattle.registers.specs.Table.{resets}
 use Rattle.registers.proofs.Filled.{filled_none, filled_more, filled_all}
@@ -11,16 +10,11 @@ use Rattle.registers.proofs.resets.Goals as goal
 pub loop-i-init : goal.loop-i-init
 loop-i-init c = filled_none resets 38 _ refl resets_length
 
-pub overflow_add-i : goal.overflow_add-i
-overflow_add-i c = omega arith
-
-pub loop-i-smaller : goal.loop-i-smaller
-loop-i-smaller c = omega arith
-
 pub loop-i-preserved : goal.loop-i-preserved
 loop-i-preserved c =
     let l = c.loop-i in
-    filled_more resets 38 l.registers l.i _ l.invariant c.loop-i-test.true (c.reset_value-value.ensures ∙ sym (resets_at l.i))
+    rw c.from.ensures
+    (filled_more resets 38 l.registers l.i _ l.invariant (omega arith) (c.reset_value.ensures ∙ sym (resets_at l.i)))
 
 pub returns : goal.returns
 returns c =
