@@ -51,38 +51,39 @@ const COUNT_LAST: u16 = 4095;
 const INTERVAL_LAST: u16 = 1023;
 
 // HCNT steps.
+#[tactic(auto, unfolding(crate::specs::Sync::step_lines))]
 pub fn step_lines(c: LineCounter) -> LineCounter
     ensures { result ≡ step_lines c }
 {
-    let latch = c.latch;
     LineCounter {
         count: Lines(counters::counted(COUNT_LAST, c.overflow, c.count.0)),
-        latch,
         overflow: counters::overflowed(COUNT_LAST, c.overflow, c.count.0),
+        ..c
     }
 }
 
 // HCNT is latched and zeroed.
+#[tactic(auto, unfolding(crate::specs::Sync::latch_lines))]
 pub fn latch_lines(c: LineCounter) -> LineCounter
     ensures { result ≡ latch_lines c }
 {
     LineCounter {
         count: Lines(counters::zeroed(c.overflow, c.count.0)),
         latch: LatchedLines(counters::latched(c.overflow, c.count.0, c.latch.0)),
-        overflow: c.overflow,
+        ..c
     }
 }
 
 // CLRFLG bit 7: a 1 clears HCNTOV and sets HCNT to 0.
+#[tactic(auto, unfolding(crate::specs::Sync::clear_lines))]
 pub fn clear_lines(bit: bool, c: LineCounter) -> LineCounter
     ensures { result ≡ clear_lines bit c }
 {
     if bit {
-        let latch = c.latch;
         LineCounter {
             count: Lines(0),
-            latch,
             overflow: false,
+            ..c
         }
     } else {
         c
@@ -90,50 +91,50 @@ pub fn clear_lines(bit: bool, c: LineCounter) -> LineCounter
 }
 
 // HCNT where HSEL goes from 1 to 0: zeroed, in overflow too.
+#[tactic(auto, unfolding(crate::specs::Sync::zero_lines))]
 pub fn zero_lines(c: LineCounter) -> LineCounter
     ensures { result ≡ zero_lines c }
 {
-    let latch = c.latch;
     LineCounter {
         count: Lines(0),
-        latch,
-        overflow: c.overflow,
+        ..c
     }
 }
 
 // VCNT steps.
+#[tactic(auto, unfolding(crate::specs::Sync::step_periods))]
 pub fn step_periods(c: PeriodCounter) -> PeriodCounter
     ensures { result ≡ step_periods c }
 {
-    let latch = c.latch;
     PeriodCounter {
         count: Periods(counters::counted(COUNT_LAST, c.overflow, c.count.0)),
-        latch,
         overflow: counters::overflowed(COUNT_LAST, c.overflow, c.count.0),
+        ..c
     }
 }
 
 // VCNT is latched and zeroed.
+#[tactic(auto, unfolding(crate::specs::Sync::latch_periods))]
 pub fn latch_periods(c: PeriodCounter) -> PeriodCounter
     ensures { result ≡ latch_periods c }
 {
     PeriodCounter {
         count: Periods(counters::zeroed(c.overflow, c.count.0)),
         latch: LatchedPeriods(counters::latched(c.overflow, c.count.0, c.latch.0)),
-        overflow: c.overflow,
+        ..c
     }
 }
 
 // CLRFLG bit 6: a 1 clears VCNTOV and sets VCNT to 0.
+#[tactic(auto, unfolding(crate::specs::Sync::clear_periods))]
 pub fn clear_periods(bit: bool, c: PeriodCounter) -> PeriodCounter
     ensures { result ≡ clear_periods bit c }
 {
     if bit {
-        let latch = c.latch;
         PeriodCounter {
             count: Periods(0),
-            latch,
             overflow: false,
+            ..c
         }
     } else {
         c
@@ -141,19 +142,18 @@ pub fn clear_periods(bit: bool, c: PeriodCounter) -> PeriodCounter
 }
 
 // A rise of HSYNCI.
+#[tactic(auto, unfolding(crate::specs::Sync::on_hsync))]
 pub fn on_hsync(s: Sync) -> Sync
     ensures { result ≡ on_hsync s }
 {
-    let lines = s.lines;
-    let periods = s.periods;
     Sync {
-        lines: step_lines(lines),
-        periods,
-        interval: s.interval,
+        lines: step_lines(s.lines),
+        ..s
     }
 }
 
 // HCNT at a rise of VSYNCI.
+#[tactic(auto, unfolding(crate::specs::Sync::lines_on_vsync))]
 pub fn lines_on_vsync(hsel: bool, c: LineCounter) -> LineCounter
     ensures { result ≡ lines_on_vsync hsel c }
 {
@@ -161,19 +161,19 @@ pub fn lines_on_vsync(hsel: bool, c: LineCounter) -> LineCounter
 }
 
 // A rise of VSYNCI.
+#[tactic(auto, unfolding(crate::specs::Sync::on_vsync))]
 pub fn on_vsync(hsel: bool, s: Sync) -> Sync
     ensures { result ≡ on_vsync hsel s }
 {
-    let lines = s.lines;
-    let periods = s.periods;
     Sync {
-        lines: lines_on_vsync(hsel, lines),
-        periods: latch_periods(periods),
-        interval: s.interval,
+        lines: lines_on_vsync(hsel, s.lines),
+        periods: latch_periods(s.periods),
+        ..s
     }
 }
 
 // The interval after an 8 µs clock.
+#[tactic(auto, unfolding(crate::specs::Sync::interval_next))]
 pub fn interval_next(hsel: bool, n: u16) -> u16
     ensures { result ≡ interval_next hsel n }
 {
@@ -185,55 +185,55 @@ pub fn interval_next(hsel: bool, n: u16) -> u16
 }
 
 // HCNT at an 8 µs clock: the 1,024th ends the interval.
+#[tactic(auto, unfolding(crate::specs::Sync::lines_on_period))]
 pub fn lines_on_period(hsel: bool, n: u16, c: LineCounter) -> LineCounter
     ensures { result ≡ lines_on_period hsel n c }
 {
-    if hsel {
-        return c;
+    if hsel || n < INTERVAL_LAST {
+        c
+    } else {
+        latch_lines(c)
     }
-    if n < INTERVAL_LAST { c } else { latch_lines(c) }
 }
 
 // An 8 µs clock.
+#[tactic(auto, unfolding(crate::specs::Sync::on_period))]
 pub fn on_period(hsel: bool, s: Sync) -> Sync
     ensures { result ≡ on_period hsel s }
 {
-    let lines = s.lines;
-    let periods = s.periods;
     Sync {
-        lines: lines_on_period(hsel, s.interval, lines),
-        periods: step_periods(periods),
+        lines: lines_on_period(hsel, s.interval, s.lines),
+        periods: step_periods(s.periods),
         interval: interval_next(hsel, s.interval),
     }
 }
 
 // HSEL has changed from 1 to 0.
+#[tactic(auto, unfolding(crate::specs::Sync::hsel_cleared))]
 pub fn hsel_cleared(s: Sync) -> Sync
     ensures { result ≡ hsel_cleared s }
 {
-    let lines = s.lines;
-    let periods = s.periods;
     Sync {
-        lines: zero_lines(lines),
-        periods,
+        lines: zero_lines(s.lines),
         interval: 0,
+        ..s
     }
 }
 
 // CLRFLG written with these bits 7 and 6.
+#[tactic(auto, unfolding(crate::specs::Sync::clear_overflow))]
 pub fn clear_overflow(h: bool, v: bool, s: Sync) -> Sync
     ensures { result ≡ clear_overflow h v s }
 {
-    let lines = s.lines;
-    let periods = s.periods;
     Sync {
-        lines: clear_lines(h, lines),
-        periods: clear_periods(v, periods),
-        interval: s.interval,
+        lines: clear_lines(h, s.lines),
+        periods: clear_periods(v, s.periods),
+        ..s
     }
 }
 
 // All zero, as after a reset.
+#[tactic(auto, unfolding(crate::specs::Sync::zero_sync))]
 pub fn zero_sync() -> Sync
     ensures { result ≡ zero_sync }
 {
@@ -253,6 +253,7 @@ pub fn zero_sync() -> Sync
 }
 
 // Counts, latches and interval are within their ranges.
+#[tactic(auto, unfolding(crate::specs::Sync::well_sync))]
 pub fn well_sync(s: Sync) -> bool
     ensures { result ≡ well_sync s }
 {
