@@ -84,14 +84,15 @@ pub struct Shifter {
 pub fn edge_between(old: bool, new: bool) -> Edge
     ensures { result ≡ edge old new }
 {
-    if old {
-        if new { Edge::Flat } else { Edge::Fall }
-    } else {
-        if new { Edge::Rise } else { Edge::Flat }
+    match (old, new) {
+        (false, true) => Edge::Rise,
+        (true, false) => Edge::Fall,
+        _ => Edge::Flat,
     }
 }
 
 // The mode by ENDDC of II STS and MD1/2 of MDCON.
+#[tactic(auto, unfolding(crate::specs::Bus::mode))]
 pub fn mode_of(status: u8, mdcon: u8) -> Mode
     ensures { result ≡ mode status mdcon }
 {
@@ -116,6 +117,7 @@ fn mode_number(mode: Mode) -> u8
 }
 
 // The two modes differ.
+#[tactic(auto, unfolding(crate::specs::Bus::changes_mode))]
 pub fn changes_mode(old: Mode, new: Mode) -> bool
     ensures { result ≡ changes_mode old new }
 {
@@ -126,108 +128,54 @@ pub fn changes_mode(old: Mode, new: Mode) -> bool
 pub fn line_level(pulled: bool, level: bool) -> bool
     ensures { result ≡ line pulled level }
 {
-    if pulled { false } else { level }
+    level && !pulled
 }
 
 // A transmit pulls SDA at this count.
+#[tactic(auto, unfolding(crate::specs::Bus::pulls_at_bit))]
 pub fn pulls_at_bit(count: u8, byte: u8) -> bool
     ensures { result ≡ pulls_at_bit count byte }
 {
-    if count < 9 {
-        !bits::bit(8 - count, byte)
-    } else {
-        false
-    }
+    count < 9 && !bits::bit(8 - count, byte)
 }
 
 // The phase pulls SDA.
+#[tactic(auto, unfolding(crate::specs::Bus::pulls_sda))]
 pub fn pulls_sda(phase: Phase) -> bool
     ensures { result ≡ pulls_sda phase }
 {
     match phase {
-        Phase::Idle => false,
-        Phase::Address { count: _, bits: _ } => false,
-        Phase::Addressed {
-            matched: _,
-            bits: _,
-            ninth,
-        } => ninth,
-        Phase::Ignoring => false,
-        Phase::Receive {
-            matched: _,
-            count,
-            bits: _,
-        } => count == 9,
-        Phase::Transmit {
-            matched: _,
-            count,
-            byte,
-        } => pulls_at_bit(count, byte),
-        Phase::Held {
-            matched: _,
-            clocks: _,
-        } => false,
+        Phase::Addressed { ninth, .. } => ninth,
+        Phase::Receive { count, .. } => count == 9,
+        Phase::Transmit { count, byte, .. } => pulls_at_bit(count, byte),
+        _ => false,
     }
 }
 
 // The phase pulls SCL.
+#[tactic(auto, unfolding(crate::specs::Bus::pulls_scl))]
 pub fn pulls_scl(phase: Phase) -> bool
     ensures { result ≡ pulls_scl phase }
 {
-    match phase {
-        Phase::Idle => false,
-        Phase::Address { count: _, bits: _ } => false,
-        Phase::Addressed {
-            matched: _,
-            bits: _,
-            ninth: _,
-        } => false,
-        Phase::Ignoring => false,
-        Phase::Receive {
-            matched: _,
-            count: _,
-            bits: _,
-        } => false,
-        Phase::Transmit {
-            matched: _,
-            count: _,
-            byte: _,
-        } => false,
-        Phase::Held {
-            matched: _,
-            clocks: _,
-        } => true,
-    }
+    matches!(phase, Phase::Held { .. })
 }
 
 // The outcome of the comparison that the phase keeps.
+#[tactic(auto, unfolding(crate::specs::Bus::compared_in))]
 pub fn compared_in(phase: Phase) -> Comparison
     ensures { result ≡ compared_in phase }
 {
     match phase {
-        Phase::Idle => Comparison::None,
-        Phase::Address { count: _, bits: _ } => Comparison::None,
-        Phase::Addressed {
-            matched,
-            bits: _,
-            ninth: _,
-        } => Comparison::Own(matched),
-        Phase::Ignoring => Comparison::None,
-        Phase::Receive {
-            matched,
-            count: _,
-            bits: _,
-        } => Comparison::Own(matched),
-        Phase::Transmit {
-            matched,
-            count: _,
-            byte: _,
-        } => Comparison::Own(matched),
-        Phase::Held { matched, clocks: _ } => Comparison::Own(matched),
+        Phase::Addressed { matched, .. }
+        | Phase::Receive { matched, .. }
+        | Phase::Transmit { matched, .. }
+        | Phase::Held { matched, .. } => Comparison::Own(matched),
+        _ => Comparison::None,
     }
 }
 
 // SDA is pulled, in a mode with its phase and shift register.
+#[tactic(auto, unfolding(crate::specs::Bus::mode, crate::specs::Bus::sda_pulled))]
 pub fn sda_pulled(mode: Mode, phase: Phase, s: Shifter) -> bool
     ensures { result ≡ sda_pulled mode phase s }
 {
@@ -239,17 +187,18 @@ pub fn sda_pulled(mode: Mode, phase: Phase, s: Shifter) -> bool
 }
 
 // SCL is pulled, in a mode with its phase.
+#[tactic(auto, unfolding(crate::specs::Bus::mode, crate::specs::Bus::scl_pulled))]
 pub fn scl_pulled(mode: Mode, phase: Phase) -> bool
     ensures { result ≡ scl_pulled mode phase }
 {
     match mode {
-        Mode::Off => false,
-        Mode::Ddc1 => false,
+        Mode::Off | Mode::Ddc1 => false,
         Mode::Ddc2b => pulls_scl(phase),
     }
 }
 
 // A rise of VSYNCI loads the shift register.
+#[tactic(auto, unfolding(crate::specs::Ddc1::loads_at_rise))]
 pub fn loads_at_rise(s: Shifter) -> bool
     ensures { result ≡ loads_at_rise s }
 {
@@ -257,11 +206,11 @@ pub fn loads_at_rise(s: Shifter) -> bool
 }
 
 // The shift register after a rise of VSYNCI.
+#[tactic(auto, unfolding(crate::specs::Ddc1::shifter_at_rise, crate::specs::Ddc1::loads_at_rise))]
 pub fn shifter_at_rise(byte: u8, s: Shifter) -> Shifter
     ensures { result ≡ shifter_at_rise byte s }
 {
-    let edges = s.edges;
-    if edges == 0 {
+    if loads_at_rise(s) {
         Shifter {
             register: byte,
             edges: 8,
@@ -269,7 +218,7 @@ pub fn shifter_at_rise(byte: u8, s: Shifter) -> Shifter
     } else {
         Shifter {
             register: s.register % 128 * 2 + 1,
-            edges: edges - 1,
+            edges: s.edges - 1,
         }
     }
 }

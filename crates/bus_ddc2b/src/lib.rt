@@ -31,22 +31,16 @@ pub struct Fallen {
 fn comparison(a0: bool, own: bool) -> Comparison
     ensures { result ≡ comparison_of a0 own }
 {
-    if a0 {
-        if own {
-            Comparison::Own(OwnAddress::Both)
-        } else {
-            Comparison::Own(OwnAddress::A0)
-        }
-    } else {
-        if own {
-            Comparison::Own(OwnAddress::IiAdr)
-        } else {
-            Comparison::None
-        }
+    match (a0, own) {
+        (true, true) => Comparison::Own(OwnAddress::Both),
+        (true, false) => Comparison::Own(OwnAddress::A0),
+        (false, true) => Comparison::Own(OwnAddress::IiAdr),
+        (false, false) => Comparison::None,
     }
 }
 
 // Which of the chip's addresses this is, A0H or that of II ADR, the direction bit left aside.
+#[tactic(auto, unfolding(crate::specs::Ddc2b::compared))]
 pub fn compared(own: u8, byte: u8) -> Comparison
     ensures { result ≡ compared_of own byte }
 {
@@ -54,55 +48,50 @@ pub fn compared(own: u8, byte: u8) -> Comparison
 }
 
 // The bits gathered with SDA entering lowest.
+#[tactic(auto, unfolding(crate::specs::Ddc2b::gathered))]
 pub fn gathered(bits: u8, sda: bool) -> u8
     ensures { result ≡ gathered_bits bits sda }
 {
-    let shifted = bits % 128 * 2;
-    if sda { shifted + 1 } else { shifted }
+    bits % 128 * 2 + u8::from(sda)
 }
 
 fn address_completed(outcome: Comparison, iists: u8, byte: u8) -> Risen
     ensures { result ≡ risen (addressed outcome byte) iists byte (weight_if (is_own outcome) INTA) }
 {
     match outcome {
-        Comparison::None => Risen {
-            phase: Phase::Ignoring,
-            iists: iists,
-            iidat: byte,
-            flags: 0,
-        },
+        Comparison::None => unmoved(Phase::Ignoring, iists, byte),
         Comparison::Own(matched) => Risen {
-            phase: Phase::Addressed {
-                matched: matched,
-                bits: byte,
-                ninth: false,
-            },
-            iists: iists,
-            iidat: byte,
             flags: 1 << INTA,
+            ..unmoved(
+                Phase::Addressed {
+                    matched,
+                    bits: byte,
+                    ninth: false,
+                },
+                iists,
+                byte,
+            )
         },
     }
 }
 
+#[tactic(auto, unfolding(crate::specs::Ddc2b::at_rise, crate::specs::Ddc2b::phase_at_rise, crate::specs::Ddc2b::status_at_rise, crate::specs::Ddc2b::data_at_rise, crate::specs::Ddc2b::matches_at_rise))]
 fn address_at_rise(own: u8, sda: bool, iists: u8, iidat: u8, count: u8, bits: u8) -> Risen
     ensures { result ≡ at_rise own sda iists iidat (Phase.Address count bits) }
 {
     let byte = gathered(bits, sda);
     if count < 7 {
-        Risen {
-            phase: Phase::Address {
-                count: count + 1,
-                bits: byte,
-            },
-            iists: iists,
-            iidat: iidat,
-            flags: 0,
-        }
+        let phase = Phase::Address {
+            count: count + 1,
+            bits: byte,
+        };
+        unmoved(phase, iists, iidat)
     } else {
         address_completed(compared(own, byte), iists, byte)
     }
 }
 
+#[tactic(auto, unfolding(crate::specs::Ddc2b::at_rise, crate::specs::Ddc2b::phase_at_rise, crate::specs::Ddc2b::status_at_rise, crate::specs::Ddc2b::data_at_rise, crate::specs::Ddc2b::matches_at_rise))]
 fn receive_at_rise(
     own: u8,
     sda: bool,
@@ -116,30 +105,23 @@ fn receive_at_rise(
 {
     if count < 8 {
         let byte = gathered(bits, sda);
-        Risen {
-            phase: Phase::Receive {
-                matched: matched,
-                count: count + 1,
-                bits: byte,
-            },
-            iists: iists,
-            iidat: if count == 7 { byte } else { iidat },
-            flags: 0,
-        }
+        let phase = Phase::Receive {
+            matched,
+            count: count + 1,
+            bits: byte,
+        };
+        unmoved(phase, iists, if count == 7 { byte } else { iidat })
     } else {
-        Risen {
-            phase: Phase::Receive {
-                matched: matched,
-                count: count,
-                bits: bits,
-            },
-            iists: iists,
-            iidat: iidat,
-            flags: 0,
-        }
+        let phase = Phase::Receive {
+            matched,
+            count,
+            bits,
+        };
+        unmoved(phase, iists, iidat)
     }
 }
 
+#[tactic(auto, unfolding(crate::specs::Ddc2b::at_rise, crate::specs::Ddc2b::phase_at_rise, crate::specs::Ddc2b::status_at_rise, crate::specs::Ddc2b::data_at_rise, crate::specs::Ddc2b::matches_at_rise))]
 fn transmit_at_rise(
     own: u8,
     sda: bool,
@@ -152,27 +134,19 @@ fn transmit_at_rise(
     ensures { result ≡ at_rise own sda iists iidat (Phase.Transmit matched count byte) }
 {
     if count == 9 {
-        Risen {
-            phase: Phase::Transmit {
-                matched: matched,
-                count: 10,
-                byte: byte,
-            },
-            iists: bits::with_bit(iists, RXAK, sda),
-            iidat: iidat,
-            flags: 0,
-        }
+        let phase = Phase::Transmit {
+            matched,
+            count: 10,
+            byte,
+        };
+        unmoved(phase, bits::with_bit(iists, RXAK, sda), iidat)
     } else {
-        Risen {
-            phase: Phase::Transmit {
-                matched: matched,
-                count: count,
-                byte: byte,
-            },
-            iists: iists,
-            iidat: iidat,
-            flags: 0,
-        }
+        let phase = Phase::Transmit {
+            matched,
+            count,
+            byte,
+        };
+        unmoved(phase, iists, iidat)
     }
 }
 
@@ -180,26 +154,20 @@ fn unmoved(phase: Phase, iists: u8, iidat: u8) -> Risen
     ensures { result ≡ risen phase iists iidat 0 }
 {
     Risen {
-        phase: phase,
-        iists: iists,
-        iidat: iidat,
+        phase,
+        iists,
+        iidat,
         flags: 0,
     }
 }
 
 // A rise of the SCL line, at the SDA line's level, with II ADR as `own`: an address and a receive gather SDA, a transmit takes RXAK.
+#[tactic(auto, unfolding(crate::specs::Ddc2b::at_rise, crate::specs::Ddc2b::phase_at_rise, crate::specs::Ddc2b::status_at_rise, crate::specs::Ddc2b::data_at_rise, crate::specs::Ddc2b::matches_at_rise))]
 pub fn at_rise(own: u8, sda: bool, iists: u8, iidat: u8, phase: Phase) -> Risen
     ensures { result ≡ at_rise own sda iists iidat phase }
 {
     match phase {
-        Phase::Idle => unmoved(phase, iists, iidat),
         Phase::Address { count, bits } => address_at_rise(own, sda, iists, iidat, count, bits),
-        Phase::Addressed {
-            matched: _,
-            bits: _,
-            ninth: _,
-        } => unmoved(phase, iists, iidat),
-        Phase::Ignoring => unmoved(phase, iists, iidat),
         Phase::Receive {
             matched,
             count,
@@ -210,14 +178,12 @@ pub fn at_rise(own: u8, sda: bool, iists: u8, iidat: u8, phase: Phase) -> Risen
             count,
             byte,
         } => transmit_at_rise(own, sda, iists, iidat, matched, count, byte),
-        Phase::Held {
-            matched: _,
-            clocks: _,
-        } => unmoved(phase, iists, iidat),
+        _ => unmoved(phase, iists, iidat),
     }
 }
 
 // A received byte is acknowledged: TXAK of II STS is 0.
+#[tactic(auto, unfolding(crate::specs::Ddc2b::acknowledges))]
 pub fn acknowledges(status: u8) -> bool
     ensures { result ≡ acknowledges_of status }
 {
@@ -235,10 +201,7 @@ fn held(matched: OwnAddress) -> Fallen
     ensures { result ≡ fallen (Phase.Held matched 0) true }
 {
     Fallen {
-        phase: Phase::Held {
-            matched: matched,
-            clocks: 0,
-        },
+        phase: Phase::Held { matched, clocks: 0 },
         flags: (1 << INTS) | (1 << INTD),
     }
 }
@@ -248,11 +211,12 @@ fn moved(phase: Phase) -> Fallen
     ensures { result ≡ fallen phase false }
 {
     Fallen {
-        phase: phase,
+        phase,
         flags: 1 << INTS,
     }
 }
 
+#[tactic(auto, unfolding(crate::specs::Ddc2b::at_fall, crate::specs::Ddc2b::phase_at_fall, crate::specs::Ddc2b::holds_at_fall))]
 fn addressed_at_fall(status: u8, matched: OwnAddress, bits: u8, ninth: bool) -> Fallen
     ensures { result ≡ at_fall status (Phase.Addressed matched bits ninth) }
 {
@@ -260,68 +224,56 @@ fn addressed_at_fall(status: u8, matched: OwnAddress, bits: u8, ninth: bool) -> 
         held(matched)
     } else {
         moved(Phase::Addressed {
-            matched: matched,
-            bits: bits,
+            matched,
+            bits,
             ninth: true,
         })
     }
 }
 
+#[tactic(auto, unfolding(crate::specs::Ddc2b::at_fall, crate::specs::Ddc2b::phase_at_fall, crate::specs::Ddc2b::holds_at_fall))]
 fn receive_at_fall(status: u8, matched: OwnAddress, count: u8, bits: u8) -> Fallen
     ensures { result ≡ at_fall status (Phase.Receive matched count bits) }
 {
     if 8 < count {
         return held(matched);
     }
-    if count == 8 {
-        moved(Phase::Receive {
-            matched: matched,
-            count: ninth_clock(status),
-            bits: bits,
-        })
-    } else {
-        moved(Phase::Receive {
-            matched: matched,
-            count: count,
-            bits: bits,
-        })
-    }
+    moved(Phase::Receive {
+        matched,
+        count: if count == 8 {
+            ninth_clock(status)
+        } else {
+            count
+        },
+        bits,
+    })
 }
 
+#[tactic(auto, unfolding(crate::specs::Ddc2b::at_fall, crate::specs::Ddc2b::phase_at_fall, crate::specs::Ddc2b::holds_at_fall))]
 fn transmit_at_fall(status: u8, matched: OwnAddress, count: u8, byte: u8) -> Fallen
     ensures { result ≡ at_fall status (Phase.Transmit matched count byte) }
 {
     if count == 10 {
         return held(matched);
     }
-    if count < 9 {
-        moved(Phase::Transmit {
-            matched: matched,
-            count: count + 1,
-            byte: byte,
-        })
-    } else {
-        moved(Phase::Transmit {
-            matched: matched,
-            count: count,
-            byte: byte,
-        })
-    }
+    moved(Phase::Transmit {
+        matched,
+        count: if count < 9 { count + 1 } else { count },
+        byte,
+    })
 }
 
 // A fall of the SCL line, at this II STS: after eight bits the ninth clock begins, and the next fall takes hold of SCL.
+#[tactic(auto, unfolding(crate::specs::Ddc2b::at_fall, crate::specs::Ddc2b::phase_at_fall, crate::specs::Ddc2b::holds_at_fall))]
 pub fn at_fall(status: u8, phase: Phase) -> Fallen
     ensures { result ≡ at_fall status phase }
 {
     match phase {
-        Phase::Idle => moved(phase),
-        Phase::Address { count: _, bits: _ } => moved(phase),
         Phase::Addressed {
             matched,
             bits,
             ninth,
         } => addressed_at_fall(status, matched, bits, ninth),
-        Phase::Ignoring => moved(phase),
         Phase::Receive {
             matched,
             count,
@@ -332,62 +284,45 @@ pub fn at_fall(status: u8, phase: Phase) -> Fallen
             count,
             byte,
         } => transmit_at_fall(status, matched, count, byte),
-        Phase::Held {
-            matched: _,
-            clocks: _,
-        } => moved(phase),
+        _ => moved(phase),
     }
 }
 
 // One clock of 8 µs more, up to 65,535.
+#[tactic(auto, unfolding(crate::specs::Ddc2b::held_longer))]
 fn held_longer(clocks: u16) -> u16
     ensures { result ≡ held_longer clocks }
 {
-    if clocks < 65535 { clocks + 1 } else { clocks }
+    clocks.saturating_add(1)
 }
 
 // The phase after a clock of 8 µs: a hold has lasted one more.
+#[tactic(auto, unfolding(crate::specs::Ddc2b::phase_at_period))]
 pub fn phase_at_period(phase: Phase) -> Phase
     ensures { result ≡ phase_at_period phase }
 {
     match phase {
-        Phase::Idle => phase,
-        Phase::Address { count: _, bits: _ } => phase,
-        Phase::Addressed {
-            matched: _,
-            bits: _,
-            ninth: _,
-        } => phase,
-        Phase::Ignoring => phase,
-        Phase::Receive {
-            matched: _,
-            count: _,
-            bits: _,
-        } => phase,
-        Phase::Transmit {
-            matched: _,
-            count: _,
-            byte: _,
-        } => phase,
         Phase::Held { matched, clocks } => Phase::Held {
-            matched: matched,
+            matched,
             clocks: held_longer(clocks),
         },
+        _ => phase,
     }
 }
 
+#[tactic(auto, unfolding(crate::specs::Ddc2b::phase_let_go))]
 fn next_byte(matched: OwnAddress, trx: bool, byte: u8) -> Phase
     ensures { result ≡ phase_let_go (Comparison.Own matched) trx byte }
 {
     if trx {
         Phase::Transmit {
-            matched: matched,
+            matched,
             count: 1,
-            byte: byte,
+            byte,
         }
     } else {
         Phase::Receive {
-            matched: matched,
+            matched,
             count: 0,
             bits: 0,
         }
@@ -395,6 +330,7 @@ fn next_byte(matched: OwnAddress, trx: bool, byte: u8) -> Phase
 }
 
 // The phase once SCL is let go, in a transfer with this outcome.
+#[tactic(auto, unfolding(crate::specs::Ddc2b::phase_let_go))]
 pub fn phase_let_go(outcome: Comparison, trx: bool, byte: u8) -> Phase
     ensures { result ≡ phase_let_go outcome trx byte }
 {
