@@ -70,9 +70,9 @@ fn idle_bus(iists: u8, iiadr: u8, iidat: u8) -> Bus
     ensures { result ≡ idle_bus iists iiadr iidat }
 {
     Bus {
-        iists: iists,
-        iiadr: iiadr,
-        iidat: iidat,
+        iists,
+        iiadr,
+        iidat,
         phase: Phase::Idle,
         shifter: Shifter {
             register: 255,
@@ -82,6 +82,7 @@ fn idle_bus(iists: u8, iiadr: u8, iidat: u8) -> Bus
 }
 
 // The bus after a change of mode: lines released, no transfer, ones in the shift register, nine edges left.
+#[tactic(auto, unfolding(crate::specs::State::released))]
 pub fn released(b: Bus) -> Bus
     ensures { result ≡ released_of b }
 {
@@ -93,229 +94,67 @@ pub fn released(b: Bus) -> Bus
 pub fn with_irqx(c: Core, irqx: u8) -> Core
     ensures { result ≡ with_irqx c irqx }
 {
-    let sync = c.sync;
-    let bus = c.bus;
-    let pins = c.pins;
-    Core {
-        irqx: irqx,
-        mdcon: c.mdcon,
-        polarity: c.polarity,
-        bt: c.bt,
-        watchdog: c.watchdog,
-        sync: sync,
-        bus: bus,
-        pins: pins,
-        sda: c.sda,
-        scl: c.scl,
-        reset: c.reset,
-    }
+    Core { irqx, ..c }
 }
 
 pub fn with_mdcon(c: Core, mdcon: u8) -> Core
     ensures { result ≡ with_mdcon c mdcon }
 {
-    let sync = c.sync;
-    let bus = c.bus;
-    let pins = c.pins;
-    Core {
-        irqx: c.irqx,
-        mdcon: mdcon,
-        polarity: c.polarity,
-        bt: c.bt,
-        watchdog: c.watchdog,
-        sync: sync,
-        bus: bus,
-        pins: pins,
-        sda: c.sda,
-        scl: c.scl,
-        reset: c.reset,
-    }
+    Core { mdcon, ..c }
 }
 
 pub fn with_polarity(c: Core, polarity: u8) -> Core
     ensures { result ≡ with_polarity c polarity }
 {
-    let sync = c.sync;
-    let bus = c.bus;
-    let pins = c.pins;
-    Core {
-        irqx: c.irqx,
-        mdcon: c.mdcon,
-        polarity: polarity,
-        bt: c.bt,
-        watchdog: c.watchdog,
-        sync: sync,
-        bus: bus,
-        pins: pins,
-        sda: c.sda,
-        scl: c.scl,
-        reset: c.reset,
-    }
+    Core { polarity, ..c }
 }
 
 pub fn with_bt(c: Core, bt: u8) -> Core
     ensures { result ≡ with_bt c bt }
 {
-    let sync = c.sync;
-    let bus = c.bus;
-    let pins = c.pins;
-    Core {
-        irqx: c.irqx,
-        mdcon: c.mdcon,
-        polarity: c.polarity,
-        bt: bt,
-        watchdog: c.watchdog,
-        sync: sync,
-        bus: bus,
-        pins: pins,
-        sda: c.sda,
-        scl: c.scl,
-        reset: c.reset,
-    }
+    Core { bt, ..c }
 }
 
 pub fn with_watchdog(c: Core, watchdog: u8) -> Core
     ensures { result ≡ with_watchdog c watchdog }
 {
-    let sync = c.sync;
-    let bus = c.bus;
-    let pins = c.pins;
-    Core {
-        irqx: c.irqx,
-        mdcon: c.mdcon,
-        polarity: c.polarity,
-        bt: c.bt,
-        watchdog: watchdog,
-        sync: sync,
-        bus: bus,
-        pins: pins,
-        sda: c.sda,
-        scl: c.scl,
-        reset: c.reset,
-    }
+    Core { watchdog, ..c }
 }
 
 pub fn with_sync(c: Core, sync: Sync) -> Core
     ensures { result ≡ with_sync c sync }
 {
-    let bus = c.bus;
-    let pins = c.pins;
-    Core {
-        irqx: c.irqx,
-        mdcon: c.mdcon,
-        polarity: c.polarity,
-        bt: c.bt,
-        watchdog: c.watchdog,
-        sync: sync,
-        bus: bus,
-        pins: pins,
-        sda: c.sda,
-        scl: c.scl,
-        reset: c.reset,
-    }
+    Core { sync, ..c }
 }
 
 pub fn with_bus(c: Core, bus: Bus) -> Core
     ensures { result ≡ with_bus c bus }
 {
-    let sync = c.sync;
-    let pins = c.pins;
-    Core {
-        irqx: c.irqx,
-        mdcon: c.mdcon,
-        polarity: c.polarity,
-        bt: c.bt,
-        watchdog: c.watchdog,
-        sync: sync,
-        bus: bus,
-        pins: pins,
-        sda: c.sda,
-        scl: c.scl,
-        reset: c.reset,
-    }
+    Core { bus, ..c }
 }
 
 pub fn with_pins(c: Core, pins: Pins) -> Core
     ensures { result ≡ with_pins c pins }
 {
-    let sync = c.sync;
-    let bus = c.bus;
-    Core {
-        irqx: c.irqx,
-        mdcon: c.mdcon,
-        polarity: c.polarity,
-        bt: c.bt,
-        watchdog: c.watchdog,
-        sync: sync,
-        bus: bus,
-        pins: pins,
-        sda: c.sda,
-        scl: c.scl,
-        reset: c.reset,
-    }
+    Core { pins, ..c }
 }
 
 pub fn with_sda(c: Core, sda: bool) -> Core
     ensures { result ≡ with_sda c sda }
 {
-    let sync = c.sync;
-    let bus = c.bus;
-    let pins = c.pins;
-    Core {
-        irqx: c.irqx,
-        mdcon: c.mdcon,
-        polarity: c.polarity,
-        bt: c.bt,
-        watchdog: c.watchdog,
-        sync: sync,
-        bus: bus,
-        pins: pins,
-        sda: sda,
-        scl: c.scl,
-        reset: c.reset,
-    }
+    Core { sda, ..c }
 }
 
 pub fn with_scl(c: Core, scl: bool) -> Core
     ensures { result ≡ with_scl c scl }
 {
-    let sync = c.sync;
-    let bus = c.bus;
-    let pins = c.pins;
-    Core {
-        irqx: c.irqx,
-        mdcon: c.mdcon,
-        polarity: c.polarity,
-        bt: c.bt,
-        watchdog: c.watchdog,
-        sync: sync,
-        bus: bus,
-        pins: pins,
-        sda: c.sda,
-        scl: scl,
-        reset: c.reset,
-    }
+    Core { scl, ..c }
 }
 
 pub fn with_reset(c: Core, reset: bool) -> Core
     ensures { result ≡ with_reset c reset }
 {
-    let sync = c.sync;
-    let bus = c.bus;
-    let pins = c.pins;
-    Core {
-        irqx: c.irqx,
-        mdcon: c.mdcon,
-        polarity: c.polarity,
-        bt: c.bt,
-        watchdog: c.watchdog,
-        sync: sync,
-        bus: bus,
-        pins: pins,
-        sda: c.sda,
-        scl: c.scl,
-        reset: reset,
-    }
+    Core { reset, ..c }
 }
 
 // The core with these flags of IRQX set, whether enabled or not; the others stay.
@@ -342,6 +181,7 @@ pub fn hsel(c: Core) -> bool
 }
 
 // The request lines: the flags of IRQX that IEX enables.
+#[tactic(auto, unfolding(crate::specs::State::requested))]
 pub fn requested(irqx: u8, iex: u8) -> u8
     ensures { result ≡ requested_of irqx iex }
 {
@@ -352,14 +192,13 @@ pub fn requested(irqx: u8, iex: u8) -> u8
 pub fn requests(c: Chip) -> u8
     ensures { result ≡ requests_of c }
 {
-    let registers = c.registers;
-    let core = c.core;
-    requested(core.irqx, register_at(&registers, IEX))
+    requested(c.core.irqx, register_at(&c.registers, IEX))
 }
 
 // ---- reset
 
 // Every part of the core at its reset value, at these outside levels.
+#[tactic(auto, unfolding(crate::specs::State::reset_at))]
 pub fn reset_at(pins: Pins, sda: bool, scl: bool, reset: bool) -> Core
     ensures { result ≡ reset_at pins sda scl reset }
 {
@@ -375,22 +214,23 @@ pub fn reset_at(pins: Pins, sda: bool, scl: bool, reset: bool) -> Core
             registers::reset_value(IIADR),
             registers::reset_value(IIDAT),
         ),
-        pins: pins,
-        sda: sda,
-        scl: scl,
-        reset: reset,
+        pins,
+        sda,
+        scl,
+        reset,
     }
 }
 
 // A reset keeps the outside levels.
+#[tactic(auto, unfolding(crate::specs::State::reset_core))]
 pub fn reset_core(c: Core) -> Core
     ensures { result ≡ reset_core c }
 {
-    let pins = c.pins;
-    reset_at(pins, c.sda, c.scl, c.reset)
+    reset_at(c.pins, c.sda, c.scl, c.reset)
 }
 
 // A fresh chip: reset values, and all outside levels 1.
+#[tactic(auto, unfolding(crate::specs::State::fresh))]
 pub fn fresh() -> Chip
     ensures { result ≡ fresh_of }
 {
@@ -413,14 +253,14 @@ pub fn fresh() -> Chip
 pub fn register_at(registers: &[u8], a: u8) -> u8
     ensures { result ≡ register_at registers.now a }
 {
-    let i = a as usize;
-    if i < registers.len() { registers[i] } else { 0 }
+    registers.get(usize::from(a)).copied().unwrap_or(0)
 }
 
 // A byte put in a place of the array; past it nothing is written.
 fn store(registers: &mut [u8], a: u8, b: u8)
     ensures { registers.new ≡ set registers.old a b }
 {
+    // By index: over `get_mut` the search does not find that the slice ends with the byte put.
     let i = a as usize;
     if i < registers.len() {
         registers[i] = b;
@@ -433,11 +273,7 @@ pub fn keep(registers: &mut [u8; 38], kept: Kept)
 {
     match kept {
         Kept::Same => {}
-        Kept::Stored(a, b) => {
-            store(registers, a, b);
-        }
-        Kept::Reset => {
-            *registers = registers::resets();
-        }
+        Kept::Stored(a, b) => store(registers, a, b),
+        Kept::Reset => *registers = registers::resets(),
     }
 }

@@ -36,6 +36,7 @@ fn given1(endac: u8, syncon: u8) -> u8
     (255 - endac) / 64 + (255 - syncon) / 64 % 2 * 12
 }
 
+#[tactic(auto, unfolding(crate::specs::Reads::port0))]
 fn port0(registers: &[u8; 38], c: Core) -> u8
     ensures { result ≡ port_of0 (chip_of registers.now c) }
 {
@@ -49,6 +50,7 @@ fn port0(registers: &[u8; 38], c: Core) -> u8
     )
 }
 
+#[tactic(auto, unfolding(crate::specs::Reads::port1))]
 fn port1(registers: &[u8; 38], c: Core) -> u8
     ensures { result ≡ port_of1 (chip_of registers.now c) }
 {
@@ -62,6 +64,7 @@ fn port1(registers: &[u8; 38], c: Core) -> u8
     )
 }
 
+#[tactic(auto, unfolding(crate::specs::Reads::port2))]
 fn port2(registers: &[u8; 38], c: Core) -> u8
     ensures { result ≡ port_of2 (chip_of registers.now c) }
 {
@@ -72,6 +75,7 @@ fn port2(registers: &[u8; 38], c: Core) -> u8
     )
 }
 
+#[tactic(auto, unfolding(crate::specs::Reads::port3))]
 fn port3(registers: &[u8; 38], c: Core) -> u8
     ensures { result ≡ port_of3 (chip_of registers.now c) }
 {
@@ -83,6 +87,7 @@ fn port3(registers: &[u8; 38], c: Core) -> u8
     }
 }
 
+#[tactic(auto, unfolding(crate::specs::Reads::hvcon))]
 fn hvcon(c: Core) -> u8
     ensures { result ≡ hvcon_of c }
 {
@@ -93,6 +98,7 @@ fn hvcon(c: Core) -> u8
 }
 
 // What a register shows before its read mask.
+#[tactic(auto, unfolding(crate::specs::Reads::shown))]
 fn shown(registers: &[u8; 38], c: Core, a: u8) -> u8
     ensures { result ≡ shown_of (chip_of registers.now c) a }
 {
@@ -117,13 +123,11 @@ fn shown(registers: &[u8; 38], c: Core, a: u8) -> u8
 fn reading_of(number: u8, byte: u8) -> Reading
     ensures { result ≡ reading_of number byte }
 {
-    Reading {
-        number: number,
-        byte: byte,
-    }
+    Reading { number, byte }
 }
 
 // A read: its number and byte. It never moves the chip.
+#[tactic(auto, unfolding(crate::specs::Reads::reading))]
 pub fn read_register(registers: &[u8; 38], c: Core, a: u8) -> Reading
     ensures { result ≡ reading (chip_of registers.now c) a }
 {

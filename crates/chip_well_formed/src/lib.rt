@@ -28,17 +28,15 @@ fn reserved(registers: [u8; 38]) -> bool
 {
     let masks = MASKS;
     let values = VALUES;
-    let mut i = 0;
-    while i < 38 {
-        if registers[i] & masks[i] == values[i] {
-            i += 1;
-        } else {
+    for i in 0..38 {
+        if registers[i] & masks[i] != values[i] {
             return false;
         }
     }
     true
 }
 
+#[tactic(auto, unfolding(crate::specs::WellFormed::reserved_apart))]
 fn reserved_apart(c: Core) -> bool
     ensures { result ≡ reserved_apart c }
 {
@@ -50,81 +48,42 @@ fn reserved_apart(c: Core) -> bool
         & (c.pins.port1 < 128)
 }
 
+#[tactic(auto, unfolding(crate::specs::WellFormed::gathered_fits))]
 fn gathered_fits(count: u8, bits: u8) -> bool
     ensures { result ≡ gathered_fits count bits }
 {
-    if count < 9 {
-        let limit: u16 = 1 << count;
-        (bits as u16) < limit
-    } else {
-        (bits as u16) < 256
-    }
+    let limit: u16 = if count < 9 { 1 << count } else { 256 };
+    u16::from(bits) < limit
 }
 
+#[tactic(auto, unfolding(crate::specs::WellFormed::phase_fits))]
 fn phase_fits(phase: Phase) -> bool
     ensures { result ≡ phase_fits phase }
 {
     match phase {
-        Phase::Idle => true,
-        Phase::Address { count, bits } => (count < 8) & gathered_fits(count, bits),
-        Phase::Addressed {
-            matched: _,
-            bits,
-            ninth: _,
-        } => gathered_fits(8, bits),
-        Phase::Ignoring => true,
-        Phase::Receive {
-            matched: _,
-            count,
-            bits,
-        } => (count < 11) & gathered_fits(count, bits),
-        Phase::Transmit {
-            matched: _,
-            count,
-            byte: _,
-        } => (0 < count) & (count < 11),
-        Phase::Held {
-            matched: _,
-            clocks: _,
-        } => true,
+        Phase::Idle | Phase::Ignoring | Phase::Held { .. } => true,
+        Phase::Address { count, bits } => count < 8 && gathered_fits(count, bits),
+        Phase::Addressed { bits, .. } => gathered_fits(8, bits),
+        Phase::Receive { count, bits, .. } => count < 11 && gathered_fits(count, bits),
+        Phase::Transmit { count, .. } => 0 < count && count < 11,
     }
 }
 
+#[tactic(auto, unfolding(crate::specs::WellFormed::is_idle))]
 fn is_idle(phase: Phase) -> bool
     ensures { result ≡ is_idle phase }
 {
-    match phase {
-        Phase::Idle => true,
-        Phase::Address { count: _, bits: _ } => false,
-        Phase::Addressed {
-            matched: _,
-            bits: _,
-            ninth: _,
-        } => false,
-        Phase::Ignoring => false,
-        Phase::Receive {
-            matched: _,
-            count: _,
-            bits: _,
-        } => false,
-        Phase::Transmit {
-            matched: _,
-            count: _,
-            byte: _,
-        } => false,
-        Phase::Held {
-            matched: _,
-            clocks: _,
-        } => false,
-    }
+    matches!(phase, Phase::Idle)
 }
 
+#[tactic(auto, unfolding(crate::specs::WellFormed::is_unused))]
 fn is_unused(s: Shifter) -> bool
     ensures { result ≡ is_unused s }
 {
     (s.edges == 9) & (s.register == 255)
 }
 
+#[tactic(auto, unfolding(crate::specs::WellFormed::bus_fits))]
 fn bus_fits(mode: Mode, phase: Phase, s: Shifter) -> bool
     ensures { result ≡ bus_fits mode phase s }
 {
@@ -136,16 +95,12 @@ fn bus_fits(mode: Mode, phase: Phase, s: Shifter) -> bool
 }
 
 // The state is well formed: ranges, reserved bits at reset value, and a bus that fits its mode.
+#[tactic(auto, unfolding(crate::specs::WellFormed::well_formed))]
 pub fn well_formed(c: Chip) -> bool
     ensures { result ≡ well_formed c }
 {
-    let registers = c.registers;
     let core = c.core;
-    let counters = core.sync;
-    let bus = core.bus;
-    let phase = bus.phase;
-    let shifter = bus.shifter;
-    ((sync::well_sync(counters) & (core.watchdog < 64))
-        & (reserved_apart(core) & reserved(registers)))
-        & bus_fits(chip::mode_of(core), phase, shifter)
+    ((sync::well_sync(core.sync) & (core.watchdog < 64))
+        & (reserved_apart(core) & reserved(c.registers)))
+        & bus_fits(chip::mode_of(core), core.bus.phase, core.bus.shifter)
 }

@@ -5,26 +5,6 @@ use Rattle.registers.proofs.Rules.{row_readable, row_read}
 use Rattle.chip_reads.specs.Reads.{reading}
 use Rattle.chip_reads.proofs.read_register.Goals as goal
 
-pub row_of-row-requires : goal.row_of-row-requires
-unfolding reading
-row_of-row-requires c = search rules
-
-pub shown-requires : goal.shown-requires
-unfolding reading
-shown-requires c = search rules
-
-pub reading_of-requires : goal.reading_of-requires
-unfolding reading
-reading_of-requires c = search rules
-
-pub reading_of-requires-else-row : goal.reading_of-requires-else-row
-unfolding reading
-reading_of-requires-else-row c = search rules
-
-pub reading_of-requires-else-c : goal.reading_of-requires-else-c
-unfolding reading
-reading_of-requires-else-c c = search rules
-
 pub returns-then-row : goal.returns-then-row
 unfolding reading
 returns-then-row c = simp (c.reading_of.ensures, c.shown.ensures, ← (row_read _ c.row_of-row.ensures), ← (row_readable _ c.row_of-row.ensures), c.if-row.true, c.if-c.true)
@@ -32,7 +12,3 @@ returns-then-row c = simp (c.reading_of.ensures, c.shown.ensures, ← (row_read 
 pub returns-else-row : goal.returns-else-row
 unfolding reading
 returns-else-row c = simp (c.reading_of-else-row.ensures, ← (row_readable _ c.row_of-row.ensures), c.if-row.false, c.if-c.true)
-
-pub returns-else-c : goal.returns-else-c
-unfolding reading
-returns-else-c c = simp (c.reading_of-else-c.ensures, c.if-c.false)
