@@ -63,28 +63,29 @@ pub enum Decoded {
 }
 
 // Pins 0 to 14 and 16 to 28.
-fn is_pin(a: u32) -> bool
+fn is_pin(a: u8) -> bool
     ensures { result ≡ is_pin a }
 {
-    (a < 15) | ((15 < a) & (a < 29))
+    matches!(a, 0..=14 | 16..=28)
 }
 
 // Number 1: no kind, or a bit set between the kind and A.
+#[tactic(auto, unfolding(crate::specs::Word::no_event))]
 fn no_event(word: u32) -> bool
     ensures { result ≡ no_event word }
 {
-    let kind = word / 16777216;
-    (kind < 1) | ((5 < kind) | (0 < word / 65536 % 256))
+    let [kind, reserved, _, _] = word.to_be_bytes();
+    !matches!(kind, 1..=5) || reserved != 0
 }
 
 // Number 2: no register, pin, clock or polarity has this A.
+#[tactic(auto, unfolding(crate::specs::Word::no_place))]
 fn no_place(word: u32) -> bool
     ensures { result ≡ no_place word }
 {
-    let a = word / 256 % 256;
-    match word / 16777216 {
-        1 => 0x25 < a,
-        2 => 0x25 < a,
+    let [kind, _, a, _] = word.to_be_bytes();
+    match kind {
+        1 | 2 => 0x25 < a,
         3 => !is_pin(a),
         4 => 3 < a,
         _ => 1 < a,
@@ -92,26 +93,25 @@ fn no_place(word: u32) -> bool
 }
 
 // Number 3: the kind does not take this B.
+#[tactic(auto, unfolding(crate::specs::Word::bad_byte))]
 fn bad_byte(word: u32) -> bool
     ensures { result ≡ bad_byte word }
 {
-    let b = word % 256;
-    match word / 16777216 {
-        1 => 0 < b,
+    let [kind, _, _, b] = word.to_be_bytes();
+    match kind {
+        1 | 4 => 0 < b,
         2 => false,
-        3 => 1 < b,
-        4 => 0 < b,
         _ => 1 < b,
     }
 }
 
 // The event of the word's kind, once no number refuses it.
+#[tactic(auto, unfolding(crate::specs::Word::event))]
 fn event(word: u32) -> Decoded
     ensures { result ≡ event_of word }
 {
-    let a = (word / 256 % 256) as u8;
-    let b = (word % 256) as u8;
-    match word / 16777216 {
+    let [kind, _, a, b] = word.to_be_bytes();
+    match kind {
         1 => Decoded::Read(a),
         2 => Decoded::Write(a, b),
         3 => Decoded::Pin(a, b == 1),
@@ -121,6 +121,7 @@ fn event(word: u32) -> Decoded
 }
 
 // The first number that applies refuses the word, else it is an event.
+#[tactic(auto, unfolding(crate::specs::Word::decode))]
 fn by_fields(word: u32) -> Decoded
     ensures { result ≡ decode_of word }
 {
@@ -138,6 +139,7 @@ fn by_fields(word: u32) -> Decoded
 
 // A word's event, or the number that refuses it. The words of common events are met first, with their event as a constant, so that what
 // takes it apart does not test it again.
+#[tactic(auto, unfolding(crate::specs::Word::decode, crate::specs::Word::no_event, crate::specs::Word::no_place, crate::specs::Word::bad_byte, crate::specs::Word::event))]
 pub fn decode(word: u32) -> Decoded
     ensures { (result ≡ decode_of word) × DecodedCase word result }
 {
@@ -159,20 +161,18 @@ pub fn decode(word: u32) -> Decoded
 fn event_word(kind: u8, a: u8, b: u8) -> u32
     ensures { result ≡ event_word kind a b }
 {
-    (kind as u32) * 16777216 + (a as u32) * 256 + (b as u32)
+    u32::from_be_bytes([kind, 0, a, b])
 }
 
 // A word that the number refuses.
 fn refused_word(number: u8) -> u32
     ensures { result ≡ refused_word number }
 {
-    if number == 2 {
-        return event_word(1, 0x26, 0);
+    match number {
+        2 => event_word(1, 0x26, 0),
+        3 => event_word(1, 0, 1),
+        _ => 0,
     }
-    if number == 3 {
-        return event_word(1, 0, 1);
-    }
-    0
 }
 
 // The word of an event; for a refusal, one of the words that it refuses.
@@ -182,9 +182,9 @@ pub fn encode(event: Decoded) -> u32
     match event {
         Decoded::Read(a) => event_word(1, a, 0),
         Decoded::Write(a, b) => event_word(2, a, b),
-        Decoded::Pin(a, level) => event_word(3, a, bits::num(level)),
+        Decoded::Pin(a, level) => event_word(3, a, u8::from(level)),
         Decoded::Clock(a) => event_word(4, a, 0),
-        Decoded::Polarity(vertical, level) => event_word(5, bits::num(vertical), bits::num(level)),
+        Decoded::Polarity(vertical, level) => event_word(5, u8::from(vertical), u8::from(level)),
         Decoded::Refused(number) => refused_word(number),
     }
 }
