@@ -5,14 +5,6 @@ use Rattle.chip_edges.proofs.Risen.{bus_outside}
 use borrow.Author.Rules.{rules}
 use Rattle.chip_ddc_writes.proofs.bus_risen.Goals as goal
 
-pub bus_at_rise-requires : goal.bus_at_rise-requires
-unfolding bus_risen
-bus_at_rise-requires c = search rules
-
 pub returns-then-scl : goal.returns-then-scl
 unfolding bus_risen
 returns-then-scl c = simp (c.bus_at_rise.ensures, c.if-scl.true, bus_outside)
-
-pub returns-else-scl : goal.returns-else-scl
-unfolding bus_risen
-returns-else-scl c = simp c.if-scl.false
