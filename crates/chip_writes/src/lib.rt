@@ -22,6 +22,7 @@ pub enum Target {
 }
 
 // What a write to this address does.
+#[tactic(auto, unfolding(crate::specs::Writes::target))]
 pub fn target_of(a: u8) -> Target
     ensures { result ≡ target a }
 {
@@ -38,14 +39,15 @@ pub fn target_of(a: u8) -> Target
     }
 }
 
+#[tactic(auto, unfolding(crate::specs::Writes::clrflg_written))]
 fn clrflg_written(c: Core, b: u8) -> Core
     ensures { result ≡ clrflg_written c b }
 {
-    let counters = c.sync;
-    let after = sync::clear_overflow(bits::bit(CLRHOV, b), bits::bit(CLRVOV, b), counters);
+    let after = sync::clear_overflow(bits::bit(CLRHOV, b), bits::bit(CLRVOV, b), c.sync);
     chip::with_sync(chip::with_irqx(c, c.irqx & !b), after)
 }
 
+#[tactic(auto, unfolding(crate::specs::Writes::clrwdt_written))]
 fn clrwdt_written(c: Core, b: u8) -> Core
     ensures { result ≡ clrwdt_written c b }
 {
@@ -56,6 +58,7 @@ fn clrwdt_written(c: Core, b: u8) -> Core
     }
 }
 
+#[tactic(auto, unfolding(crate::specs::Writes::written_to))]
 fn written_to(t: Target, c: Core, b: u8) -> Core
     ensures { result ≡ written_to t c b }
 {
@@ -72,18 +75,21 @@ fn written_to(t: Target, c: Core, b: u8) -> Core
     }
 }
 
+#[tactic(auto, unfolding(crate::specs::Writes::written_to))]
 fn hvcon_written(c: Core, b: u8) -> Core
     ensures { result ≡ written_to Target.Hvcon c b }
 {
     chip::with_polarity(c, registers::updated(HVCON, c.polarity, b))
 }
 
+#[tactic(auto, unfolding(crate::specs::Writes::written_to))]
 fn bt_written(c: Core, b: u8) -> Core
     ensures { result ≡ written_to Target.Bt c b }
 {
     chip::with_bt(c, registers::updated(BT, c.bt, b))
 }
 
+#[tactic(auto, unfolding(crate::specs::Writes::kept_by))]
 fn kept_by(t: Target, registers: &[u8; 38], a: u8, b: u8) -> Kept
     ensures { result ≡ kept_by t registers.now a b }
 {
@@ -92,18 +98,12 @@ fn kept_by(t: Target, registers: &[u8; 38], a: u8, b: u8) -> Kept
             a,
             registers::updated(a, chip::register_at(registers, a), b),
         ),
-        Target::Mdcon => Kept::Same,
-        Target::Hvcon => Kept::Same,
-        Target::Clrflg => Kept::Same,
-        Target::Clrwdt => Kept::Same,
-        Target::Iiadr => Kept::Same,
-        Target::Iidat => Kept::Same,
-        Target::Iists => Kept::Same,
-        Target::Bt => Kept::Same,
+        _ => Kept::Same,
     }
 }
 
 // The core after a write that is taken.
+#[tactic(auto, unfolding(crate::specs::Writes::written))]
 pub fn written(c: Core, a: u8, b: u8) -> Core
     ensures { result ≡ written_of c a b }
 {
@@ -111,6 +111,7 @@ pub fn written(c: Core, a: u8, b: u8) -> Core
 }
 
 // What a write that is taken stores in the array: the byte under the write mask, where the register stands there.
+#[tactic(auto, unfolding(crate::specs::Writes::stored_by))]
 pub fn stored(registers: &[u8; 38], a: u8, b: u8) -> Kept
     ensures { result ≡ stored_by registers.now a b }
 {
@@ -118,6 +119,7 @@ pub fn stored(registers: &[u8; 38], a: u8, b: u8) -> Kept
 }
 
 // The number of a write: 0 where it is taken, 4 while RESET is low, 6 for a read-only register.
+#[tactic(auto, unfolding(crate::specs::Writes::write_number))]
 pub fn write_number(reset: bool, a: u8) -> u8
     ensures { result ≡ write_number reset a }
 {

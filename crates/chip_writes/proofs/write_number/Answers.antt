@@ -5,10 +5,6 @@ use Rattle.registers.proofs.Rules.{row_writable}
 use Rattle.chip_writes.specs.Writes.{write_number}
 use Rattle.chip_writes.proofs.write_number.Goals as goal
 
-pub row_of-row-requires : goal.row_of-row-requires
-unfolding write_number
-row_of-row-requires c = search rules
-
 pub returns-then-row : goal.returns-then-row
 unfolding write_number
 returns-then-row c = simp (← (row_writable _ c.row_of-row.ensures), c.if-row.true, c.if-reset.true)
@@ -16,7 +12,3 @@ returns-then-row c = simp (← (row_writable _ c.row_of-row.ensures), c.if-row.t
 pub returns-else-row : goal.returns-else-row
 unfolding write_number
 returns-else-row c = simp (← (row_writable _ c.row_of-row.ensures), c.if-row.false, c.if-reset.true)
-
-pub returns-else-reset : goal.returns-else-reset
-unfolding write_number
-returns-else-reset c = simp c.if-reset.false
