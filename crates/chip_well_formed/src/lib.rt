@@ -40,12 +40,12 @@ fn reserved(registers: [u8; 38]) -> bool
 fn reserved_apart(c: Core) -> bool
     ensures { result ≡ reserved_apart c }
 {
-    (c.irqx < 64)
-        & (c.bus.iists < 64)
-        & (c.mdcon < 16)
-        & (c.polarity < 16)
-        & bits::bit(0, c.bus.iiadr)
-        & (c.pins.port1 < 128)
+    c.irqx < 64
+        && c.bus.iists < 64
+        && c.mdcon < 16
+        && c.polarity < 16
+        && bits::bit(0, c.bus.iiadr)
+        && c.pins.port1 < 128
 }
 
 #[tactic(auto, unfolding(crate::specs::WellFormed::gathered_fits))]
@@ -80,7 +80,7 @@ fn is_idle(phase: Phase) -> bool
 fn is_unused(s: Shifter) -> bool
     ensures { result ≡ is_unused s }
 {
-    (s.edges == 9) & (s.register == 255)
+    s.edges == 9 && s.register == 255
 }
 
 #[tactic(auto, unfolding(crate::specs::WellFormed::bus_fits))]
@@ -88,9 +88,9 @@ fn bus_fits(mode: Mode, phase: Phase, s: Shifter) -> bool
     ensures { result ≡ bus_fits mode phase s }
 {
     match mode {
-        Mode::Off => is_idle(phase) & is_unused(s),
-        Mode::Ddc1 => is_idle(phase) & ((s.edges < 9) | is_unused(s)),
-        Mode::Ddc2b => phase_fits(phase) & is_unused(s),
+        Mode::Off => is_idle(phase) && is_unused(s),
+        Mode::Ddc1 => is_idle(phase) && (s.edges < 9 || is_unused(s)),
+        Mode::Ddc2b => phase_fits(phase) && is_unused(s),
     }
 }
 
@@ -100,7 +100,9 @@ pub fn well_formed(c: Chip) -> bool
     ensures { result ≡ well_formed c }
 {
     let core = c.core;
-    ((sync::well_sync(core.sync) & (core.watchdog < 64))
-        & (reserved_apart(core) & reserved(c.registers)))
-        & bus_fits(chip::mode_of(core), core.bus.phase, core.bus.shifter)
+    sync::well_sync(core.sync)
+        && core.watchdog < 64
+        && reserved_apart(core)
+        && reserved(c.registers)
+        && bus_fits(chip::mode_of(core), core.bus.phase, core.bus.shifter)
 }
