@@ -11,32 +11,26 @@ use events::{BASE0, BASE1, PERIOD, WATCHDOG};
 use registers::{ENBT, HPOLI, INTR, TBS, VPOLI};
 
 // A clock of 8 µs: VCNT steps, with HSEL 0 the interval runs, and a hold of SCL has lasted one clock more.
+#[tactic(auto, unfolding(crate::specs::Clocks::period_clock))]
 pub fn period_clock(c: Core) -> Core
     ensures { result ≡ period_clock c }
 {
-    let counters = c.sync;
-    let b = c.bus;
-    let phase = b.phase;
-    let n = chip::with_sync(c, sync::on_period(chip::hsel(c), counters));
+    let n = chip::with_sync(c, sync::on_period(chip::hsel(c), c.sync));
     chip::with_bus(
         n,
-        chip_edges::with_phase(b, bus_ddc2b::phase_at_period(phase)),
+        chip_edges::with_phase(c.bus, bus_ddc2b::phase_at_period(c.bus.phase)),
     )
 }
 
+#[tactic(auto, unfolding(crate::specs::Clocks::timer_runs))]
 fn timer_runs(btcon: u8, k: u8) -> bool
     ensures { result ≡ timer_runs btcon k }
 {
-    if bits::bit(ENBT, btcon) {
-        return false;
-    }
-    if bits::bit(TBS, btcon) {
-        k == BASE1
-    } else {
-        k == BASE0
-    }
+    let clock = if bits::bit(TBS, btcon) { BASE1 } else { BASE0 };
+    !bits::bit(ENBT, btcon) && k == clock
 }
 
+#[tactic(auto, unfolding(crate::specs::Clocks::timer_step))]
 fn timer_step(c: Core) -> Core
     ensures { result ≡ timer_step c }
 {
@@ -44,6 +38,7 @@ fn timer_step(c: Core) -> Core
     chip::with_bt(chip::raised(c, flags), counters::timer_next(c.bt))
 }
 
+#[tactic(auto, unfolding(crate::specs::Clocks::timer_clock))]
 fn timer_clock(btcon: u8, c: Core, k: u8) -> Core
     ensures { result ≡ timer_clock btcon c k }
 {
@@ -54,6 +49,7 @@ fn timer_clock(btcon: u8, c: Core, k: u8) -> Core
     }
 }
 
+#[tactic(auto, unfolding(crate::specs::Clocks::watchdog_clock))]
 fn watchdog_clock(c: Core) -> Core
     ensures { result ≡ watchdog_clock c }
 {
@@ -64,6 +60,7 @@ fn watchdog_clock(c: Core) -> Core
     }
 }
 
+#[tactic(auto, unfolding(crate::specs::Clocks::clocked_as))]
 fn clocked_as(btcon: u8, c: Core, k: u8) -> Core
     ensures { result ≡ clocked_as btcon c k }
 {
@@ -76,6 +73,7 @@ fn clocked_as(btcon: u8, c: Core, k: u8) -> Core
 
 // The core after clock k: 0 of 8 µs, 3 of the watchdog, the others of the base timer, which BTCON steers; none runs while
 // RESET is low.
+#[tactic(auto, unfolding(crate::specs::Clocks::clocked))]
 pub fn clocked(btcon: u8, c: Core, k: u8) -> Core
     ensures { result ≡ clocked_of btcon c k }
 {
@@ -90,6 +88,7 @@ fn polarity_bit(vertical: bool) -> u8
 }
 
 // A polarity is found: VPOLI or HPOLI takes it, except while RESET is low.
+#[tactic(auto, unfolding(crate::specs::Clocks::polarity_found))]
 pub fn polarity_found(c: Core, vertical: bool, level: bool) -> Core
     ensures { result ≡ polarity_found c vertical level }
 {

@@ -25,26 +25,20 @@ pub enum PinKind {
 }
 
 // The port of a number that `pin_kind` does not name; 15 and numbers from 24 on are no pin of a port.
+#[tactic(auto, unfolding(crate::specs::Pins::port_kind))]
 fn port_kind(p: u8) -> PinKind
     ensures { result ≡ port_kind p }
 {
-    if p < 8 {
-        return PinKind::Port0;
-    }
-    if p < 15 {
-        return PinKind::Port1;
-    }
-    if p < 16 {
-        return PinKind::Absent;
-    }
-    if p < 24 {
-        PinKind::Port2
-    } else {
-        PinKind::Absent
+    match p {
+        0..=7 => PinKind::Port0,
+        8..=14 => PinKind::Port1,
+        16..=23 => PinKind::Port2,
+        _ => PinKind::Absent,
     }
 }
 
 // What the pin of this number is.
+#[tactic(auto, unfolding(crate::specs::Pins::pin_kind))]
 pub fn pin_kind(p: u8) -> PinKind
     ensures { result ≡ pin_kind p }
 {
@@ -63,51 +57,43 @@ pub fn pin_kind(p: u8) -> PinKind
 fn rises(reset: bool, old: bool, new: bool) -> bool
     ensures { result ≡ rises_of reset old new }
 {
-    reset & (!old & new)
+    reset && !old && new
 }
 
+#[tactic(auto, unfolding(crate::specs::Pins::port0_moved))]
 fn port0_moved(c: Core, p: u8, level: bool) -> Core
     ensures { result ≡ port0_moved c p level }
 {
-    let pins = c.pins;
     let after = Pins {
-        port0: bits::with_bit(pins.port0, p, level),
-        port1: pins.port1,
-        port2: pins.port2,
-        hsynci: pins.hsynci,
-        vsynci: pins.vsynci,
+        port0: bits::with_bit(c.pins.port0, p, level),
+        ..c.pins
     };
     chip::with_pins(c, after)
 }
 
+#[tactic(auto, unfolding(crate::specs::Pins::port1_moved))]
 fn port1_moved(c: Core, p: u8, level: bool) -> Core
     ensures { result ≡ port1_moved c p level }
 {
-    let pins = c.pins;
     let after = Pins {
-        port0: pins.port0,
-        port1: bits::with_bit(pins.port1, p, level),
-        port2: pins.port2,
-        hsynci: pins.hsynci,
-        vsynci: pins.vsynci,
+        port1: bits::with_bit(c.pins.port1, p, level),
+        ..c.pins
     };
     chip::with_pins(c, after)
 }
 
+#[tactic(auto, unfolding(crate::specs::Pins::port2_moved))]
 fn port2_moved(c: Core, p: u8, level: bool) -> Core
     ensures { result ≡ port2_moved c p level }
 {
-    let pins = c.pins;
     let after = Pins {
-        port0: pins.port0,
-        port1: pins.port1,
-        port2: bits::with_bit(pins.port2, p, level),
-        hsynci: pins.hsynci,
-        vsynci: pins.vsynci,
+        port2: bits::with_bit(c.pins.port2, p, level),
+        ..c.pins
     };
     chip::with_pins(c, after)
 }
 
+#[tactic(auto, unfolding(crate::specs::Pins::p16_moved))]
 fn p16_moved(c: Core, level: bool) -> Core
     ensures { result ≡ p16_moved c level }
 {
@@ -119,13 +105,9 @@ fn p16_moved(c: Core, level: bool) -> Core
 fn hsync_level(c: Core, level: bool) -> Core
     ensures { result ≡ hsync_level c level }
 {
-    let pins = c.pins;
     let after = Pins {
-        port0: pins.port0,
-        port1: pins.port1,
-        port2: pins.port2,
         hsynci: level,
-        vsynci: pins.vsynci,
+        ..c.pins
     };
     chip::with_pins(c, after)
 }
@@ -133,44 +115,39 @@ fn hsync_level(c: Core, level: bool) -> Core
 fn vsync_level(c: Core, level: bool) -> Core
     ensures { result ≡ vsync_level c level }
 {
-    let pins = c.pins;
     let after = Pins {
-        port0: pins.port0,
-        port1: pins.port1,
-        port2: pins.port2,
-        hsynci: pins.hsynci,
         vsynci: level,
+        ..c.pins
     };
     chip::with_pins(c, after)
 }
 
+#[tactic(auto, unfolding(crate::specs::Pins::hsync_moved))]
 fn hsync_moved(c: Core, level: bool) -> Core
     ensures { result ≡ hsync_moved c level }
 {
-    let counters = c.sync;
     let n = hsync_level(c, level);
     if rises(c.reset, c.pins.hsynci, level) {
-        chip::with_sync(n, sync::on_hsync(counters))
+        chip::with_sync(n, sync::on_hsync(c.sync))
     } else {
         n
     }
 }
 
+#[tactic(auto, unfolding(crate::specs::Pins::vsync_rise))]
 fn vsync_rise(c: Core) -> Core
     ensures { result ≡ vsync_rise c }
 {
-    let b = c.bus;
-    let shifter = b.shifter;
-    let counters = c.sync;
     let mode = chip::mode_of(c);
-    let flags = bits::weight_if(chip_edges::loads_at_vsync(mode, shifter), INTD);
+    let flags = bits::weight_if(chip_edges::loads_at_vsync(mode, c.bus.shifter), INTD);
     let n = chip::with_sync(
         chip::raised(c, (1 << INTV) | flags),
-        sync::on_vsync(chip::hsel(c), counters),
+        sync::on_vsync(chip::hsel(c), c.sync),
     );
-    chip::with_bus(n, chip_edges::bus_at_vsync(mode, b))
+    chip::with_bus(n, chip_edges::bus_at_vsync(mode, c.bus))
 }
 
+#[tactic(auto, unfolding(crate::specs::Pins::vsync_moved))]
 fn vsync_moved(c: Core, level: bool) -> Core
     ensures { result ≡ vsync_moved c level }
 {
@@ -182,16 +159,17 @@ fn vsync_moved(c: Core, level: bool) -> Core
     }
 }
 
+#[tactic(auto, unfolding(crate::specs::Pins::on_reset))]
 fn on_reset(e: Edge, c: Core) -> Core
     ensures { result ≡ on_reset e c }
 {
     match e {
-        Edge::Flat => c,
-        Edge::Rise => c,
+        Edge::Flat | Edge::Rise => c,
         Edge::Fall => chip::reset_core(c),
     }
 }
 
+#[tactic(auto, unfolding(crate::specs::Pins::reset_moved))]
 fn reset_moved(c: Core, level: bool) -> Core
     ensures { result ≡ reset_moved c level }
 {
@@ -199,6 +177,7 @@ fn reset_moved(c: Core, level: bool) -> Core
     on_reset(e, chip::with_reset(c, level))
 }
 
+#[tactic(auto, unfolding(crate::specs::Pins::pin_moved_as))]
 fn pin_moved_as(kind: PinKind, c: Core, p: u8, level: bool) -> Core
     ensures { result ≡ pin_moved_as kind c p level }
 {
@@ -217,6 +196,7 @@ fn pin_moved_as(kind: PinKind, c: Core, p: u8, level: bool) -> Core
 }
 
 // The chip after a pin's outside level is put. While RESET is low only the level moves.
+#[tactic(auto, unfolding(crate::specs::Pins::pin_moved))]
 pub fn pin_moved(c: Core, p: u8, level: bool) -> Core
     ensures { result ≡ pin_moved c p level }
 {
