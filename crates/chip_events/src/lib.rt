@@ -1,7 +1,8 @@
 // What an event does at a chip: reads, writes, pins, clocks and polarity, and words that are refused.
 #![tactic(auto)]
 
-ghost use Rattle.std.specs.Prelude.{◌≡◌};
+ghost use Rattle.std.specs.Prelude.{◌≡◌, false};
+ghost use Rattle.chip.specs.declared.Kept.{Kept};
 ghost use Rattle.events.specs.declared.Decoded.{Decoded};
 ghost use Rattle.chip.specs.State.{chip_of};
 ghost use Rattle.chip_events.specs.Outcome.{outcome as outcome_of, reset_if};
@@ -27,92 +28,85 @@ fn reset_if(reset: bool) -> Kept
     if reset { Kept::Reset } else { Kept::Same }
 }
 
+// An event that moves at most the core, with no number, reset or byte to tell.
+fn moved(core: Core) -> Outcome
+    ensures { result ≡ record { core = core; kept = Kept.Same; number = 0; watchdog = false; byte = 0 } }
+{
+    Outcome {
+        core,
+        kept: Kept::Same,
+        number: 0,
+        watchdog: false,
+        byte: 0,
+    }
+}
+
+#[tactic(auto, unfolding(crate::specs::Outcome::outcome, crate::specs::Outcome::core_after, crate::specs::Outcome::kept_after, crate::specs::Outcome::number_given, crate::specs::Outcome::watchdog_reset, crate::specs::Outcome::byte_given))]
 fn read_outcome(registers: &[u8; 38], c: Core, a: u8) -> Outcome
     ensures { result ≡ outcome_of (chip_of registers.now c) (Decoded.Read a) }
 {
     let read = chip_reads::read_register(registers, c, a);
     Outcome {
-        core: c,
-        kept: Kept::Same,
         number: read.number,
-        watchdog: false,
         byte: read.byte,
+        ..moved(c)
     }
 }
 
+#[tactic(auto, unfolding(crate::specs::Outcome::outcome, crate::specs::Outcome::core_after, crate::specs::Outcome::kept_after, crate::specs::Outcome::number_given, crate::specs::Outcome::watchdog_reset, crate::specs::Outcome::byte_given))]
 fn write_outcome(registers: &[u8; 38], c: Core, a: u8, b: u8) -> Outcome
     ensures { result ≡ outcome_of (chip_of registers.now c) (Decoded.Write a b) }
 {
     let number = chip_writes::write_number(c.reset, a);
     if number == 0 {
         Outcome {
-            core: chip_writes::written(c, a, b),
             kept: chip_writes::stored(registers, a, b),
-            number: 0,
-            watchdog: false,
-            byte: 0,
+            ..moved(chip_writes::written(c, a, b))
         }
     } else {
-        Outcome {
-            core: c,
-            kept: Kept::Same,
-            number: number,
-            watchdog: false,
-            byte: 0,
-        }
+        Outcome { number, ..moved(c) }
     }
 }
 
+#[tactic(auto, unfolding(crate::specs::Outcome::outcome, crate::specs::Outcome::core_after, crate::specs::Outcome::kept_after, crate::specs::Outcome::was_reset, crate::specs::Outcome::number_given, crate::specs::Outcome::watchdog_reset, crate::specs::Outcome::byte_given))]
 fn pin_outcome(registers: &[u8; 38], c: Core, p: u8, level: bool) -> Outcome
     ensures { result ≡ outcome_of (chip_of registers.now c) (Decoded.Pin p level) }
 {
     Outcome {
-        core: chip_pins::pin_moved(c, p, level),
-        kept: reset_if((p == RESET) & (c.reset & !level)),
-        number: 0,
-        watchdog: false,
-        byte: 0,
+        kept: reset_if(p == RESET && c.reset && !level),
+        ..moved(chip_pins::pin_moved(c, p, level))
     }
 }
 
+#[tactic(auto, unfolding(crate::specs::Outcome::outcome, crate::specs::Outcome::core_after, crate::specs::Outcome::kept_after, crate::specs::Outcome::was_reset, crate::specs::Outcome::number_given, crate::specs::Outcome::watchdog_reset, crate::specs::Outcome::byte_given))]
 fn clock_outcome(registers: &[u8; 38], c: Core, k: u8) -> Outcome
     ensures { result ≡ outcome_of (chip_of registers.now c) (Decoded.Clock k) }
 {
-    let fired = c.reset & ((k == WATCHDOG) & counters::watchdog_fires(c.watchdog));
+    let fired = c.reset && k == WATCHDOG && counters::watchdog_fires(c.watchdog);
+    let btcon = chip::register_at(registers, BTCON);
     Outcome {
-        core: chip_clocks::clocked(chip::register_at(registers, BTCON), c, k),
         kept: reset_if(fired),
-        number: 0,
         watchdog: fired,
-        byte: 0,
+        ..moved(chip_clocks::clocked(btcon, c, k))
     }
 }
 
+#[tactic(auto, unfolding(crate::specs::Outcome::outcome, crate::specs::Outcome::core_after, crate::specs::Outcome::kept_after, crate::specs::Outcome::number_given, crate::specs::Outcome::watchdog_reset, crate::specs::Outcome::byte_given))]
 fn polarity_outcome(registers: &[u8; 38], c: Core, vertical: bool, level: bool) -> Outcome
     ensures { result ≡ outcome_of (chip_of registers.now c) (Decoded.Polarity vertical level) }
 {
-    Outcome {
-        core: chip_clocks::polarity_found(c, vertical, level),
-        kept: Kept::Same,
-        number: 0,
-        watchdog: false,
-        byte: 0,
-    }
+    moved(chip_clocks::polarity_found(c, vertical, level))
 }
 
+#[tactic(auto, unfolding(crate::specs::Outcome::outcome, crate::specs::Outcome::core_after, crate::specs::Outcome::kept_after, crate::specs::Outcome::number_given, crate::specs::Outcome::watchdog_reset, crate::specs::Outcome::byte_given))]
 fn refused_outcome(registers: &[u8; 38], c: Core, number: u8) -> Outcome
     ensures { result ≡ outcome_of (chip_of registers.now c) (Decoded.Refused number) }
 {
-    Outcome {
-        core: c,
-        kept: Kept::Same,
-        number: number,
-        watchdog: false,
-        byte: 0,
-    }
+    Outcome { number, ..moved(c) }
 }
 
 // What an event does at a chip, a refused word included: it moves nothing and gives its number.
+#[tactic(auto, unfolding(crate::specs::Outcome::outcome))]
 pub fn carry_out(registers: &[u8; 38], c: Core, event: Decoded) -> Outcome
     ensures { result ≡ outcome_of (chip_of registers.now c) event }
 {
