@@ -21,17 +21,12 @@ fn run_all(c: Chip, words: &[u32], answers: &mut [u32]) -> Chip
 {
     let mut registers = c.registers;
     let mut core = c.core;
-    let mut i = 0;
-    while i < words.len() {
-        let done = step::advance_word(&mut registers, core, words[i]);
+    for (i, word) in words.iter().enumerate() {
+        let done = step::advance_word(&mut registers, core, *word);
         core = done.core;
         answers[i] = done.answer;
-        i += 1;
     }
-    Chip {
-        registers: registers,
-        core: core,
-    }
+    Chip { registers, core }
 }
 
 // The list call at a state that is known to be well formed: it is not tested.

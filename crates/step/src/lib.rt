@@ -34,19 +34,18 @@ fn enables(registers: &[u8; 38]) -> u8
 
 // The step over a decoded event, without the test of the state: the list call makes that once. The array of stored registers is
 // lent and changed in place, so that it is never copied.
+#[tactic(auto, unfolding(crate::specs::Step::advance, crate::specs::Step::answered, chip_events::specs::Outcome::outcome, chip_events::specs::Outcome::next))]
 pub fn advance_core(registers: &mut [u8; 38], c: Core, event: Decoded) -> CoreStepped
     ensures { (result ≡ core_of (advance_of (chip_of registers.old c) event)) × (registers.new ≡ (advance_of (chip_of registers.old c) event).chip.registers) }
 {
     let done = chip_events::carry_out(registers, c, event);
-    let after = done.core;
-    let kept = done.kept;
-    chip::keep(registers, kept);
+    chip::keep(registers, done.kept);
     CoreStepped {
-        core: after,
+        core: done.core,
         answer: answers::answer(
             done.number,
             done.watchdog,
-            chip::requested(after.irqx, enables(registers)),
+            chip::requested(done.core.irqx, enables(registers)),
             done.byte,
         ),
     }
@@ -64,24 +63,9 @@ fn common_of(event: Decoded) -> Common
     ensures { common_event result event ≡ event }
 {
     match event {
-        Decoded::Read(_) => Common::Other,
-        Decoded::Write(_, _) => Common::Other,
-        Decoded::Pin(p, level) => {
-            if p == HSYNCI {
-                Common::Hsynci(level)
-            } else {
-                Common::Other
-            }
-        }
-        Decoded::Clock(k) => {
-            if k == PERIOD {
-                Common::Period
-            } else {
-                Common::Other
-            }
-        }
-        Decoded::Polarity(_, _) => Common::Other,
-        Decoded::Refused(_) => Common::Other,
+        Decoded::Pin(HSYNCI, level) => Common::Hsynci(level),
+        Decoded::Clock(PERIOD) => Common::Period,
+        _ => Common::Other,
     }
 }
 
@@ -116,19 +100,18 @@ pub fn advance(c: Chip, event: Decoded) -> Stepped
     ensures { result ≡ advance_of c event }
 {
     let mut registers = c.registers;
-    let core = c.core;
-    let done = advance_core(&mut registers, core, event);
-    let moved = done.core;
+    let done = advance_core(&mut registers, c.core, event);
     Stepped {
         chip: Chip {
-            registers: registers,
-            core: moved,
+            registers,
+            core: done.core,
         },
         answer: done.answer,
     }
 }
 
 // The step: the next chip and the answer word, for every state and word.
+#[tactic(auto, unfolding(crate::specs::Step::step))]
 pub fn step(c: Chip, word: u32) -> Stepped
     ensures { result ≡ step_of c word }
 {

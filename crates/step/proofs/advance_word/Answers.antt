@@ -8,6 +8,3 @@ returns-in-Hsynci c = simp (c.core_moved.ensures, c.pin_moved.ensures, ← c.dec
 
 pub returns-in-Period : goal.returns-in-Period
 returns-in-Period c = simp (c.core_moved-in-Period.ensures, c.clocked.ensures, c.register_at-btcon.ensures, ← c.decode-event.ensures.0, ← (rw c.in-Period.is at c.common_of.ensures)) (period _ _)
-
-pub returns-in-Other : goal.returns-in-Other
-returns-in-Other c = rw c.decode-event.ensures.0 at c.advance_core.ensures
