@@ -191,6 +191,7 @@ fn unpacked(n: u32) -> Row
 pub fn row_of(address: u8) -> Row
     ensures { result ≡ row_of address }
 {
+    // By index: over `TABLE.get(..)` with `unwrap_or(0)` the proof did not close.
     let i = usize::from(address);
     if i < 38 {
         unpacked(TABLE[i])
