@@ -27,10 +27,10 @@ pub returns-then-bad_byte : goal.returns-then-bad_byte
 unfolding decode
 returns-then-bad_byte c = (simp (← c.bad_byte.ensures, c.if-bad_byte.true, ← c.no_place.ensures, c.if-no_place.false, ← c.no_event.ensures, c.if-no_event.false))
 
-pub event-requires : goal.event-requires
+pub by_kind-requires : goal.by_kind-requires
 unfolding decode
-event-requires c = search rules
+by_kind-requires c = search rules
 
 pub returns : goal.returns
 unfolding decode
-returns c = (simp (c.event.ensures, ← c.bad_byte.ensures, c.if-bad_byte.false, ← c.no_place.ensures, c.if-no_place.false, ← c.no_event.ensures, c.if-no_event.false))
+returns c = (simp (c.by_kind.ensures, ← c.bad_byte.ensures, c.if-bad_byte.false, ← c.no_place.ensures, c.if-no_place.false, ← c.no_event.ensures, c.if-no_event.false))

@@ -1,7 +1,7 @@
--- `events::event` meets its contract.
+-- `events::by_kind` meets its contract.
 use borrow.Author.Tests.{ne_eqb}
 use Rattle.events.specs.Word.{event}
-use Rattle.events.proofs.event.Goals as goal
+use Rattle.events.proofs.by_kind.Goals as goal
 
 pub returns-in-1 : goal.returns-in-1
 unfolding event
