@@ -9,8 +9,9 @@ use borrow.Author.Tests.{lt-ltb, not-true}
 use lib.ListN.{length}
 use Rattle.bits.specs.Byte.{bit}
 use Rattle.bits.proofs.Finite.{beq_eq, both}
+use Rattle.std.specs.Prelude.{Ok}
 use Rattle.events.specs.Pins.{SDA, SCL}
-use Rattle.events.specs.declared.Decoded.TheVariants.{Pin}
+use Rattle.events.specs.declared.Event.TheVariants.{Pin}
 use Rattle.events.specs.Word.{decode}
 use Rattle.events.proofs.EventWord.{decode_encode}
 use Rattle.bus.specs.declared.Phase.TheVariants.{Address}
@@ -44,24 +45,24 @@ no_fall : (x : Bool) → ((x && false) || false) ≡ false
 no_fall true = refl
 no_fall false = refl
 
-sda_takes : (x : Chip) (level : Bool) → takes_level x (Pin SDA level) ≡ false
+sda_takes : (x : Chip) (level : Bool) → takes_level x (Ok (Pin SDA level)) ≡ false
 unfolding takes_level
 sda_takes x level = refl
 
-rise_ends : (x : Chip) → ends x (Pin SCL true) ≡ false
+rise_ends : (x : Chip) → ends x (Ok (Pin SCL true)) ≡ false
 unfolding ends
 rise_ends x = refl
 
-fall_takes : (x : Chip) → takes_level x (Pin SCL false) ≡ false
+fall_takes : (x : Chip) → takes_level x (Ok (Pin SCL false)) ≡ false
 unfolding takes_level
 fall_takes x = refl
 
 module _ {n bits status byte : ℕ} {sda : Bool} (x : Chip) where
-  sda_ends : At (Address n bits) status byte false sda x.core → (level : Bool) → ends x (Pin SDA level) ≡ false
+  sda_ends : At (Address n bits) status byte false sda x.core → (level : Bool) → ends x (Ok (Pin SDA level)) ≡ false
   unfolding ends
   sda_ends a level = rw a.scl (low_sda level x.core.reset x.core.sda (sda_free x) (in_ddc2b x))
 
-  rise_takes : At (Address n bits) status byte false sda x.core → takes_level x (Pin SCL true) ≡ true
+  rise_takes : At (Address n bits) status byte false sda x.core → takes_level x (Ok (Pin SCL true)) ≡ true
   unfolding takes_level pulls_scl
   rise_takes a = rw (a.reset, a.scl, a.iists, a.enddc, a.md, a.phase)
 
@@ -69,15 +70,15 @@ module _ {n bits status byte : ℕ} {sda : Bool} (x : Chip) where
   unfolding pulls_sda
   rise_level a = rw (a.phase, a.sda)
 
-  fall_ends : At (Address n bits) status byte true sda x.core → ends x (Pin SCL false) ≡ false
+  fall_ends : At (Address n bits) status byte true sda x.core → ends x (Ok (Pin SCL false)) ≡ false
   unfolding ends
   fall_ends a = rw (a.iists, a.enddc, a.md) (no_fall (x.core.reset && (x.core.scl && not (pulls_scl x.core.bus.phase))))
 
-  risen : At (Address n bits) status byte false sda x.core → n < 7 → At (Address (n + 1) (gathered bits sda)) status byte true sda (next x (Pin SCL true)).core
+  risen : At (Address n bits) status byte false sda x.core → n < 7 → At (Address (n + 1) (gathered bits sda)) status byte true sda (next x (Ok (Pin SCL true))).core
   unfolding pulls_sda status_at_rise data_at_rise phase_at_rise
   risen a h = rw (lt-ltb n 7 h) at (after_rise x (free n bits) a a.enddc)
 
-  fallen : At (Address n bits) status byte true sda x.core → At (Address n bits) status byte false sda (next x (Pin SCL false)).core
+  fallen : At (Address n bits) status byte true sda x.core → At (Address n bits) status byte false sda (next x (Ok (Pin SCL false))).core
   unfolding phase_at_fall
   fallen a = after_fall x (free n bits) a
 
@@ -87,7 +88,7 @@ module _ {n bits status byte : ℕ} {sda : Bool} (x : Chip) where
 pub record Taken (x : Chip) (ws : List ℕ) (ls : List Bool) (l : Bool) : Type 0 where
   pub lasts : never ends x ws ≡ true
   pub levels : levels_taken x ws ≡ ls
-  pub rises : takes_level (advanced x ws) (Pin SCL true) ≡ true
+  pub rises : takes_level (advanced x ws) (Ok (Pin SCL true)) ≡ true
   pub last : sda_level (advanced x ws) ≡ l
 
 -- the eighth level put
@@ -95,12 +96,12 @@ last_put : {n bits status byte : ℕ} {sda : Bool} (x : Chip) (level : Bool) →
 unfolding advance
 last_put {n} {bits} x level a =
     let b = after_sda x (free n bits) level a in
-    let put = decode_encode (Pin SDA level) refl in
+    let put = decode_encode (Ok (Pin SDA level)) refl in
     record {
       lasts = rw (put, sda_ends x a level);
       levels = rw (put, sda_takes x level);
-      rises = rw put (rise_takes (next x (Pin SDA level)) b);
-      last = rw put (rise_level (next x (Pin SDA level)) b);
+      rises = rw put (rise_takes (next x (Ok (Pin SDA level))) b);
+      last = rw put (rise_level (next x (Ok (Pin SDA level))) b);
     }
 
 -- one of the first seven clocked in
@@ -109,30 +110,30 @@ level_in : {n bits status byte : ℕ} {sda : Bool} (x : Chip) (level : Bool) (ws
     Taken x (put_sda level ∷ raise_scl ∷ lower_scl ∷ ws) (level ∷ levels) last
 unfolding advance
 level_in {n} {bits} x level ws levels last a h rest =
-    let y : Chip = next x (Pin SDA level) in
-    let z : Chip = next y (Pin SCL true) in
+    let y : Chip = next x (Ok (Pin SDA level)) in
+    let z : Chip = next y (Ok (Pin SCL true)) in
     let b = after_sda x (free n bits) level a in
     let d = risen y b h in
-    let k = rest (next z (Pin SCL false)) (fallen z d) in
-    let put = decode_encode (Pin SDA level) refl in
-    let rise = decode_encode (Pin SCL true) refl in
-    let fall = decode_encode (Pin SCL false) refl in
+    let k = rest (next z (Ok (Pin SCL false))) (fallen z d) in
+    let put = decode_encode (Ok (Pin SDA level)) refl in
+    let rise = decode_encode (Ok (Pin SCL true)) refl in
+    let fall = decode_encode (Ok (Pin SCL false)) refl in
     record {
       lasts = rw (put, rise, fall, sda_ends x a level, rise_ends y, fall_ends z d) k.lasts;
       levels = rw (put, rise, fall, sda_takes x level, rise_takes y b, fall_takes z, rise_level y b, k.levels);
-      rises = rw (given x (Pin SDA level) (raise_scl ∷ lower_scl ∷ ws) refl, given y (Pin SCL true) (lower_scl ∷ ws) refl, given z (Pin SCL false) ws refl) k.rises;
-      last = rw (given x (Pin SDA level) (raise_scl ∷ lower_scl ∷ ws) refl, given y (Pin SCL true) (lower_scl ∷ ws) refl, given z (Pin SCL false) ws refl) k.last;
+      rises = rw (given x (Ok (Pin SDA level)) (raise_scl ∷ lower_scl ∷ ws) refl, given y (Ok (Pin SCL true)) (lower_scl ∷ ws) refl, given z (Ok (Pin SCL false)) ws refl) k.rises;
+      last = rw (given x (Ok (Pin SDA level)) (raise_scl ∷ lower_scl ∷ ws) refl, given y (Ok (Pin SCL true)) (lower_scl ∷ ws) refl, given z (Ok (Pin SCL false)) ws refl) k.last;
     }
 
 -- SCL falls after the START
 lowered : {n bits status byte : ℕ} {sda : Bool} (x : Chip) (ws : List ℕ) (levels : List Bool) (last : Bool) → At (Address n bits) status byte true sda x.core →
-    Taken (next x (Pin SCL false)) ws levels last → Taken x (lower_scl ∷ ws) levels last
+    Taken (next x (Ok (Pin SCL false))) ws levels last → Taken x (lower_scl ∷ ws) levels last
 unfolding advance
 lowered x ws levels last a k =
-    let fall = decode_encode (Pin SCL false) refl in
-    record { lasts = rw (fall, fall_ends x a) k.lasts; levels = rw (fall, fall_takes x) k.levels; rises = rw (given x (Pin SCL false) ws refl) k.rises; last = rw (given x (Pin SCL false) ws refl) k.last }
+    let fall = decode_encode (Ok (Pin SCL false)) refl in
+    record { lasts = rw (fall, fall_ends x a) k.lasts; levels = rw (fall, fall_takes x) k.levels; rises = rw (given x (Ok (Pin SCL false)) ws refl) k.rises; last = rw (given x (Ok (Pin SCL false)) ws refl) k.last }
 
-start_at_lem : (c : Chip) → starts c (Pin SDA false) ≡ true → At (Address 0 0) (start_status c.core.bus.iists) c.core.bus.iidat true false (next c (Pin SDA false)).core
+start_at_lem : (c : Chip) → starts c (Ok (Pin SDA false)) ≡ true → At (Address 0 0) (start_status c.core.bus.iists) c.core.bus.iidat true false (next c (Ok (Pin SDA false))).core
 unfolding next core_after pin_moved pin_moved_as pin_kind sda_moved mode on_sda on_sda_ddc2b started scl_pulled sda_pulled
 start_at_lem c h =
     let levels = both c.core.reset ((c.core.sda && sda_free c) && scl_high c) h in
@@ -146,28 +147,28 @@ start_at_lem c h =
     rw (levels.0, bits.0, bits.1, scl.0, sda.0, pulls, holds)
     (record { reset = refl; enddc = start_bit c.core.bus.iists ∙ bits.0; md = bits.1; phase = refl; iists = refl; iidat = refl; scl = refl; sda = refl })
 
-by_taken : (c : Chip) (us : List ℕ) (levels : List Bool) (last : Bool) → starts c (Pin SDA false) ≡ true → Taken (next c (Pin SDA false)) us levels last → length levels ≡ 7 → flag AddressMatch c ≡ false →
+by_taken : (c : Chip) (us : List ℕ) (levels : List Bool) (last : Bool) → starts c (Ok (Pin SDA false)) ≡ true → Taken (next c (Ok (Pin SDA false))) us levels last → length levels ≡ 7 → flag AddressMatch c ≡ false →
     flag AddressMatch (advanced c (put_sda false ∷ (us ++ (raise_scl ∷ [])))) ≡ matches (advanced c (put_sda false ∷ us)).core.bus.iiadr (gathered_all 0 (levels ++ (last ∷ [])))
 unfolding advance
 by_taken c us levels last s k seven f =
-    let start = decode_encode (Pin SDA false) refl in
-    let rise : takes_level (advanced (next c (Pin SDA false)) us) (decode raise_scl) ≡ true = rw (decode_encode (Pin SCL true) refl) k.rises in
-    let all : levels_taken (next c (decode (put_sda false))) (us ++ (raise_scl ∷ [])) ≡ levels ++ (last ∷ []) = rw start (levels_append (next c (Pin SDA false)) us raise_scl rise ∙ rw (k.levels, k.last)) in
+    let start = decode_encode (Ok (Pin SDA false)) refl in
+    let rise : takes_level (advanced (next c (Ok (Pin SDA false))) us) (decode raise_scl) ≡ true = rw (decode_encode (Ok (Pin SCL true)) refl) k.rises in
+    let all : levels_taken (next c (decode (put_sda false))) (us ++ (raise_scl ∷ [])) ≡ levels ++ (last ∷ []) = rw start (levels_append (next c (Ok (Pin SDA false))) us raise_scl rise ∙ rw (k.levels, k.last)) in
     decided_at_eighth c (put_sda false) us (rw start s) (rw start k.lasts) (rw (start, k.levels) seven) raise_scl (rw start rise) f
     ∙ ap (λ (ls : List Bool). matches (advanced c (put_sda false ∷ us)).core.bus.iiadr (gathered_all 0 ls)) all
 
 -- from a START with flag A at 0
-pub clocked_address : (c : Chip) → starts c (Pin SDA false) ≡ true → flag AddressMatch c ≡ false → (a b d e f g h i : Bool) →
+pub clocked_address : (c : Chip) → starts c (Ok (Pin SDA false)) ≡ true → flag AddressMatch c ≡ false → (a b d e f g h i : Bool) →
     flag AddressMatch (advanced c (put_sda false ∷ lower_scl ∷ clock_in (a ∷ b ∷ d ∷ e ∷ f ∷ g ∷ h ∷ []) (put_sda i ∷ raise_scl ∷ [])))
     ≡ matches (advanced c (put_sda false ∷ lower_scl ∷ clock_in (a ∷ b ∷ d ∷ e ∷ f ∷ g ∷ h ∷ []) (put_sda i ∷ []))).core.bus.iiadr
     (gathered_all 0 (a ∷ b ∷ d ∷ e ∷ f ∷ g ∷ h ∷ i ∷ []))
 clocked_address c s low a b d e f g h i =
-    let x : Chip = next c (Pin SDA false) in
+    let x : Chip = next c (Ok (Pin SDA false)) in
     let end : List ℕ = put_sda i ∷ [] in
     let k = start_at_lem c s in
     by_taken c (lower_scl ∷ clock_in (a ∷ b ∷ d ∷ e ∷ f ∷ g ∷ h ∷ []) end) (a ∷ b ∷ d ∷ e ∷ f ∷ g ∷ h ∷ []) i s
     (lowered x (clock_in (a ∷ b ∷ d ∷ e ∷ f ∷ g ∷ h ∷ []) end) (a ∷ b ∷ d ∷ e ∷ f ∷ g ∷ h ∷ []) i k
-    (level_in (next x (Pin SCL false)) a (clock_in (b ∷ d ∷ e ∷ f ∷ g ∷ h ∷ []) end) (b ∷ d ∷ e ∷ f ∷ g ∷ h ∷ []) i (fallen x k) (omega arith) (λ x1 a1.
+    (level_in (next x (Ok (Pin SCL false))) a (clock_in (b ∷ d ∷ e ∷ f ∷ g ∷ h ∷ []) end) (b ∷ d ∷ e ∷ f ∷ g ∷ h ∷ []) i (fallen x k) (omega arith) (λ x1 a1.
     level_in x1 b (clock_in (d ∷ e ∷ f ∷ g ∷ h ∷ []) end) (d ∷ e ∷ f ∷ g ∷ h ∷ []) i a1 (omega arith) (λ x2 a2.
     level_in x2 d (clock_in (e ∷ f ∷ g ∷ h ∷ []) end) (e ∷ f ∷ g ∷ h ∷ []) i a2 (omega arith) (λ x3 a3.
     level_in x3 e (clock_in (f ∷ g ∷ h ∷ []) end) (f ∷ g ∷ h ∷ []) i a3 (omega arith) (λ x4 a4.

@@ -12,8 +12,9 @@ use lib.ListN.{length}
 use Rattle.bits.specs.Byte.{pick, bit}
 use Rattle.bits.proofs.Finite.{both}
 use Rattle.bits.proofs.Bitwise.{bit_or_lem}
-use Rattle.events.specs.declared.Decoded.{Decoded}
-use Rattle.events.specs.declared.Decoded.TheVariants.{Read, Write, Pin, Clock, Polarity, Refused}
+use Rattle.std.specs.Prelude.{Ok, Err}
+use Rattle.events.specs.Decoded.{Decoded}
+use Rattle.events.specs.declared.Event.TheVariants.{Read, Write, Pin, Clock, Polarity}
 use Rattle.events.specs.Word.{decode}
 use Rattle.bus.specs.declared.Phase.{Phase}
 use Rattle.bus.specs.declared.Phase.TheVariants.{Address}
@@ -57,7 +58,7 @@ low_both false false h = (refl, refl)
 pub not_and : (x y : Bool) → x ≡ true → not (x && y) ≡ true → y ≡ false
 not_and x y h k = not-true y (rw h at k)
 
-start_pin : (c : Chip) (p : ℕ) (level : Bool) → starts c (Pin p level) ≡ true → Gathers 0 0 (next c (Pin p level))
+start_pin : (c : Chip) (p : ℕ) (level : Bool) → starts c (Ok (Pin p level)) ≡ true → Gathers 0 0 (next c (Ok (Pin p level)))
 unfolding next core_after pin_moved pin_moved_as pin_kind
 start_pin c p level h =
     let x = both _ _ h in
@@ -72,12 +73,12 @@ start_pin c p level h =
     rw (eqb-true p 24 put.0, not-true level put.1) (record { ddc2b = k.1; phase = k.0 })
 
 start_begins : (c : Chip) (e : Decoded) → starts c e ≡ true → Gathers 0 0 (next c e)
-start_begins c (Read a) h = clash _ h refl
-start_begins c (Write a b) h = clash _ h refl
-start_begins c (Pin p level) h = start_pin c p level h
-start_begins c (Clock k) h = clash _ h refl
-start_begins c (Polarity vertical level) h = clash _ h refl
-start_begins c (Refused n) h = clash _ h refl
+start_begins c (Ok (Read a)) h = clash _ h refl
+start_begins c (Ok (Write a b)) h = clash _ h refl
+start_begins c (Ok (Pin p level)) h = start_pin c p level h
+start_begins c (Ok (Clock k)) h = clash _ h refl
+start_begins c (Ok (Polarity vertical level)) h = clash _ h refl
+start_begins c (Err r) h = clash _ h refl
 
 -- a START completes no address
 started_none : (c : Chip) (e : Decoded) → starts c e ≡ true → completes c e ≡ false

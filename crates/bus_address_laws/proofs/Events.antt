@@ -13,8 +13,9 @@ use Rattle.bits.proofs.Finite.{beq_eq}
 use Rattle.bits.proofs.Bitwise.{bit_with_bit}
 use Rattle.registers.specs.Names.{MDCON, IIDAT, IISTS, BTCON}
 use Rattle.registers.specs.Table.{table, row_of, is_writable, updated}
-use Rattle.events.specs.declared.Decoded.{Decoded}
-use Rattle.events.specs.declared.Decoded.TheVariants.{Read, Write, Pin, Clock, Polarity, Refused}
+use Rattle.std.specs.Prelude.{Ok, Err}
+use Rattle.events.specs.Decoded.{Decoded}
+use Rattle.events.specs.declared.Event.TheVariants.{Read, Write, Pin, Clock, Polarity}
 use Rattle.bus.specs.declared.Mode.{Mode}
 use Rattle.bus.specs.declared.Mode.TheVariants.{Off, Ddc1, Ddc2b}
 use Rattle.bus.specs.declared.Edge.{Edge}
@@ -233,22 +234,22 @@ risen_status true sda byte b = status_bit_lem _ _ b.iists
 risen_status false sda byte b = refl
 
 module _ (c : Chip) (b : ℕ) (r : c.core.reset ≡ true) where
-  ends_mdcon : ends c (Write MDCON b) ≡ changes_mode (mode c.core.bus.iists c.core.mdcon) (mode c.core.bus.iists (updated MDCON c.core.mdcon b))
+  ends_mdcon : ends c (Ok (Write MDCON b)) ≡ changes_mode (mode c.core.bus.iists c.core.mdcon) (mode c.core.bus.iists (updated MDCON c.core.mdcon b))
   unfolding ends mode
   ends_mdcon = rw (r, md_written c.core.mdcon b) (md_turns (bit 3 c.core.bus.iists) (bit 0 c.core.mdcon) (bit 0 b))
 
-  ends_iists : ends c (Write IISTS b) ≡ changes_mode (mode c.core.bus.iists c.core.mdcon) (mode (status_written c.core.bus.iists b) c.core.mdcon)
+  ends_iists : ends c (Ok (Write IISTS b)) ≡ changes_mode (mode c.core.bus.iists c.core.mdcon) (mode (status_written c.core.bus.iists b) c.core.mdcon)
   unfolding ends mode
   ends_iists = rw (r, enddc_written c.core.bus.iists b) (enddc_turns (bit 3 c.core.bus.iists) (bit 3 b) (bit 0 c.core.mdcon))
 
-  to_mdcon : Effect c (Write MDCON b) (mdcon_written c.core b)
+  to_mdcon : Effect c (Ok (Write MDCON b)) (mdcon_written c.core b)
   unfolding mdcon_written takes_level
   to_mdcon =
       let bus : Bus = c.core.bus in
       by_mode _ ends_mdcon refl (mode_phase _ _ bus)
       (λ same h. rw (mode_status (mode bus.iists c.core.mdcon) (mode bus.iists (updated MDCON c.core.mdcon b)) bus) (mode_stays bus.iists c.core.mdcon bus.iists (updated MDCON c.core.mdcon b) same h))
 
-  to_iists : Effect c (Write IISTS b) (iists_written c.core b)
+  to_iists : Effect c (Ok (Write IISTS b)) (iists_written c.core b)
   unfolding iists_written takes_level
   to_iists =
       let bus : Bus = c.core.bus in
@@ -256,7 +257,7 @@ module _ (c : Chip) (b : ℕ) (r : c.core.reset ≡ true) where
       by_mode _ ends_iists refl (mode_phase _ _ put)
       (λ same h. rw (mode_status (mode bus.iists c.core.mdcon) (mode (status_written bus.iists b) c.core.mdcon) put) (mode_stays bus.iists c.core.mdcon (status_written bus.iists b) c.core.mdcon same h))
 
-  to_iidat : Effect c (Write IIDAT b) (iidat_written c.core b)
+  to_iidat : Effect c (Ok (Write IIDAT b)) (iidat_written c.core b)
   unfolding iidat_written bus_at_iidat ends takes_level
   to_iidat =
       let bus : Bus = c.core.bus in
@@ -267,7 +268,7 @@ module _ (c : Chip) (b : ℕ) (r : c.core.reset ≡ true) where
       in
       still refl refl parts.0 (λ h. rw parts.1 h)
 
-  to_target : {t : Target} {a : ℕ} → Addressed t a → Effect c (Write a b) (pick (is_writable a) (written_to t c.core b) c.core)
+  to_target : {t : Target} {a : ℕ} → Addressed t a → Effect c (Ok (Write a b)) (pick (is_writable a) (written_to t c.core b) c.core)
   unfolding is_writable row_of table written_to clrflg_written clrwdt_written iiadr_written ends takes_level
   to_target at_mdcon = to_mdcon
   to_target at_hvcon = plain refl refl refl refl
@@ -277,10 +278,10 @@ module _ (c : Chip) (b : ℕ) (r : c.core.reset ≡ true) where
   to_target at_iidat = to_iidat
   to_target at_iists = to_iists
   to_target at_bt = plain refl refl refl refl
-  to_target {a = a} (at_plain p) = pick_by (Effect c (Write a b)) (is_writable a) (λ _. plain (rw (p.iists, p.mdcon)) refl refl refl) (λ _. plain (rw (p.iists, p.mdcon)) refl refl refl)
+  to_target {a = a} (at_plain p) = pick_by (Effect c (Ok (Write a b))) (is_writable a) (λ _. plain (rw (p.iists, p.mdcon)) refl refl refl) (λ _. plain (rw (p.iists, p.mdcon)) refl refl refl)
 
 -- while RESET is low a write is refused
-low_write : (c : Chip) (a b : ℕ) → c.core.reset ≡ false → Effect c (Write a b) c.core
+low_write : (c : Chip) (a b : ℕ) → c.core.reset ≡ false → Effect c (Ok (Write a b)) c.core
 unfolding ends takes_level
 low_write c a b r = plain (rw r (none (eqb a IISTS) (eqb a MDCON) (not (bit 3 c.core.bus.iists)))) refl refl refl
   where
@@ -290,9 +291,9 @@ low_write c a b r = plain (rw r (none (eqb a IISTS) (eqb a MDCON) (not (bit 3 c.
     none false true z = refl
     none false false z = refl
 
-at_write : (c : Chip) (a b : ℕ) → Effect c (Write a b) (next c (Write a b)).core
+at_write : (c : Chip) (a b : ℕ) → Effect c (Ok (Write a b)) (next c (Ok (Write a b))).core
 unfolding next core_after write_register written
-at_write c a b = pick_by (Effect c (Write a b)) c.core.reset (λ r. to_target c b r (addressed a)) (λ r. low_write c a b r)
+at_write c a b = pick_by (Effect c (Ok (Write a b))) c.core.reset (λ r. to_target c b r (addressed a)) (λ r. low_write c a b r)
 
 -- ---- SCL
 
@@ -348,7 +349,7 @@ takes_is reset enddc md held old new =
     tt reset enddc md held old new)
 
 module _ (c : Chip) (level : Bool) where
-  scl_by : (m : Mode) (e : Edge) → ends c (Pin 25 level) ≡ leaves m e → takes_level c (Pin 25 level) ≡ takes m e → Effect c (Pin 25 level) (on_scl m e (with_scl c.core level))
+  scl_by : (m : Mode) (e : Edge) → ends c (Ok (Pin 25 level)) ≡ leaves m e → takes_level c (Ok (Pin 25 level)) ≡ takes m e → Effect c (Ok (Pin 25 level)) (on_scl m e (with_scl c.core level))
   unfolding on_scl on_scl_ddc1 on_scl_ddc2b scl_rise scl_fall leave_ddc1 bus_at_rise released
   scl_by Off e n t = plain n t refl refl
   scl_by Ddc1 Flat n t = plain n t refl refl
@@ -358,15 +359,15 @@ module _ (c : Chip) (level : Bool) where
   scl_by Ddc2b Rise n t = taken n t refl (λ h. rw (status_bit_lem (sda_level c) c.core.bus.phase c.core.bus.iists) h)
   scl_by Ddc2b Fall n t = still n t (kept_fall c.core.bus.iists c.core.bus.phase) (λ h. h)
 
-  ends_scl : ends c (Pin 25 level) ≡ leaves (active_mode c.core) (edge_by (active_mode c.core) (pulls_scl c.core.bus.phase) c.core.scl level)
+  ends_scl : ends c (Ok (Pin 25 level)) ≡ leaves (active_mode c.core) (edge_by (active_mode c.core) (pulls_scl c.core.bus.phase) c.core.scl level)
   unfolding ends mode
   ends_scl = leaves_is c.core.reset (bit 3 c.core.bus.iists) (bit 0 c.core.mdcon) (pulls_scl c.core.bus.phase) c.core.scl level
 
-  takes_scl_lem : takes_level c (Pin 25 level) ≡ takes (active_mode c.core) (edge_by (active_mode c.core) (pulls_scl c.core.bus.phase) c.core.scl level)
+  takes_scl_lem : takes_level c (Ok (Pin 25 level)) ≡ takes (active_mode c.core) (edge_by (active_mode c.core) (pulls_scl c.core.bus.phase) c.core.scl level)
   unfolding takes_level mode
   takes_scl_lem = takes_is c.core.reset (bit 3 c.core.bus.iists) (bit 0 c.core.mdcon) (pulls_scl c.core.bus.phase) c.core.scl level
 
-  at_scl : Effect c (Pin 25 level) (scl_moved c.core level)
+  at_scl : Effect c (Ok (Pin 25 level)) (scl_moved c.core level)
   unfolding scl_moved
   at_scl = rw (scl_pulled_lem (active_mode c.core) c.core.bus.phase) (scl_by _ _ ends_scl takes_scl_lem)
 
@@ -415,7 +416,7 @@ moved_is false reset enddc md held pulls scl old new =
     tt reset enddc md held pulls scl old new)
 
 module _ (c : Chip) (level : Bool) where
-  sda_by_lem : (m : Mode) (high : Bool) (e : Edge) → ends c (Pin 24 level) ≡ moved m high e → takes_level c (Pin 24 level) ≡ false → Effect c (Pin 24 level) (on_sda m high e (with_sda c.core level))
+  sda_by_lem : (m : Mode) (high : Bool) (e : Edge) → ends c (Ok (Pin 24 level)) ≡ moved m high e → takes_level c (Ok (Pin 24 level)) ≡ false → Effect c (Ok (Pin 24 level)) (on_sda m high e (with_sda c.core level))
   unfolding on_sda on_sda_ddc2b started stopped compared_in
   sda_by_lem Off high e n t = plain n t refl refl
   sda_by_lem Ddc1 high e n t = plain n t refl refl
@@ -425,7 +426,7 @@ module _ (c : Chip) (level : Bool) where
   sda_by_lem Ddc2b true Fall n t = over n t refl
   sda_by_lem Ddc2b false Fall n t = plain n t refl refl
 
-  ends_sda : ends c (Pin 24 level) ≡
+  ends_sda : ends c (Ok (Pin 24 level)) ≡
       moved (active_mode c.core) (line (pulled_by (active_mode c.core) (pulls_scl c.core.bus.phase)) c.core.scl)
       (sda_edge (active_mode c.core) (not (bit 7 c.core.bus.shifter.register)) (pulls_sda c.core.bus.phase) c.core.sda level)
   unfolding ends mode
@@ -433,11 +434,11 @@ module _ (c : Chip) (level : Bool) where
       moved_is (not (bit 7 c.core.bus.shifter.register)) c.core.reset (bit 3 c.core.bus.iists) (bit 0 c.core.mdcon) (pulls_scl c.core.bus.phase)
       (pulls_sda c.core.bus.phase) c.core.scl c.core.sda level
 
-  takes_sda : takes_level c (Pin 24 level) ≡ false
+  takes_sda : takes_level c (Ok (Pin 24 level)) ≡ false
   unfolding takes_level
   takes_sda = refl
 
-  at_sda : Effect c (Pin 24 level) (sda_moved c.core level)
+  at_sda : Effect c (Ok (Pin 24 level)) (sda_moved c.core level)
   unfolding sda_moved
   at_sda =
       rw (scl_pulled_lem (active_mode c.core) c.core.bus.phase, sda_pulled_lem (active_mode c.core) c.core.bus.phase c.core.bus.shifter.register c.core.bus.shifter.edges)
@@ -447,11 +448,11 @@ module _ (c : Chip) (level : Bool) where
 
 -- a pin that is none of SDA, SCL and RESET
 plain_pin : {c : Chip} {after : Core} (p : ℕ) (level : Bool) → eqb p 24 ≡ false → eqb p 25 ≡ false → eqb p 28 ≡ false → after.bus ≡ c.core.bus → after.mdcon ≡ c.core.mdcon →
-    Effect c (Pin p level) after
+    Effect c (Ok (Pin p level)) after
 unfolding ends takes_level
 plain_pin p level sda scl reset b m = plain (rw (sda, scl, reset)) (rw scl) b m
 
-unnamed_pin : {c : Chip} {after : Core} {p : ℕ} (level : Bool) → Unnamed p → after.bus ≡ c.core.bus → after.mdcon ≡ c.core.mdcon → Effect c (Pin p level) after
+unnamed_pin : {c : Chip} {after : Core} {p : ℕ} (level : Bool) → Unnamed p → after.bus ≡ c.core.bus → after.mdcon ≡ c.core.mdcon → Effect c (Ok (Pin p level)) after
 unnamed_pin {p = p} level u b m = plain_pin p level u.sda u.scl u.reset b m
 
 -- VSYNCI clocks the shift register in DDC1 alone
@@ -462,22 +463,22 @@ vsync_kept Ddc1 b = (kept_same _, refl)
 vsync_kept Ddc2b b = (kept_same _, refl)
 
 module _ (c : Chip) (level : Bool) where
-  at_vsynci : Effect c (Pin 27 level) (vsync_moved c.core level)
+  at_vsynci : Effect c (Ok (Pin 27 level)) (vsync_moved c.core level)
   unfolding vsync_moved vsync_rise ends takes_level
   at_vsynci =
       let v = vsync_kept (mode_of c.core) c.core.bus in
-      pick_by (Effect c (Pin 27 level)) (rises c.core.reset c.core.pins.vsynci level)
+      pick_by (Effect c (Ok (Pin 27 level))) (rises c.core.reset c.core.pins.vsynci level)
       (λ _. still refl refl v.0 (λ h. rw v.1 h))
       (λ _. plain refl refl refl refl)
 
-  reset_by : (old new : Bool) → c.core.reset ≡ old → level ≡ new → Effect c (Pin 28 level) (on_reset (edge old new) (with_reset c.core new))
+  reset_by : (old new : Bool) → c.core.reset ≡ old → level ≡ new → Effect c (Ok (Pin 28 level)) (on_reset (edge old new) (with_reset c.core new))
   unfolding on_reset reset_core reset_at ends takes_level
   reset_by true true r l = plain (rw (r, l)) refl refl refl
   reset_by true false r l = over (rw (r, l)) refl idle_none
   reset_by false true r l = plain (rw r) refl refl refl
   reset_by false false r l = plain (rw r) refl refl refl
 
-  at_kind_lem : {k : PinKind} {p : ℕ} → Numbered k p → Effect c (Pin p level) (pin_moved_as k c.core p level)
+  at_kind_lem : {k : PinKind} {p : ℕ} → Numbered k p → Effect c (Ok (Pin p level)) (pin_moved_as k c.core p level)
   unfolding pin_moved_as port0_moved port1_moved port2_moved p16_moved hsync_moved reset_moved
   at_kind_lem (port0_pin u high) = unnamed_pin level u refl refl
   at_kind_lem (port1_pin u low high) = unnamed_pin level u refl refl
@@ -490,7 +491,7 @@ module _ (c : Chip) (level : Bool) where
   at_kind_lem vsynci_pin = at_vsynci
   at_kind_lem reset_pin = reset_by c.core.reset level refl refl
 
-at_pin : (c : Chip) (p : ℕ) (level : Bool) → Effect c (Pin p level) (next c (Pin p level)).core
+at_pin : (c : Chip) (p : ℕ) (level : Bool) → Effect c (Ok (Pin p level)) (next c (Ok (Pin p level))).core
 unfolding next core_after pin_moved
 at_pin c p level = at_kind_lem c level (numbered p)
 
@@ -498,29 +499,29 @@ at_pin c p level = at_kind_lem c level (numbered p)
 
 module _ (c : Chip) where
   -- 8 µs
-  at_period : Effect c (Clock 0) (pick c.core.reset (period_clock c.core) c.core)
+  at_period : Effect c (Ok (Clock 0)) (pick c.core.reset (period_clock c.core) c.core)
   unfolding ends takes_level period_clock
   at_period =
-      pick_by (Effect c (Clock 0)) c.core.reset (λ _. still refl refl (kept_period c.core.bus.phase) (λ h. h))
+      pick_by (Effect c (Ok (Clock 0))) c.core.reset (λ _. still refl refl (kept_period c.core.bus.phase) (λ h. h))
       (λ _. plain refl refl refl refl)
 
   -- base clocks
-  at_timer : (k : ℕ) → eqb k 3 ≡ false → Effect c (Clock k) (pick c.core.reset (timer_clock (register_at c.registers BTCON) c.core k) c.core)
+  at_timer : (k : ℕ) → eqb k 3 ≡ false → Effect c (Ok (Clock k)) (pick c.core.reset (timer_clock (register_at c.registers BTCON) c.core k) c.core)
   unfolding ends takes_level timer_clock timer_step
   at_timer k w =
-      pick_by (Effect c (Clock k)) c.core.reset
-      (λ _. pick_by (Effect c (Clock k)) (timer_runs (register_at c.registers BTCON) k) (λ _. plain (rw w) refl refl refl) (λ _. plain (rw w) refl refl refl))
+      pick_by (Effect c (Ok (Clock k))) c.core.reset
+      (λ _. pick_by (Effect c (Ok (Clock k))) (timer_runs (register_at c.registers BTCON) k) (λ _. plain (rw w) refl refl refl) (λ _. plain (rw w) refl refl refl))
       (λ _. plain (rw w) refl refl refl)
 
   -- the watchdog's
   watchdog_by : (reset fires : Bool) (m : ℕ) → c.core.reset ≡ reset → watchdog_fires c.core.watchdog ≡ fires →
-      Effect c (Clock 3) (pick reset (pick fires (reset_core c.core) (with_watchdog c.core m)) c.core)
+      Effect c (Ok (Clock 3)) (pick reset (pick fires (reset_core c.core) (with_watchdog c.core m)) c.core)
   unfolding ends takes_level reset_core reset_at
   watchdog_by true true m r f = over (rw (r, ← (watchdog_last c.core.watchdog), f)) refl idle_none
   watchdog_by true false m r f = plain (rw (r, ← (watchdog_last c.core.watchdog), f)) refl refl refl
   watchdog_by false fires m r f = plain (rw r) refl refl refl
 
-  clock_by : (k : ℕ) (period watchdog : Bool) → eqb k 0 ≡ period → eqb k 3 ≡ watchdog → Effect c (Clock k) (next c (Clock k)).core
+  clock_by : (k : ℕ) (period watchdog : Bool) → eqb k 0 ≡ period → eqb k 3 ≡ watchdog → Effect c (Ok (Clock k)) (next c (Ok (Clock k))).core
   unfolding next core_after clocked clocked_as watchdog_clock
   clock_by k true watchdog e f = rw (eqb-true k 0 e) at_period
   clock_by k false true e f = rw (eqb-true k 3 f) (watchdog_by c.core.reset (watchdog_fires c.core.watchdog) (watchdog_next c.core.watchdog) refl refl)
@@ -528,15 +529,15 @@ module _ (c : Chip) where
 
 -- ---- every event
 
-at_polarity : (c : Chip) (vertical level : Bool) → Effect c (Polarity vertical level) (next c (Polarity vertical level)).core
+at_polarity : (c : Chip) (vertical level : Bool) → Effect c (Ok (Polarity vertical level)) (next c (Ok (Polarity vertical level))).core
 unfolding next core_after polarity_found ends takes_level
-at_polarity c vertical level = pick_by (Effect c (Polarity vertical level)) c.core.reset (λ _. plain refl refl refl refl) (λ _. plain refl refl refl refl)
+at_polarity c vertical level = pick_by (Effect c (Ok (Polarity vertical level))) c.core.reset (λ _. plain refl refl refl refl) (λ _. plain refl refl refl refl)
 
 pub effect : (c : Chip) (e : Decoded) → Effect c e (next c e).core
 unfolding next core_after ends takes_level
-effect c (Read a) = plain refl refl refl refl
-effect c (Write a b) = at_write c a b
-effect c (Pin p level) = at_pin c p level
-effect c (Clock k) = clock_by c k _ _ refl refl
-effect c (Polarity vertical level) = at_polarity c vertical level
-effect c (Refused n) = plain refl refl refl refl
+effect c (Ok (Read a)) = plain refl refl refl refl
+effect c (Ok (Write a b)) = at_write c a b
+effect c (Ok (Pin p level)) = at_pin c p level
+effect c (Ok (Clock k)) = clock_by c k _ _ refl refl
+effect c (Ok (Polarity vertical level)) = at_polarity c vertical level
+effect c (Err r) = plain refl refl refl refl

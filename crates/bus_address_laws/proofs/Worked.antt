@@ -5,8 +5,9 @@ use mathlib.Core.Bool.{Bool, true, false}
 use mathlib.Core.List.{List, [], ◌∷◌, ◌++◌}
 use Prim.Native.Nat.{ℕ}
 use Rattle.registers.specs.Names.{MDCON, IISTS}
+use Rattle.std.specs.Prelude.{Ok}
 use Rattle.events.specs.Pins.{RESET}
-use Rattle.events.specs.declared.Decoded.TheVariants.{Write, Pin}
+use Rattle.events.specs.declared.Event.TheVariants.{Write, Pin}
 use Rattle.events.specs.Word.{encode, decode}
 use Rattle.bus.specs.declared.OwnAddress.TheVariants.{A0, IiAdr, Both}
 use Rattle.bus.specs.declared.Comparison.{Comparison}
@@ -50,9 +51,9 @@ pub over_at : ◌≡◌ {A = List Comparison} (
     ∷ outcome_after 0x50 (received ++ (put_sda false ∷ raise_scl ∷ put_sda true ∷ []))
     ∷ outcome_after 0x50 (received ++ (put_sda true ∷ raise_scl ∷ put_sda false ∷ []))
     ∷ outcome_after 0x50 (received ++ (put_sda true ∷ raise_scl ∷ call 0x50))
-    ∷ outcome_after 0x50 (received ++ (encode (Write IISTS 0x08) ∷ []))
-    ∷ outcome_after 0x50 (received ++ (encode (Write MDCON 0x01) ∷ []))
-    ∷ outcome_after 0x50 (received ++ (encode (Pin RESET false) ∷ []))
+    ∷ outcome_after 0x50 (received ++ (encode (Ok (Write IISTS 0x08)) ∷ []))
+    ∷ outcome_after 0x50 (received ++ (encode (Ok (Write MDCON 0x01)) ∷ []))
+    ∷ outcome_after 0x50 (received ++ (encode (Ok (Pin RESET false)) ∷ []))
     ∷ [])
     (Own A0 ∷ None ∷ None ∷ Own IiAdr ∷ None ∷ None ∷ None ∷ [])
 unfolding opened

@@ -3,7 +3,7 @@ use Rattle.std.specs.Prelude.{ℕ, ◌≡◌, Bool, true, false, not, ◌&&◌, 
 use Rattle.bits.specs.Byte.{pick, bit}
 use Rattle.registers.specs.Names.{MDCON, IISTS, MD12, ENDDC}
 use Rattle.events.specs.Pins as pin
-use Rattle.events.specs.declared.Decoded.{Decoded}
+use Rattle.events.specs.Decoded.{Decoded}
 use Rattle.events.specs.Word.{decode}
 use Rattle.bus.specs.declared.Comparison.{Comparison}
 use Rattle.bus.specs.declared.Comparison.TheVariants.{None}

@@ -1,7 +1,7 @@
 -- Transfers that are computed: an address byte, and a received one.
-use Rattle.std.specs.Prelude.{true, false, List, [], ◌∷◌, ◌++◌, ℕ}
+use Rattle.std.specs.Prelude.{true, false, List, [], ◌∷◌, ◌++◌, ℕ, Ok}
 use Rattle.registers.specs.Names.{MDCON, IIADR, IISTS}
-use Rattle.events.specs.declared.Decoded.TheVariants.{Write}
+use Rattle.events.specs.declared.Event.TheVariants.{Write}
 use Rattle.events.specs.Word.{encode}
 use Rattle.bus.specs.declared.Comparison.{Comparison}
 use Rattle.chip.specs.declared.Chip.{Chip}
@@ -12,7 +12,7 @@ use Rattle.bus_address_laws.specs.Addressed.{outcome_in}
 
 -- DDC2B with this II ADR
 abbrev pub ready : ℕ → Chip
-ready own = advanced fresh (encode (Write MDCON 0x00) ∷ encode (Write IISTS 0x00) ∷ encode (Write IIADR own) ∷ [])
+ready own = advanced fresh (encode (Ok (Write MDCON 0x00)) ∷ encode (Ok (Write IISTS 0x00)) ∷ encode (Ok (Write IIADR own)) ∷ [])
 
 -- START, and the eight levels of a byte clocked in
 abbrev pub call : ℕ → List ℕ
@@ -32,7 +32,7 @@ seven = put_sda false ∷ lower_scl ∷ clock_in (true ∷ false ∷ true ∷ fa
 
 -- II ADR written
 abbrev pub written : ℕ → ℕ
-written own = encode (Write IIADR own)
+written own = encode (Ok (Write IIADR own))
 
 -- A0H acknowledged, and a byte received
 abbrev pub received : List ℕ

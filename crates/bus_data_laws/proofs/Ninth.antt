@@ -13,8 +13,9 @@ use Rattle.bits.specs.Byte.{pick, num, bit}
 use Rattle.bits.proofs.Finite.{both, neither}
 use Rattle.registers.specs.Names.{IIDAT}
 use Rattle.registers.specs.Table.{row_of, is_writable}
-use Rattle.events.specs.declared.Decoded.{Decoded}
-use Rattle.events.specs.declared.Decoded.TheVariants.{Read, Write, Pin, Clock, Polarity, Refused}
+use Rattle.std.specs.Prelude.{Ok, Err}
+use Rattle.events.specs.Decoded.{Decoded}
+use Rattle.events.specs.declared.Event.TheVariants.{Read, Write, Pin, Clock, Polarity}
 use Rattle.events.specs.Word.{decode}
 use Rattle.bus.specs.declared.OwnAddress.{OwnAddress}
 use Rattle.bus.specs.declared.Comparison.TheVariants.{Own}
@@ -118,16 +119,16 @@ data_within called n c e g = data_at c e g.runs ∙ by_fall (falls_scl c e) refl
 -- ---- from a START
 
 start_reset : (c : Chip) (e : Decoded) → starts c e ≡ true → (next c e).core.reset ≡ true
-start_reset c (Read a) s = clash false s refl
-start_reset c (Write a b) s = clash false s refl
-start_reset c (Pin p level) s =
+start_reset c (Ok (Read a)) s = clash false s refl
+start_reset c (Ok (Write a b)) s = clash false s refl
+start_reset c (Ok (Pin p level)) s =
     let put = both _ _ s in
     let pin = both _ _ put.0 in
     let levels = both _ _ put.1 in
-    (effect_of_counting c (Pin p level)).reset ∙ rw (eqb-true p 24 pin.0) levels.0
-start_reset c (Clock k) s = clash false s refl
-start_reset c (Polarity vertical level) s = clash false s refl
-start_reset c (Refused n) s = clash false s refl
+    (effect_of_counting c (Ok (Pin p level))).reset ∙ rw (eqb-true p 24 pin.0) levels.0
+start_reset c (Ok (Clock k)) s = clash false s refl
+start_reset c (Ok (Polarity vertical level)) s = clash false s refl
+start_reset c (Err r) s = clash false s refl
 
 start_within : (c : Chip) (w : ℕ) → starts c (decode w) ≡ true → Within true 0 (next c (decode w))
 unfolding advance
@@ -151,32 +152,32 @@ module _ (c : Chip) (b : ℕ) (r : Runs c.core) (held : pulls_scl c.core.bus.pha
   risen_byte m called true sda = rw called (from_let_go m true (bit 2 c.core.bus.iists) _ c.core.bus.iiadr b)
   risen_byte m called false sda = rw called (from_let_go m false (bit 2 c.core.bus.iists) sda c.core.bus.iiadr b)
 
-  byte_begun : InByte false (num c.core.scl) (next c (Write IIDAT b)).core.scl (next c (Write IIDAT b)).core.bus.phase
+  byte_begun : InByte false (num c.core.scl) (next c (Ok (Write IIDAT b))).core.scl (next c (Ok (Write IIDAT b))).core.bus.phase
   unfolding next core_after write_register written target written_to iidat_written bus_at_iidat is_writable row_of
   byte_begun =
       let own = held_own c.core.bus.phase held in
       rw (r.reset, held) (risen_byte own.0 own.1 c.core.scl c.core.sda)
 
-  not_over : ends c (Write IIDAT b) ≡ false
+  not_over : ends c (Ok (Write IIDAT b)) ≡ false
   unfolding ends
   not_over = refl
 
-let_go_core : (c : Chip) (a b : ℕ) → lets_go c (Write a b) ≡ true → Within false (num c.core.scl) (next c (Write a b))
+let_go_core : (c : Chip) (a b : ℕ) → lets_go c (Ok (Write a b)) ≡ true → Within false (num c.core.scl) (next c (Ok (Write a b)))
 let_go_core c a b h =
     let x = both _ _ h in
     let y = both _ _ x.1 in
     let z = both _ _ y.1 in
     let bits = low_both (bit 3 c.core.bus.iists) (bit 0 c.core.mdcon) z.0 in
     let r : Runs c.core = record { reset = y.0; enddc = bits.0; md = bits.1 } in
-    rw (eqb-true a IIDAT x.0) (record { runs = runs_on c (Write IIDAT b) r (not_over c b r z.1); byte = byte_begun c b r z.1 })
+    rw (eqb-true a IIDAT x.0) (record { runs = runs_on c (Ok (Write IIDAT b)) r (not_over c b r z.1); byte = byte_begun c b r z.1 })
 
 let_go_within : (c : Chip) (e : Decoded) → lets_go c e ≡ true → Within false (num c.core.scl) (next c e)
-let_go_within c (Read a) h = clash false h refl
-let_go_within c (Write a b) h = let_go_core c a b h
-let_go_within c (Pin p level) h = clash false h refl
-let_go_within c (Clock k) h = clash false h refl
-let_go_within c (Polarity vertical level) h = clash false h refl
-let_go_within c (Refused n) h = clash false h refl
+let_go_within c (Ok (Read a)) h = clash false h refl
+let_go_within c (Ok (Write a b)) h = let_go_core c a b h
+let_go_within c (Ok (Pin p level)) h = clash false h refl
+let_go_within c (Ok (Clock k)) h = clash false h refl
+let_go_within c (Ok (Polarity vertical level)) h = clash false h refl
+let_go_within c (Err r) h = clash false h refl
 
 pub ninth_since_let_go : (c : Chip) (w : ℕ) (us : List ℕ) → NinthSinceLetGo c w us
 unfolding advance

@@ -10,8 +10,9 @@ use Rattle.bus.specs.declared.OwnAddress.TheVariants.{A0}
 use Rattle.bus.specs.declared.Phase.TheVariants.{Held}
 use Rattle.bus.specs.Ddc1.{unused_shifter}
 use Rattle.bits.specs.Byte.{weight}
+use Rattle.std.specs.Prelude.{Ok}
 use Rattle.events.specs.Pins.{SCL}
-use Rattle.events.specs.declared.Decoded.TheVariants.{Write, Pin}
+use Rattle.events.specs.declared.Event.TheVariants.{Write, Pin}
 use Rattle.events.specs.Word.{encode, decode}
 use Rattle.chip.specs.declared.Chip.{Chip}
 use Rattle.chip.specs.State.{fresh, chip_of, bus_of, with_bus, with_mdcon, with_scl}
@@ -26,14 +27,14 @@ use Rattle.bus_address_laws.specs.Addressed.{starts, ends}
 use Rattle.bus_data_laws.specs.Ninth.{lets_go, ends_byte}
 
 abbrev ready : Chip
-ready = advanced fresh (encode (Write MDCON 0x00) ∷ encode (Write IISTS 0x00) ∷ [])
+ready = advanced fresh (encode (Ok (Write MDCON 0x00)) ∷ encode (Ok (Write IISTS 0x00)) ∷ [])
 
 -- after a word with which a byte begins: no word of the list ends it, and a fall of SCL then sets flag D
 abbrev Told : Type 0
 Told = Bool × Bool
 
 abbrev told : Chip → ℕ → List ℕ → Told
-told c w us = (never ends_byte (next c (decode w)) us, raises DataByte (advanced c (w ∷ us)) (Pin SCL false))
+told c w us = (never ends_byte (next c (decode w)) us, raises DataByte (advanced c (w ∷ us)) (Ok (Pin SCL false)))
 
 -- an address: SCL falls, and a clock for each bit, with the level put before its rise
 abbrev eight_rises : ℕ → List ℕ

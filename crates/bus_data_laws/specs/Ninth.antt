@@ -2,7 +2,7 @@
 use Rattle.std.specs.Prelude.{ℕ, ◌+◌, ◌≡◌, Bool, true, false, ◌&&◌, ◌||◌, List, ◌∷◌, eqb, length}
 use Rattle.bits.specs.Byte.{num}
 use Rattle.registers.specs.Names.{IIDAT}
-use Rattle.events.specs.declared.Decoded.{Decoded}
+use Rattle.events.specs.Decoded.{Decoded}
 use Rattle.events.specs.Kinds.{on_write}
 use Rattle.events.specs.Word.{decode}
 use Rattle.bus.specs.Bus.{pulls_scl, is_own}

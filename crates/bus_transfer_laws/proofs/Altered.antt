@@ -12,7 +12,8 @@ use Rattle.bits.proofs.Finite.{neither}
 use Rattle.bits.proofs.Level.{pick_by}
 use Rattle.registers.specs.Names.{MDCON, CLRFLG, CLRWDT, IIADR, IIDAT, IISTS, HSEL, MD12, ENDDC, CLRHOV, CLRVOV}
 use Rattle.registers.specs.Table.{row_of, write_mask, updated}
-use Rattle.events.specs.declared.Decoded.TheVariants.{Write}
+use Rattle.std.specs.Prelude.{Ok}
+use Rattle.events.specs.declared.Event.TheVariants.{Write}
 use Rattle.sync.specs.declared.Sync.{Sync}
 use Rattle.sync.specs.declared.PeriodCounter.{PeriodCounter}
 use Rattle.sync.specs.Sync.{clear_lines, clear_periods, zero_lines, hsel_cleared, clear_overflow}
@@ -183,7 +184,7 @@ module _ (c : Chip) (a b : ℕ) where
 -- ---- the theorem
 
 -- a write to any register, taken or refused, leaves each part that it does not alter by its byte at this state
-pub altered : (c : Chip) (a b : ℕ) (p : Part) → alters_by c a b p ≡ false → SameAt p (next c (Write a b)) c
+pub altered : (c : Chip) (a b : ℕ) (p : Part) → alters_by c a b p ≡ false → SameAt p (next c (Ok (Write a b))) c
 unfolding alters_by
 altered c a b (Place n) h = frame c a b (Place n) h
 altered c a b Irqx h = frame c a b Irqx h

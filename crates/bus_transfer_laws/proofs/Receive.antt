@@ -11,8 +11,9 @@ use Rattle.bits.specs.Byte.{bit}
 use Rattle.bits.proofs.Finite.{beq_eq, both, T_true}
 use Rattle.registers.specs.Names.{IIDAT}
 use Rattle.registers.specs.Table.{row_of, read_mask, is_readable, updated}
+use Rattle.std.specs.Prelude.{Ok}
 use Rattle.events.specs.Pins.{SDA, SCL}
-use Rattle.events.specs.declared.Decoded.TheVariants.{Write, Pin}
+use Rattle.events.specs.declared.Event.TheVariants.{Write, Pin}
 use Rattle.bus.specs.declared.OwnAddress.{OwnAddress}
 use Rattle.bus.specs.declared.Phase.{Phase}
 use Rattle.bus.specs.declared.Phase.TheVariants.{Receive}
@@ -60,9 +61,9 @@ data_taken m bits sda byte = refl
 -- ---- a level taken
 
 module _ {m : OwnAddress} {n bits status byte : ℕ} {sda : Bool} (c : Chip) (level : Bool) (h : n < 8) (a : At (Receive m n bits) status byte false sda c.core) where
-  risen : At (Receive m (n + 1) (gathered bits level)) status (data_at_rise level (Receive m n bits) byte) true level (next (next c (Pin SDA level)) (Pin SCL true)).core
+  risen : At (Receive m (n + 1) (gathered bits level)) status (data_at_rise level (Receive m n bits) byte) true level (next (next c (Ok (Pin SDA level))) (Ok (Pin SCL true))).core
   risen =
-      let x : Chip = next c (Pin SDA level) in
+      let x : Chip = next c (Ok (Pin SDA level)) in
       let b = after_sda c (free m n bits h) level a in
       rw (unpulled m n bits h, gathers m n bits h x.core.bus.iiadr level, status_stays m n bits h level status) at
       (after_rise x (free m n bits h) b (rw (status_stays m n bits h (line (pulls_sda (Receive m n bits)) level) status) b.enddc))
@@ -71,12 +72,12 @@ module _ {m : OwnAddress} {n bits status byte : ℕ} {sda : Bool} (P : Chip → 
   -- one of the first seven
   clocked : ((x : Chip) → At (Receive m (n + 1) (gathered bits level)) status byte false level x.core → P (advanced x ws)) → P (advanced c (put_sda level ∷ raise_scl ∷ lower_scl ∷ ws))
   clocked k =
-      let x : Chip = next c (Pin SDA level) in
-      let y : Chip = next x (Pin SCL true) in
-      let z : Chip = next y (Pin SCL false) in
+      let x : Chip = next c (Ok (Pin SDA level)) in
+      let y : Chip = next x (Ok (Pin SCL true)) in
+      let z : Chip = next y (Ok (Pin SCL false)) in
       let b : At (Receive m (n + 1) (gathered bits level)) status byte true level y.core = rw (data_stays m n bits h level byte) at (risen c level (omega arith) a) in
       let d : At (Receive m (n + 1) (gathered bits level)) status byte false level z.core = rw (stays m (n + 1) (gathered bits level) (omega arith) status) at (after_fall y (free m (n + 1) (gathered bits level) (omega arith)) b) in
-      rw (given c (Pin SDA level) (raise_scl ∷ lower_scl ∷ ws) refl, given x (Pin SCL true) (lower_scl ∷ ws) refl, given y (Pin SCL false) ws refl) (k z d)
+      rw (given c (Ok (Pin SDA level)) (raise_scl ∷ lower_scl ∷ ws) refl, given x (Ok (Pin SCL true)) (lower_scl ∷ ws) refl, given y (Ok (Pin SCL false)) ws refl) (k z d)
 
 -- ---- what II DAT shows
 
@@ -111,10 +112,10 @@ top_first a b d e f g h i = same_eq _ _ (T_true _ (at_eight (λ a b d e f g h i.
 last : (P : Chip → Type 0) (m : OwnAddress) {bits status : ℕ} (byte : ℕ) {sda : Bool} (c : Chip) (level : Bool) → At (Receive m 7 bits) status byte false sda c.core →
     ((x : Chip) → At (Receive m 8 (gathered bits level)) status (gathered bits level) true level x.core → P x) → P (advanced c (put_sda level ∷ raise_scl ∷ []))
 last P m {bits} {status} byte c level a k =
-    let x : Chip = next c (Pin SDA level) in
-    let y : Chip = next x (Pin SCL true) in
+    let x : Chip = next c (Ok (Pin SDA level)) in
+    let y : Chip = next x (Ok (Pin SCL true)) in
     let r : At (Receive m 8 (gathered bits level)) status (gathered bits level) true level y.core = rw (data_taken m bits level byte) at (risen c level (omega arith) a) in
-    rw (given c (Pin SDA level) (raise_scl ∷ []) refl, given x (Pin SCL true) [] refl) (k y r)
+    rw (given c (Ok (Pin SDA level)) (raise_scl ∷ []) refl, given x (Ok (Pin SCL true)) [] refl) (k y r)
 
 -- from a hold with TRX 0: the chip at the eighth rise, with the bits that were gathered
 module _ (P : Chip → Type 0) (c : Chip) (byte : ℕ) (l : byte < 256) (hold : Holding false c) (a b d e f g h i : Bool) where
@@ -123,8 +124,8 @@ module _ (P : Chip → Type 0) (c : Chip) (byte : ℕ) (l : byte < 256) (hold : 
   at_eighth_rise k =
       let m : OwnAddress = called_by c hold in
       let end : List ℕ = put_sda i ∷ raise_scl ∷ [] in
-      rw (given c (Write IIDAT byte) (clock_in (a ∷ b ∷ d ∷ e ∷ f ∷ g ∷ h ∷ []) end) (omega arith, l))
-      (clocked P (next c (Write IIDAT byte)) a (clock_in (b ∷ d ∷ e ∷ f ∷ g ∷ h ∷ []) end) (omega arith) (let_go c hold byte) (λ x1 a1.
+      rw (given c (Ok (Write IIDAT byte)) (clock_in (a ∷ b ∷ d ∷ e ∷ f ∷ g ∷ h ∷ []) end) (omega arith, l))
+      (clocked P (next c (Ok (Write IIDAT byte))) a (clock_in (b ∷ d ∷ e ∷ f ∷ g ∷ h ∷ []) end) (omega arith) (let_go c hold byte) (λ x1 a1.
       clocked P x1 b (clock_in (d ∷ e ∷ f ∷ g ∷ h ∷ []) end) (omega arith) a1 (λ x2 a2.
       clocked P x2 d (clock_in (e ∷ f ∷ g ∷ h ∷ []) end) (omega arith) a2 (λ x3 a3.
       clocked P x3 e (clock_in (f ∷ g ∷ h ∷ []) end) (omega arith) a3 (λ x4 a4.

@@ -9,7 +9,8 @@ use Rattle.bits.specs.Byte.{bit}
 use Rattle.bits.proofs.Bitwise.{bit_or_lem, bit_and_lem, bit_merge}
 use Rattle.registers.specs.Names.{IISTS, START, STOP}
 use Rattle.registers.specs.Table.{row_of, write_mask, read_mask, is_writable, is_readable, updated}
-use Rattle.events.specs.declared.Decoded.TheVariants.{Write}
+use Rattle.std.specs.Prelude.{Ok}
+use Rattle.events.specs.declared.Event.TheVariants.{Write}
 use Rattle.chip.specs.declared.Chip.{Chip}
 use Rattle.chip_reads.specs.Reads.{shown, reading}
 use Rattle.chip_ddc_writes.specs.DdcWrites.{status_written}
@@ -37,10 +38,10 @@ status_bit_lem k old b h m n = rw (bit_and_lem k (updated IISTS old b) (bit_or b
     or_false x false = refl
 
 module _ (c : Chip) (b : ℕ) (r : c.core.reset ≡ true) where
-  reset_kept : (next c (Write IISTS b)).core.reset ≡ true
+  reset_kept : (next c (Ok (Write IISTS b))).core.reset ≡ true
   reset_kept = by_write (λ (x : Chip). x.core.reset ≡ true) c IISTS b (λ _ _. r) (λ _. r)
 
-  stored : (k : ℕ) → k < 8 → bit k 0x0d ≡ false → bit k 0xcf ≡ false → bit k (next c (Write IISTS b)).core.bus.iists ≡ (bit k c.core.bus.iists && bit k b)
+  stored : (k : ℕ) → k < 8 → bit k 0x0d ≡ false → bit k 0xcf ≡ false → bit k (next c (Ok (Write IISTS b))).core.bus.iists ≡ (bit k c.core.bus.iists && bit k b)
   unfolding is_writable row_of
   stored k h m n =
       by_write (λ (x : Chip). bit k x.core.bus.iists ≡ (bit k c.core.bus.iists && bit k b)) c IISTS b
@@ -48,11 +49,11 @@ module _ (c : Chip) (b : ℕ) (r : c.core.reset ≡ true) where
       (λ q. let z : ◌≡◌ {A = Bool} true false = rw r at q in cc)
 
   -- START, as a read shows it before and after
-  pub start_written : shows IISTS START (next c (Write IISTS b)) ≡ kept_flag (shows IISTS START c) (bit START b)
+  pub start_written : shows IISTS START (next c (Ok (Write IISTS b))) ≡ kept_flag (shows IISTS START c) (bit START b)
   unfolding bit
-  start_written = rw (status_shown (next c (Write IISTS b)) START reset_kept refl, status_shown c START r refl) (stored START (omega arith) refl refl)
+  start_written = rw (status_shown (next c (Ok (Write IISTS b))) START reset_kept refl, status_shown c START r refl) (stored START (omega arith) refl refl)
 
   -- STOP likewise
-  pub stop_written : shows IISTS STOP (next c (Write IISTS b)) ≡ kept_flag (shows IISTS STOP c) (bit STOP b)
+  pub stop_written : shows IISTS STOP (next c (Ok (Write IISTS b))) ≡ kept_flag (shows IISTS STOP c) (bit STOP b)
   unfolding bit
-  stop_written = rw (status_shown (next c (Write IISTS b)) STOP reset_kept refl, status_shown c STOP r refl) (stored STOP (omega arith) refl refl)
+  stop_written = rw (status_shown (next c (Ok (Write IISTS b))) STOP reset_kept refl, status_shown c STOP r refl) (stored STOP (omega arith) refl refl)

@@ -7,9 +7,10 @@ use Prim.Native.Nat.{ℕ}
 use Rattle.bits.specs.Byte.{bit}
 use Rattle.registers.specs.Names.{IIDAT, TRX}
 use Rattle.registers.specs.Table.{row_of, is_writable, updated}
+use Rattle.std.specs.Prelude.{Ok}
 use Rattle.events.specs.Pins.{SDA, SCL}
-use Rattle.events.specs.declared.Decoded.{Decoded}
-use Rattle.events.specs.declared.Decoded.TheVariants.{Write, Pin}
+use Rattle.events.specs.Decoded.{Decoded}
+use Rattle.events.specs.declared.Event.TheVariants.{Write, Pin}
 use Rattle.events.specs.Word.{encode, InRange}
 use Rattle.events.proofs.EventWord.{decode_encode}
 use Rattle.bus.specs.declared.Mode.TheVariants.{Ddc2b}
@@ -107,16 +108,16 @@ module _ (g : Core) (irqx : ℕ) (p : Phase) (status byte : ℕ) (sda : Bool) (e
 -- ---- the words of a transfer
 
 module _ {p : Phase} {status byte : ℕ} {sda : Bool} (c : Chip) (free : pulls_scl p ≡ false) where
-  pub after_sda : (level : Bool) → At p status byte false sda c.core → At p status byte false level (next c (Pin SDA level)).core
+  pub after_sda : (level : Bool) → At p status byte false sda c.core → At p status byte false level (next c (Ok (Pin SDA level))).core
   unfolding next core_after pin_moved pin_moved_as pin_kind
   after_sda level a = rw (as_put a) (sda_put_lem c.core c.core.irqx p status byte sda a.enddc a.md free level)
 
   pub after_rise : At p status byte false sda c.core → bit 3 (status_at_rise (line (pulls_sda p) sda) p status) ≡ false →
-      At (phase_at_rise c.core.bus.iiadr (line (pulls_sda p) sda) p) (status_at_rise (line (pulls_sda p) sda) p status) (data_at_rise (line (pulls_sda p) sda) p byte) true sda (next c (Pin SCL true)).core
+      At (phase_at_rise c.core.bus.iiadr (line (pulls_sda p) sda) p) (status_at_rise (line (pulls_sda p) sda) p status) (data_at_rise (line (pulls_sda p) sda) p byte) true sda (next c (Ok (Pin SCL true))).core
   unfolding next core_after pin_moved pin_moved_as pin_kind
   after_rise a f = rw (as_put a) (scl_rises_lem c.core c.core.irqx p status byte sda a.enddc a.md free f)
 
-  pub after_fall : At p status byte true sda c.core → At (phase_at_fall status p) status byte false sda (next c (Pin SCL false)).core
+  pub after_fall : At p status byte true sda c.core → At (phase_at_fall status p) status byte false sda (next c (Ok (Pin SCL false))).core
   unfolding next core_after pin_moved pin_moved_as pin_kind
   after_fall a = rw (as_put a) (scl_falls_lem c.core c.core.irqx p status byte sda a.enddc a.md free)
 
@@ -153,12 +154,12 @@ abbrev pub called_by : {trx : Bool} (c : Chip) → Holding trx c → OwnAddress
 called_by c h = (held_own c.core.bus.phase h.held).0
 
 module _ (c : Chip) {trx : Bool} (h : Holding trx c) (byte : ℕ) where
-  let_go_by : (m : OwnAddress) → compared_in c.core.bus.phase ≡ Own m → At (begun m trx byte) c.core.bus.iists (updated IIDAT c.core.bus.iidat byte) false c.core.sda (next c (Write IIDAT byte)).core
+  let_go_by : (m : OwnAddress) → compared_in c.core.bus.phase ≡ Own m → At (begun m trx byte) c.core.bus.iists (updated IIDAT c.core.bus.iidat byte) false c.core.sda (next c (Ok (Write IIDAT byte))).core
   unfolding next core_after write_register written target written_to iidat_written bus_at_iidat bus_risen is_writable row_of mode bit
   let_go_by m called =
       let bits = mode_bits (bit 3 c.core.bus.iists) (bit 0 c.core.mdcon) h.ddc2b in
       let direction : bit TRX c.core.bus.iists ≡ trx = sym (status_shown c TRX h.reset refl) ∙ h.direction in
       rw (h.reset, h.held, h.low, direction, called, begun_is m trx byte) (record { reset = refl; enddc = bits.0; md = bits.1; phase = refl; iists = refl; iidat = refl; scl = refl; sda = refl })
 
-  pub let_go : At (begun (called_by c h) trx byte) c.core.bus.iists (updated IIDAT c.core.bus.iidat byte) false c.core.sda (next c (Write IIDAT byte)).core
+  pub let_go : At (begun (called_by c h) trx byte) c.core.bus.iists (updated IIDAT c.core.bus.iidat byte) false c.core.sda (next c (Ok (Write IIDAT byte))).core
   let_go = let_go_by (called_by c h) (held_own c.core.bus.phase h.held).1

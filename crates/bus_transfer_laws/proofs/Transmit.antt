@@ -11,8 +11,9 @@ use Rattle.bits.specs.Byte.{pick, bit, with_bit}
 use Rattle.bits.proofs.Bitwise.{bit_with_bit}
 use Rattle.registers.specs.Names.{IIDAT, IISTS, RXAK}
 use Rattle.registers.specs.Table.{updated}
+use Rattle.std.specs.Prelude.{Ok}
 use Rattle.events.specs.Pins.{SDA, SCL}
-use Rattle.events.specs.declared.Decoded.TheVariants.{Write, Pin}
+use Rattle.events.specs.declared.Event.TheVariants.{Write, Pin}
 use Rattle.bus.specs.declared.OwnAddress.{OwnAddress}
 use Rattle.bus.specs.declared.Phase.{Phase}
 use Rattle.bus.specs.declared.Phase.TheVariants.{Transmit}
@@ -61,29 +62,29 @@ line_not false = refl
 -- ---- a clock
 
 module _ {m : OwnAddress} {n byte status kept : ℕ} {sda : Bool} (c : Chip) (h : n < 9) (a : At (Transmit m n byte) status kept false sda c.core) where
-  risen : At (Transmit m n byte) status kept true sda (next c (Pin SCL true)).core
+  risen : At (Transmit m n byte) status kept true sda (next c (Ok (Pin SCL true))).core
   risen =
       let level : Bool = line (pulls_sda (Transmit m n byte)) sda in
       rw (waits m n byte h c.core.bus.iiadr level, status_stays m n byte h level status, data_stays m n byte level kept) at
       (after_rise c (free m n byte) a (rw (status_stays m n byte h level status) a.enddc))
 
-  fallen : At (Transmit m (n + 1) byte) status kept false sda (next (next c (Pin SCL true)) (Pin SCL false)).core
-  fallen = rw (moves m n byte h status) at (after_fall (next c (Pin SCL true)) (free m n byte) risen)
+  fallen : At (Transmit m (n + 1) byte) status kept false sda (next (next c (Ok (Pin SCL true))) (Ok (Pin SCL false))).core
+  fallen = rw (moves m n byte h status) at (after_fall (next c (Ok (Pin SCL true))) (free m n byte) risen)
 
-  two : (ws : List ℕ) → advanced c (raise_scl ∷ lower_scl ∷ ws) ≡ advanced (next (next c (Pin SCL true)) (Pin SCL false)) ws
-  two ws = given c (Pin SCL true) (lower_scl ∷ ws) refl ∙ given (next c (Pin SCL true)) (Pin SCL false) ws refl
+  two : (ws : List ℕ) → advanced c (raise_scl ∷ lower_scl ∷ ws) ≡ advanced (next (next c (Ok (Pin SCL true))) (Ok (Pin SCL false))) ws
+  two ws = given c (Ok (Pin SCL true)) (lower_scl ∷ ws) refl ∙ given (next c (Ok (Pin SCL true))) (Ok (Pin SCL false)) ws refl
 
   clocked : At (Transmit m (n + 1) byte) status kept false sda (advanced c (raise_scl ∷ lower_scl ∷ [])).core
   clocked = rw (two []) fallen
 
   clocked_on : (P : Chip → Type 0) (ws : List ℕ) → ((x : Chip) → At (Transmit m (n + 1) byte) status kept false sda x.core → P (advanced x ws)) → P (advanced c (raise_scl ∷ lower_scl ∷ ws))
-  clocked_on P ws k = rw (two ws) (k (next (next c (Pin SCL true)) (Pin SCL false)) fallen)
+  clocked_on P ws k = rw (two ws) (k (next (next c (Ok (Pin SCL true))) (Ok (Pin SCL false))) fallen)
 
   out : puts c ≡ line (pulls_sda (Transmit m n byte)) true
   out = puts_at c a
 
   out_high : puts_at_rise c ≡ line (pulls_sda (Transmit m n byte)) true
-  out_high = rw (given c (Pin SCL true) [] refl) (puts_at (next c (Pin SCL true)) risen)
+  out_high = rw (given c (Ok (Pin SCL true)) [] refl) (puts_at (next c (Ok (Pin SCL true))) risen)
 
 -- ---- eight bits
 
@@ -127,19 +128,19 @@ module _ {m : OwnAddress} {byte status kept : ℕ} {sda : Bool} (c : Chip) (a : 
   ninth_status : (k : ℕ) → k < 8 → bit k (with_bit status RXAK level) ≡ pick (eqb k RXAK) level (bit k status)
   ninth_status k h = bit_with_bit k RXAK status level h (omega arith)
 
-  ninth_risen : At (Transmit m 10 byte) (with_bit status RXAK level) kept true level (next (next c (Pin SDA level)) (Pin SCL true)).core
+  ninth_risen : At (Transmit m 10 byte) (with_bit status RXAK level) kept true level (next (next c (Ok (Pin SDA level))) (Ok (Pin SCL true))).core
   unfolding phase_at_rise status_at_rise data_at_rise pulls_sda pulls_at_bit
   ninth_risen =
-      let x : Chip = next c (Pin SDA level) in
+      let x : Chip = next c (Ok (Pin SDA level)) in
       let b = after_sda c (free m 9 byte) level a in
       after_rise x (free m 9 byte) b (ninth_status 3 (omega arith) ∙ a.enddc)
 
   ninth : shows IISTS RXAK (advanced c (put_sda level ∷ raise_scl ∷ [])) ≡ level
   unfolding bit
   ninth =
-      let x : Chip = next c (Pin SDA level) in
-      let y : Chip = next x (Pin SCL true) in
-      rw (given c (Pin SDA level) (raise_scl ∷ []) refl, given x (Pin SCL true) [] refl)
+      let x : Chip = next c (Ok (Pin SDA level)) in
+      let y : Chip = next x (Ok (Pin SCL true)) in
+      rw (given c (Ok (Pin SDA level)) (raise_scl ∷ []) refl, given x (Ok (Pin SCL true)) [] refl)
       (status_shown y RXAK ninth_risen.reset refl ∙ ap (bit RXAK) ninth_risen.iists ∙ ninth_status RXAK (omega arith))
 
 -- ---- a whole byte
@@ -159,7 +160,7 @@ module _ (P : Chip → Type 0) (ws : List ℕ) {m : OwnAddress} {byte status kep
 
 module _ (c : Chip) (byte : ℕ) (l : byte < 256) (hold : Holding true c) where
   let_go_at : At (Transmit (called_by c hold) 1 byte) c.core.bus.iists (updated IIDAT c.core.bus.iidat byte) false c.core.sda (advanced c (write_data byte ∷ [])).core
-  let_go_at = rw (given c (Write IIDAT byte) [] (omega arith, l)) (let_go c hold byte)
+  let_go_at = rw (given c (Ok (Write IIDAT byte)) [] (omega arith, l)) (let_go c hold byte)
 
   -- from a hold with TRX 1: the levels after letting go and after each of the next seven falls
   pub transmitted : over_clocks puts 8 (advanced c (write_data byte ∷ [])) ≡ bits_of byte
@@ -173,11 +174,11 @@ module _ (c : Chip) (byte : ℕ) (l : byte < 256) (hold : Holding true c) where
   pub released_at_eighth : puts (advanced c (write_data byte ∷ clocks 8 [])) ≡ true
   unfolding pulls_sda pulls_at_bit
   released_at_eighth =
-      rw (given c (Write IIDAT byte) (clocks 8 []) (omega arith, l))
-      (from_eighth (λ (x : Chip). puts x ≡ true) [] (next c (Write IIDAT byte)) (let_go c hold byte) (λ x a. puts_at x a))
+      rw (given c (Ok (Write IIDAT byte)) (clocks 8 []) (omega arith, l))
+      (from_eighth (λ (x : Chip). puts x ≡ true) [] (next c (Ok (Write IIDAT byte))) (let_go c hold byte) (λ x a. puts_at x a))
 
   -- and the level then put on SDA is what RXAK shows after the ninth rise
   pub acknowledge_shown : (level : Bool) → shows IISTS RXAK (advanced c (write_data byte ∷ clocks 8 (put_sda level ∷ raise_scl ∷ []))) ≡ level
   acknowledge_shown level =
-      rw (given c (Write IIDAT byte) (clocks 8 (put_sda level ∷ raise_scl ∷ [])) (omega arith, l))
-      (from_eighth (λ (x : Chip). shows IISTS RXAK x ≡ level) (put_sda level ∷ raise_scl ∷ []) (next c (Write IIDAT byte)) (let_go c hold byte) (λ x a. ninth x a level))
+      rw (given c (Ok (Write IIDAT byte)) (clocks 8 (put_sda level ∷ raise_scl ∷ [])) (omega arith, l))
+      (from_eighth (λ (x : Chip). shows IISTS RXAK x ≡ level) (put_sda level ∷ raise_scl ∷ []) (next c (Ok (Write IIDAT byte))) (let_go c hold byte) (λ x a. ninth x a level))

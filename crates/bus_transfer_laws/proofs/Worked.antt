@@ -5,7 +5,8 @@ use mathlib.Core.Bool.{true, false}
 use mathlib.Core.List.{[], ◌∷◌}
 use Rattle.registers.specs.Names.{IISTS, TRX}
 use Rattle.bits.specs.Byte.{weight}
-use Rattle.events.specs.declared.Decoded.TheVariants.{Write}
+use Rattle.std.specs.Prelude.{Ok}
+use Rattle.events.specs.declared.Event.TheVariants.{Write}
 use Rattle.events.specs.Word.{encode}
 use Rattle.chip.specs.State.{fresh}
 use Rattle.list_call.specs.Run.{advanced}
@@ -17,6 +18,6 @@ pub held_to_receive : Holding false (advanced fresh (addressed []))
 unfolding opened
 held_to_receive = record { reset = refl; ddc2b = refl; held = refl; low = refl; direction = refl }
 
-pub held_to_transmit : Holding true (advanced fresh (addressed (encode (Write IISTS (weight TRX)) ∷ [])))
+pub held_to_transmit : Holding true (advanced fresh (addressed (encode (Ok (Write IISTS (weight TRX))) ∷ [])))
 unfolding opened
 held_to_transmit = record { reset = refl; ddc2b = refl; held = refl; low = refl; direction = refl }

@@ -1,10 +1,10 @@
 -- The pins of the ports, each with the register bit that shows it and the bit that steers it (document 01, "Ports").
-use Rattle.std.specs.Prelude.{ℕ, Bool, true, false, ◌&&◌, List, [], ◌∷◌}
+use Rattle.std.specs.Prelude.{ℕ, Bool, true, false, ◌&&◌, List, [], ◌∷◌, Ok}
 use Rattle.std.specs.Bool.{beq}
 use Rattle.bits.specs.Byte.{pick, with_bit}
 use Rattle.registers.specs.Names.{PT0, PT1, PT2DIR, PT2, PT3, SYNCON, ENDAC, IISTS, ENDDC}
 use Rattle.events.specs.Pins.{SDA, SCL, P16}
-use Rattle.events.specs.declared.Decoded.TheVariants.{Write, Pin}
+use Rattle.events.specs.declared.Event.TheVariants.{Write, Pin}
 use Rattle.events.specs.Word.{encode}
 use Rattle.chip.specs.State.{fresh}
 use Rattle.list_call.specs.Run.{advanced}
@@ -79,16 +79,16 @@ abbrev pub byte_with : Bool → ℕ → Bool → ℕ
 byte_with others k value = with_bit (pick others 0xff 0x00) k value
 
 abbrev pub steering : Use → Bool → Bool → List ℕ
-steering (given_by register k) others steer = encode (Write register (byte_with others k steer)) ∷ []
+steering (given_by register k) others steer = encode (Ok (Write register (byte_with others k steer))) ∷ []
 steering unshared others steer = []
 steering input others steer = []
-steering (directed_by register k) others steer = encode (Write register (byte_with others k steer)) ∷ []
+steering (directed_by register k) others steer = encode (Ok (Write register (byte_with others k steer))) ∷ []
 
 -- the latch, the steering bit and the level are put; all other bits of the latches and of the steering registers are as `others` says
 unfoldable pub port_words : PortPin → Bool → Bool → Bool → Bool → List ℕ
 port_words p others latch level steer =
-    encode (Write ENDAC (pick others 0xff 0x00)) ∷ encode (Write SYNCON (pick others 0xff 0x00)) ∷ encode (Write p.register (byte_with others p.place latch))
-    ∷ encode (Pin p.pin level) ∷ steering p.used_as others steer
+    encode (Ok (Write ENDAC (pick others 0xff 0x00))) ∷ encode (Ok (Write SYNCON (pick others 0xff 0x00))) ∷ encode (Ok (Write p.register (byte_with others p.place latch)))
+    ∷ encode (Ok (Pin p.pin level)) ∷ steering p.used_as others steer
 
 -- after them a read from a chip that was fresh shows what the pin reads
 unfoldable pub reads_right : PortPin → Bool → Bool → Bool → Bool → Bool

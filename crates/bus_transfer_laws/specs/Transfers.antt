@@ -1,9 +1,9 @@
 -- A byte on the bus, told by the words given, the levels on SDA and the bytes read (document 01, "Registers" and "The bus").
-use Rattle.std.specs.Prelude.{ℕ, zero, suc, ◌≡◌, Bool, true, false, ◌&&◌, List, [], ◌∷◌}
+use Rattle.std.specs.Prelude.{ℕ, zero, suc, ◌≡◌, Bool, true, false, ◌&&◌, List, [], ◌∷◌, Ok}
 use Rattle.bits.specs.Byte.{bit}
 use Rattle.registers.specs.Names.{IIDAT, IISTS, TRX}
 use Rattle.events.specs.Pins.{SDA, SCL}
-use Rattle.events.specs.declared.Decoded.TheVariants.{Write, Pin}
+use Rattle.events.specs.declared.Event.TheVariants.{Write, Pin}
 use Rattle.events.specs.Word.{encode}
 use Rattle.bus.specs.declared.Mode.TheVariants.{Ddc2b}
 use Rattle.bus.specs.Bus.{line, pulls_scl, sda_pulled}
@@ -44,16 +44,16 @@ pub record Holding (trx : Bool) (c : Chip) : Type 0 where
 
 -- the byte is written to II DAT, which lets SCL go
 abbrev pub write_data : ℕ → ℕ
-write_data byte = encode (Write IIDAT byte)
+write_data byte = encode (Ok (Write IIDAT byte))
 
 abbrev pub put_sda : Bool → ℕ
-put_sda level = encode (Pin SDA level)
+put_sda level = encode (Ok (Pin SDA level))
 
 abbrev pub raise_scl : ℕ
-raise_scl = encode (Pin SCL true)
+raise_scl = encode (Ok (Pin SCL true))
 
 abbrev pub lower_scl : ℕ
-lower_scl = encode (Pin SCL false)
+lower_scl = encode (Ok (Pin SCL false))
 
 -- a clock for each level: SDA is put while SCL is low, SCL rises and falls; the words that follow are given last
 abbrev pub clock_in : List Bool → List ℕ → List ℕ

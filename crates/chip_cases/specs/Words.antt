@@ -1,7 +1,7 @@
 -- Words for a run, by what they do (document 01, "Event words"). Each is a list, so that runs are joined with `++`.
-use Rattle.std.specs.Prelude.{ℕ, zero, suc, Bool, true, false, List, [], ◌∷◌, ◌++◌}
+use Rattle.std.specs.Prelude.{ℕ, zero, suc, Bool, true, false, List, [], ◌∷◌, ◌++◌, Ok}
 use Rattle.bits.specs.Byte.{bit}
-use Rattle.events.specs.declared.Decoded.TheVariants.{Read, Write, Pin, Clock}
+use Rattle.events.specs.declared.Event.TheVariants.{Read, Write, Pin, Clock}
 use Rattle.events.specs.Word.{encode}
 use Rattle.events.specs.Pins.{SDA, SCL}
 
@@ -11,19 +11,19 @@ times zero ws = []
 times (suc n) ws = ws ++ times n ws
 
 abbrev pub read : ℕ → List ℕ
-read a = encode (Read a) ∷ []
+read a = encode (Ok (Read a)) ∷ []
 
 abbrev pub write : ℕ → ℕ → List ℕ
-write a b = encode (Write a b) ∷ []
+write a b = encode (Ok (Write a b)) ∷ []
 
 abbrev pub high : ℕ → List ℕ
-high pin = encode (Pin pin true) ∷ []
+high pin = encode (Ok (Pin pin true)) ∷ []
 
 abbrev pub low : ℕ → List ℕ
-low pin = encode (Pin pin false) ∷ []
+low pin = encode (Ok (Pin pin false)) ∷ []
 
 abbrev pub clock : ℕ → List ℕ
-clock k = encode (Clock k) ∷ []
+clock k = encode (Ok (Clock k)) ∷ []
 
 -- a pulse: the pin falls and rises
 abbrev pub pulse : ℕ → List ℕ

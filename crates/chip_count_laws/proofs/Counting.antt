@@ -10,7 +10,7 @@ use native.Mathlib.Numerals.{one-add}
 use borrow.Author.Tests.{not-false}
 use lib.Dec.{ltb}
 use Rattle.bits.specs.Byte.{pick, num}
-use Rattle.events.specs.declared.Decoded.{Decoded}
+use Rattle.events.specs.Decoded.{Decoded}
 use Rattle.events.specs.Word.{decode}
 use Rattle.sync.specs.declared.LineCounter.{LineCounter}
 use Rattle.sync.specs.declared.PeriodCounter.{PeriodCounter}

@@ -11,8 +11,9 @@ use Rattle.bits.proofs.Finite.{neither}
 use Rattle.bits.proofs.Bitwise.{bit_merge}
 use Rattle.registers.specs.Names.{MDCON, CLRFLG, BTCON}
 use Rattle.registers.specs.Table.{row_of, write_mask}
-use Rattle.events.specs.declared.Decoded.{Decoded}
-use Rattle.events.specs.declared.Decoded.TheVariants.{Read, Write, Pin, Clock, Polarity, Refused}
+use Rattle.std.specs.Prelude.{Ok, Err}
+use Rattle.events.specs.Decoded.{Decoded}
+use Rattle.events.specs.declared.Event.TheVariants.{Read, Write, Pin, Clock, Polarity}
 use Rattle.bits.proofs.Level.{pick_by}
 use Rattle.sync.specs.declared.Sync.{Sync}
 use Rattle.sync.specs.declared.LineCounter.{LineCounter}
@@ -77,7 +78,7 @@ clear_periods_lem bit c h = rw h
 
 module _ (c : Chip) (a b : ℕ) (r : c.core.reset ≡ true) where
   -- the two tests of a write that zeroes HCNT
-  mdcon_kept : zeroes_lines c (Write a b) ≡ false → eqb a MDCON ≡ true → (not (bit 2 b) && hsel_of c.core) ≡ false
+  mdcon_kept : zeroes_lines c (Ok (Write a b)) ≡ false → eqb a MDCON ≡ true → (not (bit 2 b) && hsel_of c.core) ≡ false
   unfolding zeroes_lines
   mdcon_kept h m =
       let k = (neither (eqb a CLRFLG && (c.core.reset && bit 7 b)) _ h).1 in
@@ -90,7 +91,7 @@ module _ (c : Chip) (a b : ℕ) (r : c.core.reset ≡ true) where
       let j = (neither (eqb a CLRFLG && (c.core.reset && bit k b)) other h).0 in
       rw (m, r) at j
 
-  write_lines : zeroes_lines c (Write a b) ≡ false → (fields c a b).core.sync.lines ≡ c.core.sync.lines
+  write_lines : zeroes_lines c (Ok (Write a b)) ≡ false → (fields c a b).core.sync.lines ≡ c.core.sync.lines
   unfolding clear_overflow zeroes_lines
   write_lines h =
       let P : Sync → Type 0 = λ (s : Sync). s.lines ≡ c.core.sync.lines in
@@ -98,7 +99,7 @@ module _ (c : Chip) (a b : ℕ) (r : c.core.reset ≡ true) where
       (λ m. rw (hsel_written c.core.mdcon b) (hsel_lines (hsel_of c.core) (bit 2 b) c.core.sync (mdcon_kept h m)))
       (λ _. pick_by P (eqb a CLRFLG) (λ m. clear_lines_lem (bit 7 b) c.core.sync.lines (bit_kept 7 _ h m)) (λ _. refl))
 
-  write_periods : zeroes_periods c (Write a b) ≡ false → (fields c a b).core.sync.periods ≡ c.core.sync.periods
+  write_periods : zeroes_periods c (Ok (Write a b)) ≡ false → (fields c a b).core.sync.periods ≡ c.core.sync.periods
   unfolding clear_overflow zeroes_periods
   write_periods h =
       let P : Sync → Type 0 = λ (s : Sync). s.periods ≡ c.core.sync.periods in
@@ -106,9 +107,9 @@ module _ (c : Chip) (a b : ℕ) (r : c.core.reset ≡ true) where
       (λ _. hsel_periods _ _ c.core.sync)
       (λ _. pick_by P (eqb a CLRFLG) (λ m. clear_periods_lem (bit 6 b) c.core.sync.periods (bit_kept 6 _ h m)) (λ _. refl))
 
-at_write : (c : Chip) (a b : ℕ) → Effect c (next c (Write a b)).core (Write a b)
+at_write : (c : Chip) (a b : ℕ) → Effect c (next c (Ok (Write a b))).core (Ok (Write a b))
 at_write c a b =
-    by_write (λ (x : Chip). Effect c x.core (Write a b)) c a b
+    by_write (λ (x : Chip). Effect c x.core (Ok (Write a b))) c a b
     (λ r _. record { lines = write_lines c a b r; periods = write_periods c a b r; reset = refl; hsynci = refl })
     (λ _. record { lines = λ _. refl; periods = λ _. refl; reset = refl; hsynci = refl })
 
@@ -116,7 +117,7 @@ at_write c a b =
 
 -- a pin whose level is not one of RESET, HSYNCI and VSYNCI
 plain_pin : (c : Chip) (after : Core) (p : ℕ) (level : Bool) → eqb p 26 ≡ false → eqb p 27 ≡ false → eqb p 28 ≡ false →
-    after.sync ≡ c.core.sync → after.reset ≡ c.core.reset → after.pins.hsynci ≡ c.core.pins.hsynci → Effect c after (Pin p level)
+    after.sync ≡ c.core.sync → after.reset ≡ c.core.reset → after.pins.hsynci ≡ c.core.pins.hsynci → Effect c after (Ok (Pin p level))
 plain_pin c after p level hsynci vsynci reset s r v =
     record {
       lines = λ _. rw (hsynci, s);
@@ -126,7 +127,7 @@ plain_pin c after p level hsynci vsynci reset s r v =
     }
 
 unnamed_pin : (c : Chip) (after : Core) {p : ℕ} (level : Bool) → Unnamed p →
-    after.sync ≡ c.core.sync → after.reset ≡ c.core.reset → after.pins.hsynci ≡ c.core.pins.hsynci → Effect c after (Pin p level)
+    after.sync ≡ c.core.sync → after.reset ≡ c.core.reset → after.pins.hsynci ≡ c.core.pins.hsynci → Effect c after (Ok (Pin p level))
 unnamed_pin c after {p} level u s r v = plain_pin c after p level u.hsynci u.vsynci u.reset s r v
 
 -- the SCL and SDA lines touch neither
@@ -155,13 +156,13 @@ sda_untouched Ddc2b false Rise c = record { sync = refl; reset = refl; pins = re
 sda_untouched Ddc2b true Fall c = record { sync = refl; reset = refl; pins = refl }
 sda_untouched Ddc2b false Fall c = record { sync = refl; reset = refl; pins = refl }
 
-at_scl : (c : Chip) (level : Bool) → Effect c (scl_moved c.core level) (Pin 25 level)
+at_scl : (c : Chip) (level : Bool) → Effect c (scl_moved c.core level) (Ok (Pin 25 level))
 unfolding scl_moved
 at_scl c level =
     let u = scl_untouched _ _ (with_scl c.core level) in
     plain_pin c _ 25 level refl refl refl u.sync u.reset (rw u.pins)
 
-at_sda : (c : Chip) (level : Bool) → Effect c (sda_moved c.core level) (Pin 24 level)
+at_sda : (c : Chip) (level : Bool) → Effect c (sda_moved c.core level) (Ok (Pin 24 level))
 unfolding sda_moved
 at_sda c level =
     let u = sda_untouched _ _ _ (with_sda c.core level) in
@@ -187,7 +188,7 @@ rise_is true false false = refl
 rise_is false old true = refl
 rise_is false old false = refl
 
-at_hsynci : (c : Chip) (level : Bool) → Effect c (hsync_moved c.core level) (Pin 26 level)
+at_hsynci : (c : Chip) (level : Bool) → Effect c (hsync_moved c.core level) (Ok (Pin 26 level))
 unfolding hsync_moved
 at_hsynci c level =
     record {
@@ -236,11 +237,11 @@ unfolding on_vsync
 vsync_periods true hsel s h = periods_kept s.periods (not-false s.periods.overflow h)
 vsync_periods false hsel s h = refl
 
-vsync_kept : (c : Chip) (level : Bool) → zeroes_lines c (Pin 27 level) ≡ false → ((level && (c.core.reset && not c.core.pins.vsynci)) && (hsel_of c.core && not c.core.sync.lines.overflow)) ≡ false
+vsync_kept : (c : Chip) (level : Bool) → zeroes_lines c (Ok (Pin 27 level)) ≡ false → ((level && (c.core.reset && not c.core.pins.vsynci)) && (hsel_of c.core && not c.core.sync.lines.overflow)) ≡ false
 unfolding zeroes_lines
 vsync_kept c level h = (neither ((level && (c.core.reset && not c.core.pins.vsynci)) && (hsel_of c.core && not c.core.sync.lines.overflow)) false h).0
 
-at_vsynci : (c : Chip) (level : Bool) → Effect c (vsync_moved c.core level) (Pin 27 level)
+at_vsynci : (c : Chip) (level : Bool) → Effect c (vsync_moved c.core level) (Ok (Pin 27 level))
 unfolding vsync_moved zeroes_periods
 at_vsynci c level =
     let m = vsync_moves (rises c.core.reset c.core.pins.vsynci level) c.core level in
@@ -266,7 +267,7 @@ reset_moves true false c = record { sync = λ h. cc; reset = refl; hsynci = refl
 reset_moves false true c = record { sync = λ _. refl; reset = refl; hsynci = refl }
 reset_moves false false c = record { sync = λ _. refl; reset = refl; hsynci = refl }
 
-at_reset_lem : (c : Chip) (level : Bool) → Effect c (reset_moved c.core level) (Pin 28 level)
+at_reset_lem : (c : Chip) (level : Bool) → Effect c (reset_moved c.core level) (Ok (Pin 28 level))
 unfolding reset_moved zeroes_lines zeroes_periods
 at_reset_lem c level =
     let m = reset_moves c.core.reset level c.core in
@@ -278,7 +279,7 @@ at_reset_lem c level =
     }
 
 -- all pins
-at_kind_lem : {k : PinKind} {p : ℕ} → Numbered k p → (c : Chip) (level : Bool) → Effect c (pin_moved_as k c.core p level) (Pin p level)
+at_kind_lem : {k : PinKind} {p : ℕ} → Numbered k p → (c : Chip) (level : Bool) → Effect c (pin_moved_as k c.core p level) (Ok (Pin p level))
 unfolding pin_moved_as port0_moved port1_moved port2_moved p16_moved
 at_kind_lem (port0_pin u high) c level = unnamed_pin c _ level u refl refl refl
 at_kind_lem (port1_pin u low high) c level = unnamed_pin c _ level u refl refl refl
@@ -291,7 +292,7 @@ at_kind_lem hsynci_pin c level = at_hsynci c level
 at_kind_lem vsynci_pin c level = at_vsynci c level
 at_kind_lem reset_pin c level = at_reset_lem c level
 
-at_pin : (c : Chip) (p : ℕ) (level : Bool) → Effect c (next c (Pin p level)).core (Pin p level)
+at_pin : (c : Chip) (p : ℕ) (level : Bool) → Effect c (next c (Ok (Pin p level))).core (Ok (Pin p level))
 unfolding next core_after pin_moved
 at_pin c p level = at_kind_lem (numbered p) c level
 
@@ -324,7 +325,7 @@ unfolding on_period
 period_periods true hsel s = refl
 period_periods false hsel s = refl
 
-at_period : (c : Chip) → Effect c (pick c.core.reset (period_clock c.core) c.core) (Clock 0)
+at_period : (c : Chip) → Effect c (pick c.core.reset (period_clock c.core) c.core) (Ok (Clock 0))
 unfolding zeroes_lines
 at_period c =
     let m = period_moves c.core.reset c.core in
@@ -342,7 +343,7 @@ timer_untouched true true c = record { sync = refl; reset = refl; pins = refl }
 timer_untouched true false c = record { sync = refl; reset = refl; pins = refl }
 timer_untouched false runs c = record { sync = refl; reset = refl; pins = refl }
 
-at_timer : (c : Chip) (k : ℕ) → eqb k 0 ≡ false → Effect c (pick c.core.reset (timer_clock (register_at c.registers BTCON) c.core k) c.core) (Clock k)
+at_timer : (c : Chip) (k : ℕ) → eqb k 0 ≡ false → Effect c (pick c.core.reset (timer_clock (register_at c.registers BTCON) c.core k) c.core) (Ok (Clock k))
 unfolding timer_clock
 at_timer c k n =
     let u = timer_untouched c.core.reset (timer_runs (register_at c.registers BTCON) k) c.core in
@@ -365,7 +366,7 @@ watchdog_moves true true c n = record { sync = λ h. cc; reset = refl; pins = re
 watchdog_moves true false c n = record { sync = λ _. refl; reset = refl; pins = refl }
 watchdog_moves false fires c n = record { sync = λ _. refl; reset = refl; pins = refl }
 
-at_watchdog : (c : Chip) → Effect c (pick c.core.reset (watchdog_clock c.core) c.core) (Clock 3)
+at_watchdog : (c : Chip) → Effect c (pick c.core.reset (watchdog_clock c.core) c.core) (Ok (Clock 3))
 unfolding watchdog_clock zeroes_lines zeroes_periods
 at_watchdog c =
     let m = watchdog_moves c.core.reset (watchdog_fires c.core.watchdog) c.core (watchdog_next c.core.watchdog) in
@@ -377,13 +378,13 @@ at_watchdog c =
       hsynci = rw m.pins;
     }
 
-clock_by : (c : Chip) (k : ℕ) (period watchdog : Bool) → eqb k 0 ≡ period → eqb k 3 ≡ watchdog → Effect c (next c (Clock k)).core (Clock k)
+clock_by : (c : Chip) (k : ℕ) (period watchdog : Bool) → eqb k 0 ≡ period → eqb k 3 ≡ watchdog → Effect c (next c (Ok (Clock k))).core (Ok (Clock k))
 unfolding next core_after clocked clocked_as
 clock_by c k true watchdog e f = rw (eqb-true k 0 e) (at_period c)
 clock_by c k false true e f = rw (eqb-true k 3 f) (at_watchdog c)
 clock_by c k false false e f = rw (e, f) (at_timer c k e)
 
-at_clock : (c : Chip) (k : ℕ) → Effect c (next c (Clock k)).core (Clock k)
+at_clock : (c : Chip) (k : ℕ) → Effect c (next c (Ok (Clock k))).core (Ok (Clock k))
 at_clock c k = clock_by c k _ _ refl refl
 
 -- ---- every event
@@ -392,7 +393,7 @@ polarity_untouched : (reset : Bool) (c : Core) (n : ℕ) → Untouched c (pick r
 polarity_untouched true c n = record { sync = refl; reset = refl; pins = refl }
 polarity_untouched false c n = record { sync = refl; reset = refl; pins = refl }
 
-at_polarity : (c : Chip) (vertical level : Bool) → Effect c (next c (Polarity vertical level)).core (Polarity vertical level)
+at_polarity : (c : Chip) (vertical level : Bool) → Effect c (next c (Ok (Polarity vertical level))).core (Ok (Polarity vertical level))
 unfolding next core_after polarity_found
 at_polarity c vertical level =
     let u = polarity_untouched c.core.reset c.core _ in
@@ -405,9 +406,9 @@ at_polarity c vertical level =
 
 pub effect : (c : Chip) (e : Decoded) → Effect c (next c e).core e
 unfolding next core_after
-effect c (Read a) = record { lines = λ _. refl; periods = λ _. refl; reset = refl; hsynci = refl }
-effect c (Write a b) = at_write c a b
-effect c (Pin p level) = at_pin c p level
-effect c (Clock k) = at_clock c k
-effect c (Polarity vertical level) = at_polarity c vertical level
-effect c (Refused n) = record { lines = λ _. refl; periods = λ _. refl; reset = refl; hsynci = refl }
+effect c (Ok (Read a)) = record { lines = λ _. refl; periods = λ _. refl; reset = refl; hsynci = refl }
+effect c (Ok (Write a b)) = at_write c a b
+effect c (Ok (Pin p level)) = at_pin c p level
+effect c (Ok (Clock k)) = at_clock c k
+effect c (Ok (Polarity vertical level)) = at_polarity c vertical level
+effect c (Err r) = record { lines = λ _. refl; periods = λ _. refl; reset = refl; hsynci = refl }

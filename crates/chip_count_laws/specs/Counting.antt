@@ -1,12 +1,12 @@
 -- Counting over a list of event words (document 01, "Counting sync"): what is counted, and what zeroes a count.
-use Rattle.std.specs.Prelude.{ℕ, ◌+◌, ◌-◌, Bool, true, false, not, ◌&&◌, ◌||◌, List, [], ◌∷◌, eqb, ltb}
+use Rattle.std.specs.Prelude.{ℕ, ◌+◌, ◌-◌, Bool, true, false, not, ◌&&◌, ◌||◌, List, [], ◌∷◌, eqb, ltb, Ok, Err}
 use Rattle.bits.specs.Byte.{pick, num, bit}
 use Rattle.registers.specs.Names.{MDCON, CLRFLG, HSEL, CLRHOV, CLRVOV}
 use Rattle.events.specs.Pins as pin
 use Rattle.events.specs.Clocks as clock
-use Rattle.events.specs.declared.Decoded.{Decoded}
+use Rattle.events.specs.Decoded.{Decoded}
 use Rattle.events.specs.Kinds.{on_pin, on_write}
-use Rattle.events.specs.declared.Decoded.TheVariants.{Read, Write, Pin, Clock, Polarity, Refused}
+use Rattle.events.specs.declared.Event.TheVariants.{Read, Write, Pin, Clock, Polarity}
 use Rattle.events.specs.Word.{decode}
 use Rattle.sync.specs.Sync.{interval_last}
 use Rattle.chip.specs.declared.Chip.{Chip}
@@ -36,12 +36,12 @@ period_clocks reset (w ∷ ws) = num (is_clock clock.period (decode w) && reset)
 
 -- the chip is reset: RESET goes low, or the 64th watchdog clock comes
 abbrev pub resets : Chip → Decoded → Bool
-resets c (Read a) = false
-resets c (Write a b) = false
-resets c (Pin p level) = eqb p pin.RESET && (c.core.reset && not level)
-resets c (Clock k) = eqb k clock.watchdog && (c.core.reset && ltb 62 c.core.watchdog)
-resets c (Polarity vertical level) = false
-resets c (Refused n) = false
+resets c (Ok (Read a)) = false
+resets c (Ok (Write a b)) = false
+resets c (Ok (Pin p level)) = eqb p pin.RESET && (c.core.reset && not level)
+resets c (Ok (Clock k)) = eqb k clock.watchdog && (c.core.reset && ltb 62 c.core.watchdog)
+resets c (Ok (Polarity vertical level)) = false
+resets c (Err r) = false
 
 -- a register is written while RESET is high, with this byte's bit as given
 abbrev pub writes : ℕ → ℕ → Bool → Chip → Decoded → Bool

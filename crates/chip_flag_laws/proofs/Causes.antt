@@ -5,10 +5,11 @@ use mathlib.Core.Bool.{Bool, true, false, not, ◌&&◌, ◌||◌, and_comm, and
 use Prim.Native.Nat.{ℕ}
 use borrow.Author.Tests.{eqb-true}
 use lib.Dec.{eqb}
-use Rattle.events.specs.declared.Decoded.{Decoded}
-use Rattle.events.specs.declared.Decoded.TheVariants.{Read, Write, Pin, Clock, Polarity, Refused}
+use Rattle.std.specs.Prelude.{Ok, Err}
+use Rattle.events.specs.Decoded.{Decoded}
+use Rattle.events.specs.declared.Event.TheVariants.{Read, Write, Pin, Clock, Polarity}
 use Rattle.events.specs.Word.{decode, InRange}
-use Rattle.events.proofs.Refusal.{decode_in_range}
+use Rattle.events.proofs.Refused.{decode_in_range}
 use Rattle.chip.specs.declared.Chip.{Chip}
 use Rattle.chip_events.specs.Outcome.{core_after, next}
 use Rattle.chip_flag_laws.specs.Causes.{Source, flag, raises, clears}
@@ -19,12 +20,12 @@ use Rattle.chip_flag_laws.proofs.Clocks.{at_clock, at_polarity, never_clock}
 
 at_event : (s : Source) (c : Chip) (e : Decoded) → InRange e → flag s (next c e) ≡ after s c e
 unfolding next core_after clears
-at_event s c (Read a) h = rw (never_read s c a)
-at_event s c (Write a b) h = at_write s c a b h
-at_event s c (Pin p level) h = at_pin s c p level
-at_event s c (Clock k) h = at_clock s c k
-at_event s c (Polarity vertical level) h = at_polarity s c vertical level
-at_event s c (Refused n) h = rw (never_refused s c n)
+at_event s c (Ok (Read a)) h = rw (never_read s c a)
+at_event s c (Ok (Write a b)) h = at_write s c a b h
+at_event s c (Ok (Pin p level)) h = at_pin s c p level
+at_event s c (Ok (Clock k)) h = at_clock s c k
+at_event s c (Ok (Polarity vertical level)) h = at_polarity s c vertical level
+at_event s c (Err r) h = rw (never_refused s c r)
 
 -- each flag after each event
 pub causes : (s : Source) (c : Chip) (e : Decoded) → InRange e → flag s (next c e) ≡ (raises s c e || (flag s c && not (clears s c e)))
@@ -36,22 +37,22 @@ sets_exactly s c e h f = causes s c e h ∙ rw f (or-false (raises s c e))
 
 -- ---- nothing sets a flag and clears it at once
 
-apart_pin : (s : Source) (c : Chip) (p : ℕ) (level found : Bool) → eqb p 28 ≡ found → (raises s c (Pin p level) && (found && (c.core.reset && not level))) ≡ false
+apart_pin : (s : Source) (c : Chip) (p : ℕ) (level found : Bool) → eqb p 28 ≡ found → (raises s c (Ok (Pin p level)) && (found && (c.core.reset && not level))) ≡ false
 apart_pin s c p level true e = rw (eqb-true p 28 e, never_reset s c level)
-apart_pin s c p level false e = and-false (raises s c (Pin p level))
+apart_pin s c p level false e = and-false (raises s c (Ok (Pin p level)))
 
-apart_clock : (s : Source) (c : Chip) (k : ℕ) (found x : Bool) → eqb k 3 ≡ found → (raises s c (Clock k) && (found && x)) ≡ false
+apart_clock : (s : Source) (c : Chip) (k : ℕ) (found x : Bool) → eqb k 3 ≡ found → (raises s c (Ok (Clock k)) && (found && x)) ≡ false
 apart_clock s c k true x e = rw (eqb-true k 3 e, never_clock s c 3 refl refl)
-apart_clock s c k false x e = and-false (raises s c (Clock k))
+apart_clock s c k false x e = and-false (raises s c (Ok (Clock k)))
 
 pub apart : (s : Source) (c : Chip) (e : Decoded) → (raises s c e && clears s c e) ≡ false
 unfolding clears
-apart s c (Read a) = and-false (raises s c (Read a))
-apart s c (Write a b) = rw (never_write s c a b)
-apart s c (Pin p level) = apart_pin s c p level (eqb p 28) refl
-apart s c (Clock k) = apart_clock s c k (eqb k 3) _ refl
-apart s c (Polarity vertical level) = and-false (raises s c (Polarity vertical level))
-apart s c (Refused n) = and-false (raises s c (Refused n))
+apart s c (Ok (Read a)) = and-false (raises s c (Ok (Read a)))
+apart s c (Ok (Write a b)) = rw (never_write s c a b)
+apart s c (Ok (Pin p level)) = apart_pin s c p level (eqb p 28) refl
+apart s c (Ok (Clock k)) = apart_clock s c k (eqb k 3) _ refl
+apart s c (Ok (Polarity vertical level)) = and-false (raises s c (Ok (Polarity vertical level)))
+apart s c (Err r) = and-false (raises s c (Err r))
 
 kept : (raised cleared : Bool) → (raised && cleared) ≡ false → (raised || not cleared) ≡ not cleared
 kept true true e = cc

@@ -11,7 +11,8 @@ use Rattle.bits.specs.Byte.{pick, bit}
 use Rattle.bits.proofs.Finite.{beq_eq}
 use Rattle.registers.specs.Names.{BTCON}
 use Rattle.registers.specs.Table.{row_of, reset_value}
-use Rattle.events.specs.declared.Decoded.TheVariants.{Clock, Polarity}
+use Rattle.std.specs.Prelude.{Ok}
+use Rattle.events.specs.declared.Event.TheVariants.{Clock, Polarity}
 use Rattle.counters.specs.Count.{timer_overflows, watchdog_fires}
 use Rattle.chip.specs.declared.Core.{Core}
 use Rattle.chip.specs.declared.Chip.{Chip}
@@ -59,7 +60,7 @@ module _ (c : Chip) (k : ℕ) where
       → T (f c.core.reset (bit 0 (register_at c.registers BTCON)) (bit 1 (register_at c.registers BTCON)) (eqb k 2) (eqb k 1) (ltb 0xfe c.core.bt))
   at_timer_levels f t = at_six f t c.core.reset (bit 0 (register_at c.registers BTCON)) (bit 1 (register_at c.registers BTCON)) (eqb k 2) (eqb k 1) (ltb 0xfe c.core.bt)
 
-  timer_bit : (s : Source) → bit (place s) (pick (c.core.reset && (timer_runs (register_at c.registers BTCON) k && ltb 0xfe c.core.bt)) 0x04 0) ≡ raises s c (Clock k)
+  timer_bit : (s : Source) → bit (place s) (pick (c.core.reset && (timer_runs (register_at c.registers BTCON) k && ltb 0xfe c.core.bt)) 0x04 0) ≡ raises s c (Ok (Clock k))
   unfolding bit raises timer_runs
   timer_bit SclFall = beq_eq _ _ (at_timer_levels (λ r e t two one o. beq (bit (place SclFall) (pick (r && (runs_by e t two one && o)) 0x04 0)) false) tt)
   timer_bit DataByte = beq_eq _ _ (at_timer_levels (λ r e t two one o. beq (bit (place DataByte) (pick (r && (runs_by e t two one && o)) 0x04 0)) false) tt)
@@ -70,14 +71,14 @@ module _ (c : Chip) (k : ℕ) where
   timer_bit ExternalRise = beq_eq _ _ (at_timer_levels (λ r e t two one o. beq (bit (place ExternalRise) (pick (r && (runs_by e t two one && o)) 0x04 0)) false) tt)
   timer_bit VsyncRise = beq_eq _ _ (at_timer_levels (λ r e t two one o. beq (bit (place VsyncRise) (pick (r && (runs_by e t two one && o)) 0x04 0)) false) tt)
 
-  at_timer : (s : Source) → flag_in s (pick c.core.reset (timer_clock (register_at c.registers BTCON) c.core k) c.core) ≡ (raises s c (Clock k) || flag s c)
+  at_timer : (s : Source) → flag_in s (pick c.core.reset (timer_clock (register_at c.registers BTCON) c.core k) c.core) ≡ (raises s c (Ok (Clock k)) || flag s c)
   unfolding timer_clock
   at_timer s = rw (timer_irqx c.core.reset (timer_runs (register_at c.registers BTCON) k) c.core) (set_bit s c.core.irqx _ _ (timer_bit s))
 
 -- ---- the other clocks
 
 -- a clock that is no base clock
-pub never_clock : (s : Source) (c : Chip) (k : ℕ) → eqb k 2 ≡ false → eqb k 1 ≡ false → raises s c (Clock k) ≡ false
+pub never_clock : (s : Source) (c : Chip) (k : ℕ) → eqb k 2 ≡ false → eqb k 1 ≡ false → raises s c (Ok (Clock k)) ≡ false
 unfolding raises
 never_clock SclFall c k two one = refl
 never_clock DataByte c k two one = refl
@@ -104,7 +105,7 @@ watchdog_by false fires s c n = refl
 
 -- ---- all clocks
 
-clock_by : (s : Source) (c : Chip) (k : ℕ) (period watchdog : Bool) → eqb k 0 ≡ period → eqb k 3 ≡ watchdog → flag s (next c (Clock k)) ≡ after s c (Clock k)
+clock_by : (s : Source) (c : Chip) (k : ℕ) (period watchdog : Bool) → eqb k 0 ≡ period → eqb k 3 ≡ watchdog → flag s (next c (Ok (Clock k))) ≡ after s c (Ok (Clock k))
 unfolding next core_after clocked clocked_as clears watchdog_clock
 clock_by s c k true watchdog e f = rw (eqb-true k 0 e, never_clock s c 0 refl refl, period_by c.core.reset c.core)
 clock_by s c k false true e f =
@@ -112,13 +113,13 @@ clock_by s c k false true e f =
     (watchdog_by c.core.reset (watchdog_fires c.core.watchdog) s c.core _ ∙ rw (never_clock s c 3 refl refl, watchdog_last c.core.watchdog))
 clock_by s c k false false e f = rw (e, f) (at_timer c k s)
 
-pub at_clock : (s : Source) (c : Chip) (k : ℕ) → flag s (next c (Clock k)) ≡ after s c (Clock k)
+pub at_clock : (s : Source) (c : Chip) (k : ℕ) → flag s (next c (Ok (Clock k))) ≡ after s c (Ok (Clock k))
 at_clock s c k = clock_by s c k _ _ refl refl
 
 polarity_by : (reset : Bool) (c : Core) (n : ℕ) → (pick reset (with_polarity c n) c).irqx ≡ c.irqx
 polarity_by true c n = refl
 polarity_by false c n = refl
 
-pub at_polarity : (s : Source) (c : Chip) (vertical level : Bool) → flag s (next c (Polarity vertical level)) ≡ after s c (Polarity vertical level)
+pub at_polarity : (s : Source) (c : Chip) (vertical level : Bool) → flag s (next c (Ok (Polarity vertical level))) ≡ after s c (Ok (Polarity vertical level))
 unfolding next core_after polarity_found clears
 at_polarity s c vertical level = rw (never_polarity s c vertical level, polarity_by c.core.reset c.core)

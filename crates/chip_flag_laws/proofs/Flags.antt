@@ -7,8 +7,10 @@ use native.Mathlib.Omega.{arith}
 use lib.Bits.{bit_and, bit_or}
 use Rattle.bits.specs.Byte.{pick, bit}
 use Rattle.bits.proofs.Bitwise.{bit_or_lem, bit_and_lem, bit_not}
-use Rattle.events.specs.declared.Decoded.{Decoded}
-use Rattle.events.specs.declared.Decoded.TheVariants.{Read, Write, Pin, Polarity, Refused}
+use Rattle.std.specs.Prelude.{Ok, Err}
+use Rattle.events.specs.Decoded.{Decoded}
+use Rattle.events.specs.declared.Refusal.{Refusal}
+use Rattle.events.specs.declared.Event.TheVariants.{Read, Write, Pin, Polarity}
 use Rattle.chip.specs.declared.Core.{Core}
 use Rattle.chip.specs.declared.Chip.{Chip}
 use Rattle.chip_flag_laws.specs.Causes.{Source, place, flag, raises, clears}
@@ -33,26 +35,26 @@ by_source P f d a t e v VsyncRise = v
 
 -- ---- events that set no flag
 
-pub never_read : (s : Source) (c : Chip) (a : ℕ) → raises s c (Read a) ≡ false
+pub never_read : (s : Source) (c : Chip) (a : ℕ) → raises s c (Ok (Read a)) ≡ false
 unfolding raises
-never_read s c a = by_source (λ s. raises s c (Read a) ≡ false) refl refl refl refl refl refl s
+never_read s c a = by_source (λ s. raises s c (Ok (Read a)) ≡ false) refl refl refl refl refl refl s
 
-pub never_write : (s : Source) (c : Chip) (a b : ℕ) → raises s c (Write a b) ≡ false
+pub never_write : (s : Source) (c : Chip) (a b : ℕ) → raises s c (Ok (Write a b)) ≡ false
 unfolding raises
-never_write s c a b = by_source (λ s. raises s c (Write a b) ≡ false) refl refl refl refl refl refl s
+never_write s c a b = by_source (λ s. raises s c (Ok (Write a b)) ≡ false) refl refl refl refl refl refl s
 
 -- RESET is put
-pub never_reset : (s : Source) (c : Chip) (level : Bool) → raises s c (Pin 28 level) ≡ false
+pub never_reset : (s : Source) (c : Chip) (level : Bool) → raises s c (Ok (Pin 28 level)) ≡ false
 unfolding raises
-never_reset s c level = by_source (λ s. raises s c (Pin 28 level) ≡ false) refl refl refl refl refl refl s
+never_reset s c level = by_source (λ s. raises s c (Ok (Pin 28 level)) ≡ false) refl refl refl refl refl refl s
 
-pub never_polarity : (s : Source) (c : Chip) (vertical level : Bool) → raises s c (Polarity vertical level) ≡ false
+pub never_polarity : (s : Source) (c : Chip) (vertical level : Bool) → raises s c (Ok (Polarity vertical level)) ≡ false
 unfolding raises
-never_polarity s c vertical level = by_source (λ s. raises s c (Polarity vertical level) ≡ false) refl refl refl refl refl refl s
+never_polarity s c vertical level = by_source (λ s. raises s c (Ok (Polarity vertical level)) ≡ false) refl refl refl refl refl refl s
 
-pub never_refused : (s : Source) (c : Chip) (n : ℕ) → raises s c (Refused n) ≡ false
+pub never_refused : (s : Source) (c : Chip) (r : Refusal) → raises s c (Err r) ≡ false
 unfolding raises
-never_refused s c n = by_source (λ s. raises s c (Refused n) ≡ false) refl refl refl refl refl refl s
+never_refused s c r = by_source (λ s. raises s c (Err r) ≡ false) refl refl refl refl refl refl s
 
 -- ---- flags of a byte
 

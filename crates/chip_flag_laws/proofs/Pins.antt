@@ -8,7 +8,8 @@ use lib.Bits.{bit_or, or_zero_r}
 use Rattle.bits.specs.Byte.{pick, bit}
 use Rattle.bits.proofs.Finite.{beq_eq}
 use Rattle.registers.specs.Table.{row_of, reset_value}
-use Rattle.events.specs.declared.Decoded.TheVariants.{Pin}
+use Rattle.std.specs.Prelude.{Ok}
+use Rattle.events.specs.declared.Event.TheVariants.{Pin}
 use Rattle.bus.specs.declared.Mode.{Mode}
 use Rattle.bus.specs.declared.Mode.TheVariants.{Off, Ddc1, Ddc2b}
 use Rattle.bus.specs.declared.Edge.{Edge}
@@ -40,7 +41,7 @@ module _ (c : Chip) (level : Bool) where
   at_p16_levels : (f : Bool → Bool → Bool → Bool) → T (always (λ a. always (λ b. always (f a b)))) → T (f c.core.reset (bit 6 c.core.pins.port1) level)
   at_p16_levels f t = at_three f t c.core.reset (bit 6 c.core.pins.port1) level
 
-  p16_bit : (s : Source) → bit (place s) (pick (rises c.core.reset (bit 6 c.core.pins.port1) level) 0x02 0) ≡ raises s c (Pin 14 level)
+  p16_bit : (s : Source) → bit (place s) (pick (rises c.core.reset (bit 6 c.core.pins.port1) level) 0x02 0) ≡ raises s c (Ok (Pin 14 level))
   unfolding bit raises
   p16_bit SclFall = beq_eq _ _ (at_p16_levels (λ r o l. beq (bit (place SclFall) (pick (rises r o l) 0x02 0)) false) tt)
   p16_bit DataByte = beq_eq _ _ (at_p16_levels (λ r o l. beq (bit (place DataByte) (pick (rises r o l) 0x02 0)) false) tt)
@@ -49,7 +50,7 @@ module _ (c : Chip) (level : Bool) where
   p16_bit ExternalRise = beq_eq _ _ (at_p16_levels (λ r o l. beq (bit (place ExternalRise) (pick (rises r o l) 0x02 0)) (l && (r && not o))) tt)
   p16_bit VsyncRise = beq_eq _ _ (at_p16_levels (λ r o l. beq (bit (place VsyncRise) (pick (rises r o l) 0x02 0)) false) tt)
 
-  at_p16 : (s : Source) → flag_in s (p16_moved c.core level) ≡ after s c (Pin 14 level)
+  at_p16 : (s : Source) → flag_in s (p16_moved c.core level) ≡ after s c (Ok (Pin 14 level))
   unfolding p16_moved port1_moved clears
   at_p16 s = set_bit s c.core.irqx _ _ (p16_bit s)
 
@@ -127,7 +128,7 @@ module _ (c : Chip) (level : Bool) where
 
   scl_bit : (s : Source) →
       bit (place s) (scl_flags_by c.core.reset (bit 3 c.core.bus.iists) (bit 0 c.core.mdcon) (pulls_scl c.core.bus.phase) c.core.scl level (hits c.core) (in_ninth_clock c.core.bus.phase))
-      ≡ raises s c (Pin 25 level)
+      ≡ raises s c (Ok (Pin 25 level))
   unfolding bit raises
   scl_bit SclFall = beq_eq _ _ (at_scl_levels (λ r e m h o l a n. beq (bit (place SclFall) (scl_flags_by r e m h o l a n)) ((not l && (r && (o && not ((not e && not m) && h)))) && not e)) tt)
   scl_bit DataByte = beq_eq _ _ (at_scl_levels (λ r e m h o l a n. beq (bit (place DataByte) (scl_flags_by r e m h o l a n)) ((not l && (r && (o && not ((not e && not m) && h)))) && ((not e && not m) && n))) tt)
@@ -136,7 +137,7 @@ module _ (c : Chip) (level : Bool) where
   scl_bit ExternalRise = beq_eq _ _ (at_scl_levels (λ r e m h o l a n. beq (bit (place ExternalRise) (scl_flags_by r e m h o l a n)) false) tt)
   scl_bit VsyncRise = beq_eq _ _ (at_scl_levels (λ r e m h o l a n. beq (bit (place VsyncRise) (scl_flags_by r e m h o l a n)) false) tt)
 
-  at_scl : (s : Source) → flag_in s (scl_moved c.core level) ≡ after s c (Pin 25 level)
+  at_scl : (s : Source) → flag_in s (scl_moved c.core level) ≡ after s c (Ok (Pin 25 level))
   unfolding scl_moved mode clears
   at_scl s = rw (pulled_is (active_mode c.core) c.core.bus.phase, scl_irqx) (set_bit s c.core.irqx _ _ (scl_bit s))
 
@@ -172,7 +173,7 @@ module _ (c : Chip) (level : Bool) where
 
   vsync_bit : (s : Source) →
       bit (place s) (vsync_flags (rises c.core.reset c.core.pins.vsynci level) (mode_by (bit 3 c.core.bus.iists) (bit 0 c.core.mdcon)) (eqb c.core.bus.shifter.edges 0))
-      ≡ raises s c (Pin 27 level)
+      ≡ raises s c (Ok (Pin 27 level))
   unfolding bit raises
   vsync_bit SclFall = beq_eq _ _ (at_vsync_levels (λ r o l e m n. beq (bit (place SclFall) (vsync_flags (rises r o l) (mode_by e m) n)) false) tt)
   vsync_bit DataByte = beq_eq _ _ (at_vsync_levels (λ r o l e m n. beq (bit (place DataByte) (vsync_flags (rises r o l) (mode_by e m) n)) (((l && (r && not o)) && ((not e && m) && n)) || false)) tt)
@@ -181,7 +182,7 @@ module _ (c : Chip) (level : Bool) where
   vsync_bit ExternalRise = beq_eq _ _ (at_vsync_levels (λ r o l e m n. beq (bit (place ExternalRise) (vsync_flags (rises r o l) (mode_by e m) n)) false) tt)
   vsync_bit VsyncRise = beq_eq _ _ (at_vsync_levels (λ r o l e m n. beq (bit (place VsyncRise) (vsync_flags (rises r o l) (mode_by e m) n)) (l && (r && not o))) tt)
 
-  at_vsync : (s : Source) → flag_in s (vsync_moved c.core level) ≡ after s c (Pin 27 level)
+  at_vsync : (s : Source) → flag_in s (vsync_moved c.core level) ≡ after s c (Ok (Pin 27 level))
   unfolding vsync_moved mode clears
   at_vsync s =
       rw (vsync_moved_lem (rises c.core.reset c.core.pins.vsynci level) c.core level, vsync_irqx (rises c.core.reset c.core.pins.vsynci level) (mode_of c.core) c.core.bus.shifter c.core.irqx)
@@ -196,7 +197,7 @@ reset_by s c true false = zero_bit s
 reset_by s c false true = refl
 reset_by s c false false = refl
 
-at_reset_lem : (s : Source) (c : Chip) (level : Bool) → flag_in s (reset_moved c.core level) ≡ after s c (Pin 28 level)
+at_reset_lem : (s : Source) (c : Chip) (level : Bool) → flag_in s (reset_moved c.core level) ≡ after s c (Ok (Pin 28 level))
 unfolding reset_moved clears
 at_reset_lem s c level = rw (never_reset s c level) (reset_by s c.core c.core.reset level)
 
@@ -204,7 +205,7 @@ at_reset_lem s c level = rw (never_reset s c level) (reset_by s c.core c.core.re
 
 -- a pin whose edges set no flag, and that is not RESET
 module _ (c : Chip) (p : ℕ) (level : Bool) (p16 : eqb p 14 ≡ false) (scl : eqb p 25 ≡ false) (vsynci : eqb p 27 ≡ false) (reset : eqb p 28 ≡ false) where
-  never_plain : (s : Source) → raises s c (Pin p level) ≡ false
+  never_plain : (s : Source) → raises s c (Ok (Pin p level)) ≡ false
   unfolding raises
   never_plain SclFall = rw scl
   never_plain DataByte = rw (vsynci, scl)
@@ -213,11 +214,11 @@ module _ (c : Chip) (p : ℕ) (level : Bool) (p16 : eqb p 14 ≡ false) (scl : e
   never_plain ExternalRise = rw p16
   never_plain VsyncRise = rw vsynci
 
-  at_plain : (s : Source) → flag s c ≡ after s c (Pin p level)
+  at_plain : (s : Source) → flag s c ≡ after s c (Ok (Pin p level))
   unfolding clears
   at_plain s = rw (never_plain s, reset)
 
-at_unnamed : (c : Chip) {p : ℕ} (level : Bool) → Unnamed p → (s : Source) → flag s c ≡ after s c (Pin p level)
+at_unnamed : (c : Chip) {p : ℕ} (level : Bool) → Unnamed p → (s : Source) → flag s c ≡ after s c (Ok (Pin p level))
 at_unnamed c {p} level u s = at_plain c p level u.p16 u.scl u.vsynci u.reset s
 
 sda_irqx : (m : Mode) (high : Bool) (e : Edge) (c : Core) → (on_sda m high e c).irqx ≡ c.irqx
@@ -236,7 +237,7 @@ sda_moved_lem c level = sda_irqx _ _ _ (with_sda c level)
 
 -- ---- all pins
 
-at_kind_lem : {k : PinKind} {p : ℕ} → Numbered k p → (s : Source) (c : Chip) (level : Bool) → flag_in s (pin_moved_as k c.core p level) ≡ after s c (Pin p level)
+at_kind_lem : {k : PinKind} {p : ℕ} → Numbered k p → (s : Source) (c : Chip) (level : Bool) → flag_in s (pin_moved_as k c.core p level) ≡ after s c (Ok (Pin p level))
 unfolding pin_moved_as port0_moved port1_moved port2_moved hsync_moved
 at_kind_lem (port0_pin u high) s c level = at_unnamed c level u s
 at_kind_lem (port1_pin u low high) s c level = at_unnamed c level u s
@@ -249,6 +250,6 @@ at_kind_lem hsynci_pin s c level = at_plain c 26 level refl refl refl refl s
 at_kind_lem vsynci_pin s c level = at_vsync c level s
 at_kind_lem reset_pin s c level = at_reset_lem s c level
 
-pub at_pin : (s : Source) (c : Chip) (p : ℕ) (level : Bool) → flag s (next c (Pin p level)) ≡ after s c (Pin p level)
+pub at_pin : (s : Source) (c : Chip) (p : ℕ) (level : Bool) → flag s (next c (Ok (Pin p level))) ≡ after s c (Ok (Pin p level))
 unfolding next core_after pin_moved
 at_pin s c p level = at_kind_lem (numbered p) s c level

@@ -7,7 +7,7 @@ use native.Mathlib.Omega.{arith}
 use Rattle.bits.specs.Byte.{pick, bit}
 use Rattle.bits.proofs.Bitwise.{bit_and_lem}
 use Rattle.registers.specs.Names.{IEX}
-use Rattle.events.specs.declared.Decoded.{Decoded}
+use Rattle.events.specs.Decoded.{Decoded}
 use Rattle.events.specs.Word.{decode}
 use Rattle.answers.specs.Answer.{answer_word}
 use Rattle.chip.specs.declared.Chip.{Chip}

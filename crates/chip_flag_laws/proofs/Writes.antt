@@ -7,7 +7,8 @@ use borrow.Author.Tests.{eqb-true}
 use lib.Dec.{eqb}
 use Rattle.registers.specs.Names.{CLRFLG}
 use Rattle.registers.specs.Table.{row_of, is_writable}
-use Rattle.events.specs.declared.Decoded.TheVariants.{Write}
+use Rattle.std.specs.Prelude.{Ok}
+use Rattle.events.specs.declared.Event.TheVariants.{Write}
 use Rattle.events.specs.Word.{InRange}
 use Rattle.chip.specs.declared.Chip.{Chip}
 use Rattle.chip_events.specs.Outcome.{next}
@@ -25,9 +26,9 @@ unfolding is_writable row_of
 unclear a true reset bit e n = low reset bit (rw (eqb-true a CLRFLG e) at n)
 unclear a false reset bit e n = refl
 
-pub at_write : (s : Source) (c : Chip) (a b : ℕ) → InRange (Write a b) → flag s (next c (Write a b)) ≡ after s c (Write a b)
+pub at_write : (s : Source) (c : Chip) (a b : ℕ) → InRange (Ok (Write a b)) → flag s (next c (Ok (Write a b))) ≡ after s c (Ok (Write a b))
 unfolding clears
 at_write s c a b h =
-    by_write (λ (x : Chip). flag s x ≡ after s c (Write a b)) c a b
+    by_write (λ (x : Chip). flag s x ≡ after s c (Ok (Write a b))) c a b
     (λ r _. rw (never_write s c a b, r) (clear_bit s c.core.irqx b (eqb a CLRFLG) h.1))
     (λ n. rw (never_write s c a b, unclear a (eqb a CLRFLG) c.core.reset _ refl n))

@@ -1,13 +1,13 @@
 -- The six interrupt sources: what sets each flag of IRQX and what clears it (document 01, "Flags, timer, watchdog, reset" and
 -- "The bus"), told by the event and the state before it alone.
-use Rattle.std.specs.Prelude.{ℕ, ◌%◌, Bool, false, not, ◌&&◌, ◌||◌, eqb, ltb}
+use Rattle.std.specs.Prelude.{ℕ, ◌%◌, Bool, false, not, ◌&&◌, ◌||◌, eqb, ltb, Ok, Err}
 use Rattle.bits.specs.Byte.{pick, bit}
 use Rattle.registers.specs.Names.{IEX, CLRFLG, BTCON, MD12, INTS, INTD, INTA, INTR, INTE, INTV, ENDDC, TBS, ENBT}
 use Rattle.events.specs.Pins as pin
 use Rattle.events.specs.Clocks as clock
-use Rattle.events.specs.declared.Decoded.{Decoded}
+use Rattle.events.specs.Decoded.{Decoded}
 use Rattle.events.specs.Kinds.{on_pin, on_clock}
-use Rattle.events.specs.declared.Decoded.TheVariants.{Read, Write, Pin, Clock, Polarity, Refused}
+use Rattle.events.specs.declared.Event.TheVariants.{Read, Write, Pin, Clock, Polarity}
 use Rattle.bus.specs.declared.Phase.{Phase}
 use Rattle.bus.specs.declared.Phase.TheVariants.{Idle, Address, Addressed, Ignoring, Receive, Transmit, Held}
 use Rattle.bus.specs.Bus.{line, pulls_sda, pulls_scl, on_address}
@@ -122,9 +122,9 @@ raises VsyncRise c e = rises_vsynci c e
 
 -- what clears a flag: a 1 in its bit of CLRFLG, RESET going low, and the 64th watchdog clock, which finds 63 counted
 unfoldable pub clears : Source → Chip → Decoded → Bool
-clears s c (Read a) = false
-clears s c (Write a b) = eqb a CLRFLG && (c.core.reset && bit (place s) b)
-clears s c (Pin p level) = eqb p pin.RESET && (c.core.reset && not level)
-clears s c (Clock k) = eqb k clock.watchdog && (c.core.reset && ltb 62 c.core.watchdog)
-clears s c (Polarity vertical level) = false
-clears s c (Refused n) = false
+clears s c (Ok (Read a)) = false
+clears s c (Ok (Write a b)) = eqb a CLRFLG && (c.core.reset && bit (place s) b)
+clears s c (Ok (Pin p level)) = eqb p pin.RESET && (c.core.reset && not level)
+clears s c (Ok (Clock k)) = eqb k clock.watchdog && (c.core.reset && ltb 62 c.core.watchdog)
+clears s c (Ok (Polarity vertical level)) = false
+clears s c (Err r) = false

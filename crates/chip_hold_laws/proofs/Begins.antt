@@ -10,8 +10,9 @@ use Rattle.bits.proofs.Level.{pick_by}
 use Rattle.bits.proofs.Finite.{beq_eq}
 use Rattle.registers.specs.Names.{BTCON}
 use Rattle.registers.specs.Table.{is_writable}
-use Rattle.events.specs.declared.Decoded.{Decoded}
-use Rattle.events.specs.declared.Decoded.TheVariants.{Read, Write, Pin, Clock, Polarity, Refused}
+use Rattle.std.specs.Prelude.{Ok, Err}
+use Rattle.events.specs.Decoded.{Decoded}
+use Rattle.events.specs.declared.Event.TheVariants.{Read, Write, Pin, Clock, Polarity}
 use Rattle.bus.specs.declared.Mode.{Mode}
 use Rattle.bus.specs.declared.Mode.TheVariants.{Off, Ddc1, Ddc2b}
 use Rattle.bus.specs.declared.Edge.{Edge}
@@ -140,7 +141,7 @@ write_free Iidat c b h = rw h h
 write_free Iists c b h = mode_free _ _ _ h
 write_free Bt c b h = h
 
-at_write : (c : Chip) (a b : ℕ) → FreeCore c.core → FreeCore (next c (Write a b)).core
+at_write : (c : Chip) (a b : ℕ) → FreeCore c.core → FreeCore (next c (Ok (Write a b))).core
 unfolding next core_after write_register written
 at_write c a b h = pick_by FreeCore c.core.reset (λ _. pick_by FreeCore (is_writable a) (λ _. write_free (target a) c.core b h) (λ _. h)) (λ _. h)
 
@@ -180,7 +181,7 @@ falls_is reset enddc md old new ninth =
     (λ r e m o l n. beq (falls (pick r (mode_by e m) Off) (edge o l) n) ((not l && (r && (o && not ((not e && not m) && false)))) && ((not e && not m) && n)))
     tt reset enddc md old new ninth)
 
-at_scl : (c : Chip) (level : Bool) → FreeCore c.core → pulls_scl (scl_moved c.core level).bus.phase ≡ takes_scl c (Pin 25 level)
+at_scl : (c : Chip) (level : Bool) → FreeCore c.core → pulls_scl (scl_moved c.core level).bus.phase ≡ takes_scl c (Ok (Pin 25 level))
 unfolding scl_moved takes_scl mode
 at_scl c level h =
     rw (unpulled (active_mode c.core) c.core.bus.phase h)
@@ -211,11 +212,11 @@ reset_free false true c h = h
 reset_free false false c h = h
 
 -- a pin other than SCL
-none : (c : Chip) (p : ℕ) (level : Bool) → eqb p 25 ≡ false → takes_scl c (Pin p level) ≡ false
+none : (c : Chip) (p : ℕ) (level : Bool) → eqb p 25 ≡ false → takes_scl c (Ok (Pin p level)) ≡ false
 unfolding takes_scl
 none c p level h = rw h
 
-at_kind_lem : {k : PinKind} {p : ℕ} → Numbered k p → (c : Chip) (level : Bool) → FreeCore c.core → pulls_scl (pin_moved_as k c.core p level).bus.phase ≡ takes_scl c (Pin p level)
+at_kind_lem : {k : PinKind} {p : ℕ} → Numbered k p → (c : Chip) (level : Bool) → FreeCore c.core → pulls_scl (pin_moved_as k c.core p level).bus.phase ≡ takes_scl c (Ok (Pin p level))
 unfolding pin_moved_as port0_moved port1_moved port2_moved p16_moved hsync_moved vsync_moved vsync_rise sda_moved reset_moved
 at_kind_lem {p = p} (port0_pin u high) c level h = h ∙ sym (none c p level u.scl)
 at_kind_lem {p = p} (port1_pin u low high) c level h = h ∙ sym (none c p level u.scl)
@@ -240,7 +241,7 @@ taken c e m r s f k =
 
 -- ---- clocks: none takes SCL low
 
-at_clock : (c : Chip) (k : ℕ) → FreeCore c.core → FreeCore (next c (Clock k)).core
+at_clock : (c : Chip) (k : ℕ) → FreeCore c.core → FreeCore (next c (Ok (Clock k))).core
 unfolding next core_after clocked clocked_as period_clock watchdog_clock timer_clock timer_step reset_core reset_at pulls_scl
 at_clock c k h =
     pick_by FreeCore c.core.reset
@@ -253,9 +254,9 @@ at_clock c k h =
 
 pub takes : (c : Chip) (e : Decoded) → FreeCore c.core → pulls_scl (next c e).core.bus.phase ≡ takes_scl c e
 unfolding next core_after takes_scl pin_moved polarity_found
-takes c (Read a) h = h
-takes c (Write a b) h = at_write c a b h
-takes c (Pin p level) h = at_kind_lem (numbered p) c level h
-takes c (Clock k) h = at_clock c k h
-takes c (Polarity vertical level) h = pick_by FreeCore c.core.reset (λ _. h) (λ _. h)
-takes c (Refused n) h = h
+takes c (Ok (Read a)) h = h
+takes c (Ok (Write a b)) h = at_write c a b h
+takes c (Ok (Pin p level)) h = at_kind_lem (numbered p) c level h
+takes c (Ok (Clock k)) h = at_clock c k h
+takes c (Ok (Polarity vertical level)) h = pick_by FreeCore c.core.reset (λ _. h) (λ _. h)
+takes c (Err r) h = h

@@ -10,8 +10,9 @@ use Rattle.bits.specs.Byte.{pick, bit}
 use Rattle.bits.proofs.Level.{pick_by}
 use Rattle.registers.specs.Names.{MDCON, IIDAT, IISTS, BTCON}
 use Rattle.registers.specs.Table.{table, row_of, is_writable, updated}
-use Rattle.events.specs.declared.Decoded.{Decoded}
-use Rattle.events.specs.declared.Decoded.TheVariants.{Read, Write, Pin, Clock, Polarity, Refused}
+use Rattle.std.specs.Prelude.{Ok, Err}
+use Rattle.events.specs.Decoded.{Decoded}
+use Rattle.events.specs.declared.Event.TheVariants.{Read, Write, Pin, Clock, Polarity}
 use Rattle.bus.specs.declared.Mode.TheVariants.{Off, Ddc2b}
 use Rattle.bus.specs.declared.Edge.{Edge}
 use Rattle.bus.specs.declared.Edge.TheVariants.{Flat, Rise, Fall}
@@ -104,11 +105,11 @@ risen_phase true sda byte b = let_go (compared_in b.phase) true (bit 2 b.iists) 
 risen_phase false sda byte b = let_go (compared_in b.phase) false (bit 2 b.iists) sda b.iiadr byte
 
 module _ (n : ℕ) (c : Chip) (b : ℕ) (h : Holds n c.core) (r : c.core.reset ≡ true) where
-  lets_mdcon : lets_go c (Write MDCON b) ≡ bit 0 b
+  lets_mdcon : lets_go c (Ok (Write MDCON b)) ≡ bit 0 b
   unfolding lets_go
   lets_mdcon = rw (r, h.md)
 
-  lets_iists : lets_go c (Write IISTS b) ≡ bit 3 b
+  lets_iists : lets_go c (Ok (Write IISTS b)) ≡ bit 3 b
   unfolding lets_go
   lets_iists = rw (r, h.enddc) (or_false (bit 3 b))
     where
@@ -116,7 +117,7 @@ module _ (n : ℕ) (c : Chip) (b : ℕ) (h : Holds n c.core) (r : c.core.reset �
       or_false true = refl
       or_false false = refl
 
-  lets_iidat : lets_go c (Write IIDAT b) ≡ true
+  lets_iidat : lets_go c (Ok (Write IIDAT b)) ≡ true
   unfolding lets_go
   lets_iidat = first c.core.reset r
     where
@@ -124,7 +125,7 @@ module _ (n : ℕ) (c : Chip) (b : ℕ) (h : Holds n c.core) (r : c.core.reset �
       first true h = refl
       first false h = h
 
-  at_target : {t : Target} {a : ℕ} → Addressed t a → Effect n c (Write a b) (pick (is_writable a) (written_to t c.core b) c.core)
+  at_target : {t : Target} {a : ℕ} → Addressed t a → Effect n c (Ok (Write a b)) (pick (is_writable a) (written_to t c.core b) c.core)
   unfolding is_writable row_of table written_to mdcon_written clrflg_written clrwdt_written iiadr_written iidat_written iists_written bus_at_iidat lets_go
   at_target at_mdcon =
       let bus : Bus = c.core.bus in
@@ -158,7 +159,7 @@ module _ (n : ℕ) (c : Chip) (b : ℕ) (h : Holds n c.core) (r : c.core.reset �
   at_target {a = a} (at_plain p) = plain (rw (p.iidat, p.iists, p.mdcon)) refl (pick_by (Holds n) (is_writable a) (λ _. h) (λ _. h))
 
 -- while RESET is low a write is refused
-low_write : (n : ℕ) (c : Chip) (a b : ℕ) → Holds n c.core → c.core.reset ≡ false → Effect n c (Write a b) c.core
+low_write : (n : ℕ) (c : Chip) (a b : ℕ) → Holds n c.core → c.core.reset ≡ false → Effect n c (Ok (Write a b)) c.core
 unfolding lets_go
 low_write n c a b h r = plain (rw r (none (eqb a IIDAT) (eqb a IISTS) (eqb a MDCON))) refl h
   where
@@ -172,9 +173,9 @@ low_write n c a b h r = plain (rw r (none (eqb a IIDAT) (eqb a IISTS) (eqb a MDC
     none false false true = refl
     none false false false = refl
 
-at_write : (n : ℕ) (c : Chip) (a b : ℕ) → Holds n c.core → Effect n c (Write a b) (next c (Write a b)).core
+at_write : (n : ℕ) (c : Chip) (a b : ℕ) → Holds n c.core → Effect n c (Ok (Write a b)) (next c (Ok (Write a b))).core
 unfolding next core_after write_register written
-at_write n c a b h = pick_by (Effect n c (Write a b)) c.core.reset (λ r. at_target n c b h r (addressed a)) (λ r. low_write n c a b h r)
+at_write n c a b h = pick_by (Effect n c (Ok (Write a b))) c.core.reset (λ r. at_target n c b h r (addressed a)) (λ r. low_write n c a b h r)
 
 -- ---- pins
 
@@ -195,7 +196,7 @@ sda_kept false scl p e c h = refl
 
 module _ (n : ℕ) (c : Chip) (level : Bool) (h : Holds n c.core) where
   -- RESET going low lets SCL go
-  reset_lets : c.core.reset ≡ true → level ≡ false → lets_go c (Pin 28 level) ≡ true
+  reset_lets : c.core.reset ≡ true → level ≡ false → lets_go c (Ok (Pin 28 level)) ≡ true
   unfolding lets_go
   reset_lets r l = goes_low c.core.reset level r l
     where
@@ -203,18 +204,18 @@ module _ (n : ℕ) (c : Chip) (level : Bool) (h : Holds n c.core) where
       goes_low x y h k = rw (h, k)
 
   -- a pin other than RESET
-  plain_pin : {after : Core} (p : ℕ) → eqb p 28 ≡ false → Holds n after → Effect n c (Pin p level) after
+  plain_pin : {after : Core} (p : ℕ) → eqb p 28 ≡ false → Holds n after → Effect n c (Ok (Pin p level)) after
   unfolding lets_go
   plain_pin p k t = plain (rw k) refl t
 
-  at_scl : Effect n c (Pin 25 level) (scl_moved c.core level)
+  at_scl : Effect n c (Ok (Pin 25 level)) (scl_moved c.core level)
   unfolding scl_moved
   at_scl =
       plain_pin 25 refl
       (rw (in_ddc2b_lem h, scl_kept c.core.reset c.core.scl level c.core.bus.phase (with_scl c.core level) (held_pulls c.core.bus.phase h.held))
       (record { enddc = h.enddc; md = h.md; matched = h.matched; held = h.held }))
 
-  at_sda : Effect n c (Pin 24 level) (sda_moved c.core level)
+  at_sda : Effect n c (Ok (Pin 24 level)) (sda_moved c.core level)
   unfolding sda_moved
   at_sda =
       plain_pin 24 refl
@@ -226,7 +227,7 @@ module _ (n : ℕ) (c : Chip) (level : Bool) (h : Holds n c.core) where
   unfolding bus_at_vsync
   vsync_bus = rw (in_ddc2b_lem h)
 
-  at_vsynci : Effect n c (Pin 27 level) (vsync_moved c.core level)
+  at_vsynci : Effect n c (Ok (Pin 27 level)) (vsync_moved c.core level)
   unfolding vsync_moved vsync_rise
   at_vsynci =
       plain_pin 27 refl
@@ -235,7 +236,7 @@ module _ (n : ℕ) (c : Chip) (level : Bool) (h : Holds n c.core) where
       (λ _. record { enddc = h.enddc; md = h.md; matched = h.matched; held = h.held }))
 
   -- RESET by its level before and after
-  reset_by : (old new : Bool) → c.core.reset ≡ old → level ≡ new → Effect n c (Pin 28 level) (on_reset (edge old new) (with_reset c.core new))
+  reset_by : (old new : Bool) → c.core.reset ≡ old → level ≡ new → Effect n c (Ok (Pin 28 level)) (on_reset (edge old new) (with_reset c.core new))
   unfolding lets_go on_reset reset_core reset_at pulls_scl
   reset_by true true r l = plain (rw (r, l)) refl (record { enddc = h.enddc; md = h.md; matched = h.matched; held = h.held })
   reset_by true false r l = record { kept = λ z. clash _ (reset_lets r l) z; over = λ _. refl }
@@ -245,7 +246,7 @@ module _ (n : ℕ) (c : Chip) (level : Bool) (h : Holds n c.core) where
       low_reset true = record { enddc = h.enddc; md = h.md; matched = h.matched; held = h.held }
       low_reset false = record { enddc = h.enddc; md = h.md; matched = h.matched; held = h.held }
 
-  at_kind_lem : {k : PinKind} {p : ℕ} → Numbered k p → Effect n c (Pin p level) (pin_moved_as k c.core p level)
+  at_kind_lem : {k : PinKind} {p : ℕ} → Numbered k p → Effect n c (Ok (Pin p level)) (pin_moved_as k c.core p level)
   unfolding pin_moved_as port0_moved port1_moved port2_moved p16_moved hsync_moved reset_moved
   at_kind_lem {p = p} (port0_pin u high) = plain_pin p u.reset (record { enddc = h.enddc; md = h.md; matched = h.matched; held = h.held })
   at_kind_lem {p = p} (port1_pin u low high) = plain_pin p u.reset (record { enddc = h.enddc; md = h.md; matched = h.matched; held = h.held })
@@ -258,7 +259,7 @@ module _ (n : ℕ) (c : Chip) (level : Bool) (h : Holds n c.core) where
   at_kind_lem vsynci_pin = at_vsynci
   at_kind_lem reset_pin = reset_by c.core.reset level refl refl
 
-at_pin : (n : ℕ) (c : Chip) (p : ℕ) (level : Bool) → Holds n c.core → Effect n c (Pin p level) (next c (Pin p level)).core
+at_pin : (n : ℕ) (c : Chip) (p : ℕ) (level : Bool) → Holds n c.core → Effect n c (Ok (Pin p level)) (next c (Ok (Pin p level))).core
 unfolding next core_after pin_moved
 at_pin n c p level h = at_kind_lem n c level h (numbered p)
 
@@ -266,7 +267,7 @@ at_pin n c p level h = at_kind_lem n c level h (numbered p)
 
 module _ (n : ℕ) (c : Chip) (h : Holds n c.core) where
   -- 8 µs
-  at_period : Effect n c (Clock 0) (pick c.core.reset (period_clock c.core) c.core)
+  at_period : Effect n c (Ok (Clock 0)) (pick c.core.reset (period_clock c.core) c.core)
   unfolding lets_go period_clock phase_at_period
   at_period =
       record {
@@ -279,7 +280,7 @@ module _ (n : ℕ) (c : Chip) (h : Holds n c.core) where
       by_reset false = h
 
   -- base clocks
-  at_timer : (k : ℕ) → eqb k 0 ≡ false → eqb k 3 ≡ false → Effect n c (Clock k) (pick c.core.reset (timer_clock (register_at c.registers BTCON) c.core k) c.core)
+  at_timer : (k : ℕ) → eqb k 0 ≡ false → eqb k 3 ≡ false → Effect n c (Ok (Clock k)) (pick c.core.reset (timer_clock (register_at c.registers BTCON) c.core k) c.core)
   unfolding lets_go timer_clock timer_step
   at_timer k p w =
       plain (rw w) (rw p)
@@ -289,13 +290,13 @@ module _ (n : ℕ) (c : Chip) (h : Holds n c.core) where
 
   -- the watchdog's
   watchdog_by : (reset fires : Bool) (m : ℕ) → c.core.reset ≡ reset → watchdog_fires c.core.watchdog ≡ fires →
-      Effect n c (Clock 3) (pick reset (pick fires (reset_core c.core) (with_watchdog c.core m)) c.core)
+      Effect n c (Ok (Clock 3)) (pick reset (pick fires (reset_core c.core) (with_watchdog c.core m)) c.core)
   unfolding lets_go reset_core reset_at pulls_scl
   watchdog_by true true m r f = record { kept = λ z. clash _ (rw (r, ← (watchdog_last c.core.watchdog), f)) z; over = λ _. refl }
   watchdog_by true false m r f = plain (rw (r, ← (watchdog_last c.core.watchdog), f)) refl (record { enddc = h.enddc; md = h.md; matched = h.matched; held = h.held })
   watchdog_by false fires m r f = plain (rw r) refl h
 
-  clock_by : (k : ℕ) (period watchdog : Bool) → eqb k 0 ≡ period → eqb k 3 ≡ watchdog → Effect n c (Clock k) (next c (Clock k)).core
+  clock_by : (k : ℕ) (period watchdog : Bool) → eqb k 0 ≡ period → eqb k 3 ≡ watchdog → Effect n c (Ok (Clock k)) (next c (Ok (Clock k))).core
   unfolding next core_after clocked clocked_as watchdog_clock
   clock_by k true watchdog e f = rw (eqb-true k 0 e) at_period
   clock_by k false true e f = rw (eqb-true k 3 f) (watchdog_by c.core.reset (watchdog_fires c.core.watchdog) (watchdog_next c.core.watchdog) refl refl)
@@ -303,15 +304,15 @@ module _ (n : ℕ) (c : Chip) (h : Holds n c.core) where
 
 -- ---- every event
 
-at_polarity : (n : ℕ) (c : Chip) (vertical level : Bool) → Holds n c.core → Effect n c (Polarity vertical level) (next c (Polarity vertical level)).core
+at_polarity : (n : ℕ) (c : Chip) (vertical level : Bool) → Holds n c.core → Effect n c (Ok (Polarity vertical level)) (next c (Ok (Polarity vertical level))).core
 unfolding next core_after polarity_found lets_go
 at_polarity n c vertical level h = plain refl refl (pick_by (Holds n) c.core.reset (λ _. record { enddc = h.enddc; md = h.md; matched = h.matched; held = h.held }) (λ _. h))
 
 pub effect : (n : ℕ) (c : Chip) (e : Decoded) → Holds n c.core → Effect n c e (next c e).core
 unfolding next core_after lets_go
-effect n c (Read a) h = plain refl refl h
-effect n c (Write a b) h = at_write n c a b h
-effect n c (Pin p level) h = at_pin n c p level h
-effect n c (Clock k) h = clock_by n c h k _ _ refl refl
-effect n c (Polarity vertical level) h = at_polarity n c vertical level h
-effect n c (Refused m) h = plain refl refl h
+effect n c (Ok (Read a)) h = plain refl refl h
+effect n c (Ok (Write a b)) h = at_write n c a b h
+effect n c (Ok (Pin p level)) h = at_pin n c p level h
+effect n c (Ok (Clock k)) h = clock_by n c h k _ _ refl refl
+effect n c (Ok (Polarity vertical level)) h = at_polarity n c vertical level h
+effect n c (Err r) h = plain refl refl h

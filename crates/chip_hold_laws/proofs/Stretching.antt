@@ -11,9 +11,10 @@ use lib.Dec.{ltb}
 use Rattle.bits.specs.Byte.{pick, num, bit}
 use Rattle.bits.proofs.Finite.{both}
 use Rattle.bits.proofs.Level.{pick_by}
+use Rattle.std.specs.Prelude.{Ok, Err}
 use Rattle.events.specs.Clocks as clock
-use Rattle.events.specs.declared.Decoded.{Decoded}
-use Rattle.events.specs.declared.Decoded.TheVariants.{Read, Write, Pin, Clock, Polarity, Refused}
+use Rattle.events.specs.Decoded.{Decoded}
+use Rattle.events.specs.declared.Event.TheVariants.{Read, Write, Pin, Clock, Polarity}
 use Rattle.events.specs.Word.{decode}
 use Rattle.bus.specs.declared.Mode.TheVariants.{Ddc2b}
 use Rattle.bus.specs.declared.OwnAddress.{OwnAddress}
@@ -62,7 +63,7 @@ recounted e h = record { ddc2b = h.ddc2b; matched = h.matched; held = h.held ∙
 not_and : (x y : Bool) → x ≡ true → not (x && y) ≡ true → y ≡ false
 not_and x y h k = not-true y (rw h at k)
 
-taken_at : (c : Chip) (p : ℕ) (level : Bool) → takes_scl c (Pin p level) ≡ true → Holds 0 (next c (Pin p level)).core
+taken_at : (c : Chip) (p : ℕ) (level : Bool) → takes_scl c (Ok (Pin p level)) ≡ true → Holds 0 (next c (Ok (Pin p level))).core
 unfolding takes_scl next core_after pin_moved pin_moved_as pin_kind
 taken_at c p level h =
     let x = both _ _ h in
@@ -78,12 +79,12 @@ taken_at c p level h =
 -- the step that takes SCL low leaves a count of 0
 pub hold_begins : (c : Chip) (e : Decoded) → takes_scl c e ≡ true → HeldFor 0 (next c e)
 unfolding takes_scl
-hold_begins c (Read a) h = clash _ h refl
-hold_begins c (Write a b) h = clash _ h refl
-hold_begins c (Pin p level) h = held_for (taken_at c p level h)
-hold_begins c (Clock k) h = clash _ h refl
-hold_begins c (Polarity vertical level) h = clash _ h refl
-hold_begins c (Refused n) h = clash _ h refl
+hold_begins c (Ok (Read a)) h = clash _ h refl
+hold_begins c (Ok (Write a b)) h = clash _ h refl
+hold_begins c (Ok (Pin p level)) h = held_for (taken_at c p level h)
+hold_begins c (Ok (Clock k)) h = clash _ h refl
+hold_begins c (Ok (Polarity vertical level)) h = clash _ h refl
+hold_begins c (Err r) h = clash _ h refl
 
 -- where SCL is not held no other step takes it low
 pub begins_exactly : (c : Chip) (e : Decoded) → holds_scl c ≡ false → holds_scl (next c e) ≡ takes_scl c e
@@ -106,7 +107,7 @@ begins_with_data c e h =
 goes_on : (n : ℕ) (c : Chip) (e : Decoded) → HeldFor n c → lets_go c e ≡ false → HeldFor (pick (is_clock clock.period e && c.core.reset) (held_longer n) n) (next c e)
 goes_on n c e h t = held_for ((effect n c e (holds h)).kept t)
 
-no_clock : (c : Chip) → lets_go c (Clock clock.period) ≡ false
+no_clock : (c : Chip) → lets_go c (Ok (Clock clock.period)) ≡ false
 unfolding lets_go
 no_clock c = refl
 
@@ -119,12 +120,12 @@ unfolding held_longer
 full = refl
 
 -- an 8 µs clock adds one
-pub hold_counts : (n : ℕ) (c : Chip) → HeldFor n c → c.core.reset ≡ true → n < 65535 → HeldFor (n + 1) (next c (Clock clock.period))
-hold_counts n c h r l = recounted (rw r (longer n l)) (goes_on n c (Clock clock.period) h (no_clock c))
+pub hold_counts : (n : ℕ) (c : Chip) → HeldFor n c → c.core.reset ≡ true → n < 65535 → HeldFor (n + 1) (next c (Ok (Clock clock.period)))
+hold_counts n c h r l = recounted (rw r (longer n l)) (goes_on n c (Ok (Clock clock.period)) h (no_clock c))
 
 -- at 65,535 the count stands
-pub hold_stands : (c : Chip) → HeldFor 65535 c → HeldFor 65535 (next c (Clock clock.period))
-hold_stands c h = recounted (pick_by (λ (n : ℕ). n ≡ 65535) c.core.reset (λ _. full) (λ _. refl)) (goes_on 65535 c (Clock clock.period) h (no_clock c))
+pub hold_stands : (c : Chip) → HeldFor 65535 c → HeldFor 65535 (next c (Ok (Clock clock.period)))
+hold_stands c h = recounted (pick_by (λ (n : ℕ). n ≡ 65535) c.core.reset (λ _. full) (λ _. refl)) (goes_on 65535 c (Ok (Clock clock.period)) h (no_clock c))
 
 -- no other event that leaves SCL held moves the count, and none does while RESET is low
 pub hold_kept : (n : ℕ) (c : Chip) (e : Decoded) → HeldFor n c → lets_go c e ≡ false → (is_clock clock.period e && c.core.reset) ≡ false → HeldFor n (next c e)

@@ -2,7 +2,7 @@
 use Rattle.std.specs.Prelude.{ℕ, ◌≡◌, Bool, true, false, not, ◌&&◌, ◌||◌, List, eqb, ltb}
 use Rattle.bits.specs.Byte.{pick, bit}
 use Rattle.registers.specs.Names.{MDCON, IIDAT, IISTS, MD12, ENDDC}
-use Rattle.events.specs.declared.Decoded.{Decoded}
+use Rattle.events.specs.Decoded.{Decoded}
 use Rattle.events.specs.Kinds.{on_write}
 use Rattle.bus.specs.declared.OwnAddress.{OwnAddress}
 use Rattle.bus.specs.declared.Phase.TheVariants.{Held}

@@ -12,8 +12,10 @@ use Rattle.bits.specs.Byte.{pick}
 use Rattle.bits.proofs.Finite.{both}
 use Rattle.registers.specs.Table.{is_readable, is_writable, read_mask}
 use Rattle.answers.specs.declared.AnswerFields.{AnswerFields}
-use Rattle.events.specs.declared.Decoded.{Decoded}
-use Rattle.events.specs.declared.Decoded.TheVariants.{Read, Write, Pin, Clock, Polarity, Refused}
+use Rattle.std.specs.Prelude.{Ok, Err}
+use Rattle.events.specs.Decoded.{Decoded}
+use Rattle.events.specs.declared.Event.TheVariants.{Read, Write, Pin, Clock, Polarity}
+use Rattle.events.specs.declared.Refusal.TheVariants.{NoEvent, NoPlace, BadByte}
 use Rattle.events.specs.Word.{kind, field_a, field_b, event, no_event, no_place, bad_byte, decode}
 use Rattle.answers.specs.Answer.{answer_fields}
 use Rattle.answers.proofs.AnswerWord.{fields_of_answer}
@@ -53,7 +55,7 @@ write_number_lem false readable writable = refl
 
 -- the event of a kind, over the tests of its kind, of which one holds at most
 kind_number : (c : Chip) (one two three four : Bool) (a b : ℕ) → (one ≡ true → two ≡ false) →
-    number_given c (pick one (Read a) (pick two (Write a b) (pick three (Pin a (eqb b 1)) (pick four (Clock a) (Polarity (eqb a 1) (eqb b 1))))))
+    number_given c (Ok (pick one (Read a) (pick two (Write a b) (pick three (Pin a (eqb b 1)) (pick four (Clock a) (Polarity (eqb a 1) (eqb b 1)))))))
     ≡ access one two c.core.reset (is_readable a) (is_writable a)
 unfolding number_given reading write_number
 kind_number c true true three four a b h = absurd (impossible (sym (h refl)))
@@ -64,7 +66,7 @@ kind_number c false false false true a b h = refl
 kind_number c false false false false a b h = refl
 
 decoded_number : (c : Chip) (s t u : Bool) (e : Decoded) (n : ℕ) → number_given c e ≡ n →
-    number_given c (pick s (Refused 1) (pick t (Refused 2) (pick u (Refused 3) e))) ≡ pick s 1 (pick t 2 (pick u 3 n))
+    number_given c (pick s (Err NoEvent) (pick t (Err NoPlace) (pick u (Err BadByte) e))) ≡ pick s 1 (pick t 2 (pick u 3 n))
 unfolding number_given
 decoded_number c true t u e n h = refl
 decoded_number c false true u e n h = refl
@@ -80,7 +82,7 @@ pub decode_number : (c : Chip) (w : ℕ) → well_formed c ≡ true → number_g
 unfolding decode event number_of01
 decode_number c w t =
     rw t
-    (decoded_number c (no_event w) (no_place w) (bad_byte w) (event w) _
+    (decoded_number c (no_event w) (no_place w) (bad_byte w) (Ok (event w)) _
     (kind_number c (is_read w) (is_write w) (eqb (kind w) 3) (eqb (kind w) 4) (field_a w) (field_b w) (one_kind w)))
 
 -- ---- the parts of an answer
@@ -236,14 +238,14 @@ refused_write_keeps false writable c k new h = refl
 
 refused_event : (c : Chip) (e : Decoded) → (number_given c e ≡ 0 → ⊥) → advance c e ≡ refusal c (number_given c e)
 unfolding advance answered number_given next core_after kept_after watchdog_reset byte_given reading write_number write_register write_kept
-refused_event c (Read a) h = rw (refused_byte c.core.reset (is_readable a) (bit_and (shown c a) (read_mask a)) h)
-refused_event c (Write a b) h =
-    ap (λ (d : Chip). refusal d (number_given c (Write a b)))
+refused_event c (Ok (Read a)) h = rw (refused_byte c.core.reset (is_readable a) (bit_and (shown c a) (read_mask a)) h)
+refused_event c (Ok (Write a b)) h =
+    ap (λ (d : Chip). refusal d (number_given c (Ok (Write a b))))
     (refused_write_keeps c.core.reset (is_writable a) c (stored_by c.registers a b) (written c.core a b) h)
-refused_event c (Pin p level) h = absurd (h refl)
-refused_event c (Clock k) h = absurd (h refl)
-refused_event c (Polarity vertical level) h = absurd (h refl)
-refused_event c (Refused n) h = refl
+refused_event c (Ok (Pin p level)) h = absurd (h refl)
+refused_event c (Ok (Clock k)) h = absurd (h refl)
+refused_event c (Ok (Polarity vertical level)) h = absurd (h refl)
+refused_event c (Err r) h = refl
 
 -- at a well formed state: numbers 1 to 6
 pub refused_step : (c : Chip) (w : ℕ) → well_formed c ≡ true → (answer_number c w ≡ 0 → ⊥) → step c w ≡ refusal c (number_of01 c w)

@@ -5,8 +5,9 @@ use mathlib.Core.Bool.{Bool, true, false}
 use mathlib.Core.List.{List}
 use Prim.Native.Nat.{ℕ, ◌<◌}
 use native.Mathlib.Omega.{arith}
-use Rattle.events.specs.declared.Decoded.{Decoded}
-use Rattle.events.specs.declared.Decoded.TheVariants.{Read, Write, Pin, Clock, Polarity, Refused}
+use Rattle.std.specs.Prelude.{Ok, Err}
+use Rattle.events.specs.Decoded.{Decoded}
+use Rattle.events.specs.declared.Event.TheVariants.{Read, Write, Pin, Clock, Polarity}
 use Rattle.events.specs.Word.{decode}
 use Rattle.registers.specs.Names.{BTCON}
 use Rattle.chip.specs.declared.Chip.{Chip}
@@ -32,12 +33,12 @@ reset_well_formed c h = well _ (record { core = reset_core_formed c.core h; stor
 
 core_formed : (c : Chip) (e : Decoded) → Formed c.core → Formed (core_after c e)
 unfolding core_after
-core_formed c (Read a) f = f
-core_formed c (Write a b) f = write_formed c.core a b f
-core_formed c (Pin p level) f = pin_formed c.core p level f
-core_formed c (Clock k) f = clock_formed (register_at c.registers BTCON) c.core k f
-core_formed c (Polarity vertical level) f = polarity_formed c.core vertical level f
-core_formed c (Refused n) f = f
+core_formed c (Ok (Read a)) f = f
+core_formed c (Ok (Write a b)) f = write_formed c.core a b f
+core_formed c (Ok (Pin p level)) f = pin_formed c.core p level f
+core_formed c (Ok (Clock k)) f = clock_formed (register_at c.registers BTCON) c.core k f
+core_formed c (Ok (Polarity vertical level)) f = polarity_formed c.core vertical level f
+core_formed c (Err r) f = f
 
 reset_reserved : (reset : Bool) (l : List ℕ) → Reserved l → Reserved (keep (reset_if reset) l)
 reset_reserved true l r = resets_reserved
@@ -45,12 +46,12 @@ reset_reserved false l r = r
 
 array_reserved : (c : Chip) (e : Decoded) → Reserved c.registers → Reserved (keep (kept_after c e) c.registers)
 unfolding kept_after
-array_reserved c (Read a) r = r
-array_reserved c (Write a b) r = write_reserved c.core.reset c.registers a b r
-array_reserved c (Pin p level) r = reset_reserved (was_reset c (Pin p level)) c.registers r
-array_reserved c (Clock k) r = reset_reserved (was_reset c (Clock k)) c.registers r
-array_reserved c (Polarity vertical level) r = r
-array_reserved c (Refused n) r = r
+array_reserved c (Ok (Read a)) r = r
+array_reserved c (Ok (Write a b)) r = write_reserved c.core.reset c.registers a b r
+array_reserved c (Ok (Pin p level)) r = reset_reserved (was_reset c (Ok (Pin p level))) c.registers r
+array_reserved c (Ok (Clock k)) r = reset_reserved (was_reset c (Ok (Clock k))) c.registers r
+array_reserved c (Ok (Polarity vertical level)) r = r
+array_reserved c (Err n) r = r
 
 next_formed : (c : Chip) (e : Decoded) → ChipFormed c → ChipFormed (next c e)
 unfolding next

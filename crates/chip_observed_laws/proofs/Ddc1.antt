@@ -13,8 +13,9 @@ use Rattle.bits.proofs.Finite.{both, neither, T_true, at_each}
 use Rattle.bits.proofs.Level.{pick_by}
 use Rattle.registers.specs.Names.{MDCON, IIDAT, IISTS, BTCON}
 use Rattle.registers.specs.Table.{table, row_of, is_writable, updated}
-use Rattle.events.specs.declared.Decoded.{Decoded}
-use Rattle.events.specs.declared.Decoded.TheVariants.{Read, Write, Pin, Clock, Polarity, Refused}
+use Rattle.std.specs.Prelude.{Ok, Err}
+use Rattle.events.specs.Decoded.{Decoded}
+use Rattle.events.specs.declared.Event.TheVariants.{Read, Write, Pin, Clock, Polarity}
 use Rattle.events.specs.Word.{decode}
 use Rattle.counters.specs.Count.{watchdog_fires, watchdog_next}
 use Rattle.bus.specs.declared.Mode.{Mode}
@@ -180,15 +181,15 @@ or_false true = refl
 or_false false = refl
 
 module _ (c : Chip) (b : ℕ) (h : InDdc1 c.core) (r : c.core.reset ≡ true) where
-  leaves_mdcon : leaves_ddc1 c (Write MDCON b) ≡ not (bit 0 b)
+  leaves_mdcon : leaves_ddc1 c (Ok (Write MDCON b)) ≡ not (bit 0 b)
   unfolding leaves_ddc1
   leaves_mdcon = rw r (or_false (not (bit 0 b)))
 
-  leaves_iists : leaves_ddc1 c (Write IISTS b) ≡ bit 3 b
+  leaves_iists : leaves_ddc1 c (Ok (Write IISTS b)) ≡ bit 3 b
   unfolding leaves_ddc1
   leaves_iists = rw r (or_false (bit 3 b))
 
-  at_target : {t : Target} {a : ℕ} → Addressed t a → leaves_ddc1 c (Write a b) ≡ false → Effect c (Write a b) (pick (is_writable a) (written_to t c.core b) c.core)
+  at_target : {t : Target} {a : ℕ} → Addressed t a → leaves_ddc1 c (Ok (Write a b)) ≡ false → Effect c (Ok (Write a b)) (pick (is_writable a) (written_to t c.core b) c.core)
   unfolding is_writable row_of table written_to mdcon_written clrflg_written clrwdt_written iiadr_written iidat_written iists_written bus_at_iidat
   at_target at_mdcon z =
       let bus : Bus = c.core.bus in
@@ -211,10 +212,10 @@ module _ (c : Chip) (b : ℕ) (h : InDdc1 c.core) (r : c.core.reset ≡ true) wh
   at_target at_bt z = kept h refl (record { iists = refl; mdcon = refl; shifter = refl })
   at_target {a = a} (at_plain p) z = kept h refl (pick_by (Kept c.core) (is_writable a) (λ _. record { iists = refl; mdcon = refl; shifter = refl }) (λ _. record { iists = refl; mdcon = refl; shifter = refl }))
 
-at_write : (c : Chip) (a b : ℕ) → InDdc1 c.core → leaves_ddc1 c (Write a b) ≡ false → Effect c (Write a b) (next c (Write a b)).core
+at_write : (c : Chip) (a b : ℕ) → InDdc1 c.core → leaves_ddc1 c (Ok (Write a b)) ≡ false → Effect c (Ok (Write a b)) (next c (Ok (Write a b))).core
 unfolding next core_after write_register written
 at_write c a b h z =
-    pick_by (Effect c (Write a b)) c.core.reset (λ r. at_target c b h r (addressed a) z)
+    pick_by (Effect c (Ok (Write a b))) c.core.reset (λ r. at_target c b h r (addressed a) z)
     (λ _. kept h refl (record { iists = refl; mdcon = refl; shifter = refl }))
 
 -- ---- pins
@@ -247,26 +248,26 @@ reset_by false true c z = record { iists = refl; mdcon = refl; shifter = refl }
 reset_by false false c z = record { iists = refl; mdcon = refl; shifter = refl }
 
 module _ (c : Chip) (level : Bool) (h : InDdc1 c.core) where
-  at_scl : leaves_ddc1 c (Pin 25 level) ≡ false → Effect c (Pin 25 level) (scl_moved c.core level)
+  at_scl : leaves_ddc1 c (Ok (Pin 25 level)) ≡ false → Effect c (Ok (Pin 25 level)) (scl_moved c.core level)
   unfolding scl_moved leaves_ddc1
   at_scl z =
       let falls : (not level && (c.core.reset && (c.core.scl && true))) ≡ false = rw (h.enddc, h.md) at z in
       rw (in_ddc1_lem h, scl_kept c.core.reset c.core.scl level c.core.bus.phase (with_scl c.core level) falls)
       (kept h refl (record { iists = refl; mdcon = refl; shifter = refl }))
 
-  at_sda : Effect c (Pin 24 level) (sda_moved c.core level)
+  at_sda : Effect c (Ok (Pin 24 level)) (sda_moved c.core level)
   unfolding sda_moved
   at_sda = rw (in_ddc1_lem h, sda_kept) (kept h refl (record { iists = refl; mdcon = refl; shifter = refl }))
 
-  at_vsynci : Effect c (Pin 27 level) (vsync_moved c.core level)
+  at_vsynci : Effect c (Ok (Pin 27 level)) (vsync_moved c.core level)
   unfolding vsync_moved
-  at_vsynci = vsync_by c (Pin 27 level) level (rises c.core.reset c.core.pins.vsynci level) h (sym (rise_is c.core.reset c.core.pins.vsynci level))
+  at_vsynci = vsync_by c (Ok (Pin 27 level)) level (rises c.core.reset c.core.pins.vsynci level) h (sym (rise_is c.core.reset c.core.pins.vsynci level))
 
-  at_reset_lem : leaves_ddc1 c (Pin 28 level) ≡ false → Effect c (Pin 28 level) (reset_moved c.core level)
+  at_reset_lem : leaves_ddc1 c (Ok (Pin 28 level)) ≡ false → Effect c (Ok (Pin 28 level)) (reset_moved c.core level)
   unfolding reset_moved leaves_ddc1
   at_reset_lem z = kept h refl (reset_by c.core.reset level c.core (neither (c.core.reset && not level) _ z).0)
 
-  at_kind_lem : {k : PinKind} {p : ℕ} → Numbered k p → leaves_ddc1 c (Pin p level) ≡ false → Effect c (Pin p level) (pin_moved_as k c.core p level)
+  at_kind_lem : {k : PinKind} {p : ℕ} → Numbered k p → leaves_ddc1 c (Ok (Pin p level)) ≡ false → Effect c (Ok (Pin p level)) (pin_moved_as k c.core p level)
   unfolding pin_moved_as port0_moved port1_moved port2_moved p16_moved hsync_moved
   at_kind_lem (port0_pin u high) z = kept h (rw u.vsynci) (record { iists = refl; mdcon = refl; shifter = refl })
   at_kind_lem (port1_pin u low high) z = kept h (rw u.vsynci) (record { iists = refl; mdcon = refl; shifter = refl })
@@ -297,7 +298,7 @@ watchdog_by true true c n z = absurd (let k : ◌≡◌ {A = ℕ} 0 1 = cc in om
 watchdog_by true false c n z = record { iists = refl; mdcon = refl; shifter = refl }
 watchdog_by false fires c n z = record { iists = refl; mdcon = refl; shifter = refl }
 
-clock_by : (c : Chip) (k : ℕ) (period watchdog : Bool) → eqb k 0 ≡ period → eqb k 3 ≡ watchdog → leaves_ddc1 c (Clock k) ≡ false → Kept c.core (next c (Clock k)).core
+clock_by : (c : Chip) (k : ℕ) (period watchdog : Bool) → eqb k 0 ≡ period → eqb k 3 ≡ watchdog → leaves_ddc1 c (Ok (Clock k)) ≡ false → Kept c.core (next c (Ok (Clock k))).core
 unfolding next core_after clocked clocked_as watchdog_clock timer_clock leaves_ddc1
 clock_by c k true watchdog e f z = rw (eqb-true k 0 e) (period_by c.core.reset c.core)
 clock_by c k false true e f z =
@@ -313,12 +314,12 @@ polarity_by false c n = record { iists = refl; mdcon = refl; shifter = refl }
 
 effect : (c : Chip) (e : Decoded) → InDdc1 c.core → leaves_ddc1 c e ≡ false → Effect c e (next c e).core
 unfolding next core_after pin_moved polarity_found
-effect c (Read a) h z = kept h refl (record { iists = refl; mdcon = refl; shifter = refl })
-effect c (Write a b) h z = at_write c a b h z
-effect c (Pin p level) h z = at_kind_lem c level h (numbered p) z
-effect c (Clock k) h z = kept h refl (clock_by c k _ _ refl refl z)
-effect c (Polarity vertical level) h z = kept h refl (polarity_by c.core.reset c.core _)
-effect c (Refused n) h z = kept h refl (record { iists = refl; mdcon = refl; shifter = refl })
+effect c (Ok (Read a)) h z = kept h refl (record { iists = refl; mdcon = refl; shifter = refl })
+effect c (Ok (Write a b)) h z = at_write c a b h z
+effect c (Ok (Pin p level)) h z = at_kind_lem c level h (numbered p) z
+effect c (Ok (Clock k)) h z = kept h refl (clock_by c k _ _ refl refl z)
+effect c (Ok (Polarity vertical level)) h z = kept h refl (polarity_by c.core.reset c.core _)
+effect c (Err r) h z = kept h refl (record { iists = refl; mdcon = refl; shifter = refl })
 
 -- ---- over a list of words
 
@@ -393,14 +394,14 @@ impossible h = absurd (let k : ◌≡◌ {A = ℕ} 0 1 = cc in omega arith)
 -- a rise of VSYNCI does not leave DDC1
 rise_stays : (c : Chip) (e : Decoded) → rises_vsynci c e ≡ true → leaves_ddc1 c e ≡ false
 unfolding leaves_ddc1
-rise_stays c (Read a) h = impossible h
-rise_stays c (Write a b) h = impossible h
-rise_stays c (Pin p level) h =
+rise_stays c (Ok (Read a)) h = impossible h
+rise_stays c (Ok (Write a b)) h = impossible h
+rise_stays c (Ok (Pin p level)) h =
     let k = both (eqb p 27 && level) (c.core.reset && not c.core.pins.vsynci) h in
     rw (eqb-true p 27 (both (eqb p 27) level k.0).0)
-rise_stays c (Clock k) h = impossible h
-rise_stays c (Polarity vertical level) h = impossible h
-rise_stays c (Refused n) h = impossible h
+rise_stays c (Ok (Clock k)) h = impossible h
+rise_stays c (Ok (Polarity vertical level)) h = impossible h
+rise_stays c (Err r) h = impossible h
 
 loaded : (c : Chip) (e : Decoded) → loads c e ≡ true → Goes c.core.bus.iidat 0 8 (next c e).core
 unfolding loads shifter_at_rise
@@ -474,7 +475,7 @@ module _ (c : Chip) (b : ℕ) (off : in_ddc1 c ≡ false) where
       same false h = h
 
 -- a write that turns DDC1 on leaves its shift register unused: ones, and nine edges
-pub turned_on : (c : Chip) (a b : ℕ) → in_ddc1 c ≡ false → in_ddc1 (next c (Write a b)) ≡ true → (next c (Write a b)).core.bus.shifter ≡ unused_shifter
+pub turned_on : (c : Chip) (a b : ℕ) → in_ddc1 c ≡ false → in_ddc1 (next c (Ok (Write a b))) ≡ true → (next c (Ok (Write a b))).core.bus.shifter ≡ unused_shifter
 unfolding next core_after write_register written
 turned_on c a b off on =
     pick_by (λ (x : Core). ddc1_bits x ≡ true → x.bus.shifter ≡ unused_shifter) c.core.reset

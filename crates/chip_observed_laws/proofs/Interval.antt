@@ -12,8 +12,9 @@ use lib.Dec.{eqb, ltb}
 use Rattle.bits.specs.Byte.{pick, num, bit}
 use Rattle.registers.specs.Names.{MDCON, CLRFLG, BTCON}
 use Rattle.registers.specs.Table.{table, row_of, is_writable, updated}
-use Rattle.events.specs.declared.Decoded.{Decoded}
-use Rattle.events.specs.declared.Decoded.TheVariants.{Read, Write, Pin, Clock, Polarity, Refused}
+use Rattle.std.specs.Prelude.{Ok, Err}
+use Rattle.events.specs.Decoded.{Decoded}
+use Rattle.events.specs.declared.Event.TheVariants.{Read, Write, Pin, Clock, Polarity}
 use Rattle.events.specs.Word.{decode}
 use Rattle.sync.specs.declared.Sync.{Sync}
 use Rattle.sync.specs.Sync.{on_hsync, on_vsync, on_period, interval_next, hsel_cleared, clear_overflow, zero_sync}
@@ -69,10 +70,10 @@ not_written c a x true e h = low c.core.reset (rw (eqb-true a MDCON e) at h)
     low false k = refl
 not_written c a x false e h = refl
 
-at_write : (c : Chip) (a b : ℕ) → After c (next c (Write a b)).core (Write a b)
+at_write : (c : Chip) (a b : ℕ) → After c (next c (Ok (Write a b))).core (Ok (Write a b))
 unfolding zeroes_interval counts_interval
 at_write c a b =
-    by_write (λ (x : Chip). After c x.core (Write a b)) c a b
+    by_write (λ (x : Chip). After c x.core (Ok (Write a b))) c a b
     (λ r _. rw (hsel_written c.core.mdcon b) (by_tests (eqb a MDCON) c.core.reset (eqb a CLRFLG) (bit 2 c.core.mdcon) (bit 2 b) (bit 7 b) (bit 6 b) c.core.sync r))
     (λ h. rw (not_written c a (not (bit 2 b)) (eqb a MDCON) refl h))
 
@@ -115,7 +116,7 @@ reset_by true false c = refl
 reset_by false true c = refl
 reset_by false false c = refl
 
-at_kind_lem : {k : PinKind} {p : ℕ} → Numbered k p → (c : Chip) (level : Bool) → After c (pin_moved_as k c.core p level) (Pin p level)
+at_kind_lem : {k : PinKind} {p : ℕ} → Numbered k p → (c : Chip) (level : Bool) → After c (pin_moved_as k c.core p level) (Ok (Pin p level))
 unfolding pin_moved_as port0_moved port1_moved port2_moved p16_moved scl_moved sda_moved hsync_moved vsync_moved reset_moved zeroes_interval counts_interval
 at_kind_lem (port0_pin u high) c level = rw u.reset
 at_kind_lem (port1_pin u low high) c level = rw u.reset
@@ -128,7 +129,7 @@ at_kind_lem hsynci_pin c level = hsync_kept (rises c.core.reset c.core.pins.hsyn
 at_kind_lem vsynci_pin c level = vsync_kept (rises c.core.reset c.core.pins.vsynci level) c.core level
 at_kind_lem reset_pin c level = reset_by c.core.reset level c.core
 
-at_pin : (c : Chip) (p : ℕ) (level : Bool) → After c (next c (Pin p level)).core (Pin p level)
+at_pin : (c : Chip) (p : ℕ) (level : Bool) → After c (next c (Ok (Pin p level))).core (Ok (Pin p level))
 unfolding next core_after pin_moved
 at_pin c p level = at_kind_lem (numbered p) c level
 
@@ -153,7 +154,7 @@ watchdog_by true true c n = refl
 watchdog_by true false c n = refl
 watchdog_by false fires c n = refl
 
-clock_by : (c : Chip) (k : ℕ) (period watchdog : Bool) → eqb k 0 ≡ period → eqb k 3 ≡ watchdog → After c (next c (Clock k)).core (Clock k)
+clock_by : (c : Chip) (k : ℕ) (period watchdog : Bool) → eqb k 0 ≡ period → eqb k 3 ≡ watchdog → After c (next c (Ok (Clock k))).core (Ok (Clock k))
 unfolding next core_after clocked clocked_as watchdog_clock timer_clock zeroes_interval counts_interval
 clock_by c k true watchdog e f = rw (eqb-true k 0 e) (period_by c.core.reset (hsel_of c.core) c.core refl)
 clock_by c k false true e f = rw (eqb-true k 3 f, ← (watchdog_last c.core.watchdog)) (watchdog_by c.core.reset (watchdog_fires c.core.watchdog) c.core (watchdog_next c.core.watchdog))
@@ -167,12 +168,12 @@ polarity_by false c n = refl
 
 after : (c : Chip) (e : Decoded) → After c (next c e).core e
 unfolding next core_after polarity_found zeroes_interval counts_interval
-after c (Read a) = refl
-after c (Write a b) = at_write c a b
-after c (Pin p level) = at_pin c p level
-after c (Clock k) = clock_by c k _ _ refl refl
-after c (Polarity vertical level) = polarity_by c.core.reset c.core _
-after c (Refused n) = refl
+after c (Ok (Read a)) = refl
+after c (Ok (Write a b)) = at_write c a b
+after c (Ok (Pin p level)) = at_pin c p level
+after c (Ok (Clock k)) = clock_by c k _ _ refl refl
+after c (Ok (Polarity vertical level)) = polarity_by c.core.reset c.core _
+after c (Err r) = refl
 
 -- ---- numbers
 

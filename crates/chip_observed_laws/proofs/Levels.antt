@@ -10,7 +10,8 @@ use lib.Dec.{T, eqb, ltb}
 use Rattle.bits.specs.Byte.{pick, bit, with_bit}
 use Rattle.bits.specs.Finite.{all_below}
 use Rattle.bits.proofs.Finite.{at_each_pair, T_true}
-use Rattle.events.specs.declared.Decoded.TheVariants.{Pin, Clock, Polarity}
+use Rattle.std.specs.Prelude.{Ok}
+use Rattle.events.specs.declared.Event.TheVariants.{Pin, Clock, Polarity}
 use Rattle.bus.specs.declared.Mode.{Mode}
 use Rattle.bus.specs.declared.Mode.TheVariants.{Off, Ddc1, Ddc2b}
 use Rattle.bus.specs.declared.Edge.TheVariants.{Flat}
@@ -30,12 +31,12 @@ use Rattle.chip_observed_laws.specs.Levels.{level_of, PortBytes, with_levels}
 -- ---- while RESET is low
 
 -- a clock changes nothing
-pub low_clock : (c : Chip) (k : ℕ) → c.core.reset ≡ false → next c (Clock k) ≡ c
+pub low_clock : (c : Chip) (k : ℕ) → c.core.reset ≡ false → next c (Ok (Clock k)) ≡ c
 unfolding next core_after kept_after was_reset clocked
 low_clock c k r = rw r
 
 -- a polarity found changes nothing
-pub low_polarity : (c : Chip) (vertical level : Bool) → c.core.reset ≡ false → next c (Polarity vertical level) ≡ c
+pub low_polarity : (c : Chip) (vertical level : Bool) → c.core.reset ≡ false → next c (Ok (Polarity vertical level)) ≡ c
 unfolding next core_after kept_after polarity_found
 low_polarity c vertical level r = rw r
 
@@ -64,7 +65,7 @@ and_low true y z h = rw h
 and_low false y z h = refl
 
 -- a pin changes only its level
-pub low_pin : (c : Chip) (p : ℕ) (level : Bool) → c.core.reset ≡ false → next c (Pin p level) ≡ with_levels c (next c (Pin p level))
+pub low_pin : (c : Chip) (p : ℕ) (level : Bool) → c.core.reset ≡ false → next c (Ok (Pin p level)) ≡ with_levels c (next c (Ok (Pin p level)))
 unfolding next core_after kept_after was_reset pin_moved
 low_pin c p level r = rw (and_low (eqb p 28) c.core.reset (not level) r) (ap (λ (x : Core). chip_of c.registers x) (low_kind c level r (numbered p)))
 
@@ -142,6 +143,6 @@ not_lowered c p true e = rw (eqb-true p 28 e) (again_reset true c.core.reset)
 not_lowered c p false e = refl
 
 -- a pin given the level that it has changes nothing, whatever the state
-pub level_again : (c : Chip) (p : ℕ) → PortBytes c → next c (Pin p (level_of p c)) ≡ c
+pub level_again : (c : Chip) (p : ℕ) → PortBytes c → next c (Ok (Pin p (level_of p c))) ≡ c
 unfolding next core_after kept_after was_reset pin_moved
 level_again c p b = rw (not_lowered c p (eqb p 28) refl, same_kind c b (numbered p))

@@ -2,7 +2,7 @@
 use Rattle.std.specs.Prelude.{ℕ, ◌+◌, ◌-◌, Bool, true, false, ◌&&◌, ◌||◌, List, [], ◌∷◌, eqb, ltb}
 use Rattle.bits.specs.Byte.{pick, num, bit}
 use Rattle.registers.specs.Names.{MDCON, IISTS, MD12, ENDDC}
-use Rattle.events.specs.declared.Decoded.{Decoded}
+use Rattle.events.specs.Decoded.{Decoded}
 use Rattle.events.specs.Word.{decode}
 use Rattle.bus.specs.Bus.{line, sda_pulled}
 use Rattle.chip.specs.declared.Chip.{Chip}

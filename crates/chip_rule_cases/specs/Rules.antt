@@ -1,8 +1,8 @@
 -- Rules of document 01 and of Wish 2, a row a rule: words that tell the rule from its neighbours, with the answers that the document gives.
 -- The answers are written by hand from the document, in its order; they are a second writing of the rules, beside the definitions.
-use Rattle.std.specs.Prelude.{ℕ, zero, suc, ◌+◌, ◌-◌, Bool, true, false, not, ◌&&◌, List, [], ◌∷◌, ◌++◌, eqb, length, replicate}
+use Rattle.std.specs.Prelude.{ℕ, zero, suc, ◌+◌, ◌-◌, Bool, true, false, not, ◌&&◌, List, [], ◌∷◌, ◌++◌, eqb, length, replicate, Ok}
 use Rattle.registers.specs.Names.{PT0, PT1, PT2DIR, PT2, PT3, MDCON, HVCON, HCNTL, HCNTH, VCNTL, VCNTH, SYNCON, ENDAC, AD0, AD1, IEX, IRQX, CLRFLG, CLRWDT, IIADR, IIDAT, IISTS, BT, BTCON, DACH0}
-use Rattle.events.specs.declared.Decoded.TheVariants.{Polarity}
+use Rattle.events.specs.declared.Event.TheVariants.{Polarity}
 use Rattle.events.specs.Word.{encode}
 use Rattle.events.specs.Pins.{P16, SDA, SCL, HSYNCI, VSYNCI, RESET}
 use Rattle.events.specs.Clocks.{period, base0, base1, watchdog}
@@ -70,10 +70,10 @@ failing n (r ∷ rs) = unless (holds r.begins r.seen) n (failing (n + 1) rs)
 
 -- polarity found: of HSYNCI, of VSYNCI
 abbrev pub found_h : Bool → List ℕ
-found_h level = encode (Polarity false level) ∷ []
+found_h level = encode (Ok (Polarity false level)) ∷ []
 
 abbrev pub found_v : Bool → List ℕ
-found_v level = encode (Polarity true level) ∷ []
+found_v level = encode (Ok (Polarity true level)) ∷ []
 
 -- n pins from the first on
 abbrev pub low_from : ℕ → ℕ → List ℕ

@@ -11,9 +11,10 @@ use Rattle.bits.specs.Byte.{pick, weight, weight_if, bit}
 use Rattle.bits.proofs.Bitwise.{bit_or_lem}
 use Rattle.bits.proofs.Finite.{both}
 use Rattle.registers.specs.Names.{INTD, INTS}
+use Rattle.std.specs.Prelude.{Ok, Err}
 use Rattle.events.specs.Pins.{SCL}
-use Rattle.events.specs.declared.Decoded.{Decoded}
-use Rattle.events.specs.declared.Decoded.TheVariants.{Read, Write, Pin, Clock, Polarity, Refused}
+use Rattle.events.specs.Decoded.{Decoded}
+use Rattle.events.specs.declared.Event.TheVariants.{Read, Write, Pin, Clock, Polarity}
 use Rattle.bus.specs.declared.Mode.{Mode}
 use Rattle.bus.specs.declared.Mode.TheVariants.{Off, Ddc1, Ddc2b}
 use Rattle.bus.specs.declared.Shifter.{Shifter}
@@ -57,15 +58,15 @@ puts_scl_in c h = rw (in_mode h, h.phase) refl
 -- ---- a fall of SCL in a phase that does not hold it
 
 module _ {p : Phase} (c : Chip) (free : pulls_scl p ≡ false) (h : In p c.core) (high : c.core.scl ≡ true) where
-  seen : (next c (Pin SCL false)).core ≡ scl_fall (with_scl c.core false)
+  seen : (next c (Ok (Pin SCL false))).core ≡ scl_fall (with_scl c.core false)
   unfolding next core_after pin_moved pin_moved_as pin_kind scl_moved on_scl on_scl_ddc2b scl_pulled
   seen = rw (h.reset, in_mode h, h.phase, high, free) refl
 
-  fallen : In (phase_at_fall c.core.bus.iists p) (next c (Pin SCL false)).core
+  fallen : In (phase_at_fall c.core.bus.iists p) (next c (Ok (Pin SCL false))).core
   unfolding scl_fall
   fallen = rw seen (record { reset = h.reset; enddc = h.enddc; md = h.md; phase = rw h.phase refl })
 
-  flags_after : (next c (Pin SCL false)).core.irqx ≡ bit_or c.core.irqx (bit_or (weight INTS) (weight_if (holds_at_fall p) INTD))
+  flags_after : (next c (Ok (Pin SCL false))).core.irqx ≡ bit_or c.core.irqx (bit_or (weight INTS) (weight_if (holds_at_fall p) INTD))
   unfolding scl_fall
   flags_after = rw (seen, h.phase) refl
 
@@ -78,12 +79,12 @@ module _ {p : Phase} {m : OwnAddress} (c : Chip) (free : pulls_scl p ≡ false) 
   ends_byte_lem : c.core.scl ≡ true → Ended (advanced c (lower_scl ∷ []))
   unfolding pulls_sda pulls_scl bit
   ends_byte_lem high =
-      rw (given c (Pin SCL false) [] refl)
-      (let f : In (Held m 0) (next c (Pin SCL false)).core = rw (moves c.core.bus.iists) at (fallen c free h high) in
+      rw (given c (Ok (Pin SCL false)) [] refl)
+      (let f : In (Held m 0) (next c (Ok (Pin SCL false))).core = rw (moves c.core.bus.iists) at (fallen c free h high) in
       record {
         flag_d = rw (flags_after c free h high, holds) (bit_or_lem INTD c.core.irqx 48 ∙ or_true (bit INTD c.core.irqx));
-        sda = puts_in (next c (Pin SCL false)) f;
-        scl = puts_scl_in (next c (Pin SCL false)) f;
+        sda = puts_in (next c (Ok (Pin SCL false))) f;
+        scl = puts_scl_in (next c (Ok (Pin SCL false))) f;
       })
 
 -- ---- the ninth clock, from its first moment on
@@ -130,11 +131,11 @@ received_at m bits c us vs h high before within =
     let i : In (Receive m 8 bits) x.core = steady_over (received_steady m 8 bits (omega arith)) c us h before in
     let t : Bool = txak x in
     let n : ℕ = pick (not t) 9 10 in
-    let f : In (Receive m n bits) (next x (Pin SCL false)).core = rw (eighth_fall m bits x.core.bus.iists) at (fallen x refl i (scl_over c us before high)) in
+    let f : In (Receive m n bits) (next x (Ok (Pin SCL false))).core = rw (eighth_fall m bits x.core.bus.iists) at (fallen x refl i (scl_over c us before high)) in
     let l : 8 < n = past_eight (not t) in
-    rw (given x (Pin SCL false) vs refl)
+    rw (given x (Ok (Pin SCL false)) vs refl)
     (rw (data_puts m bits t) at
-    (ninth (received_steady m n bits (omega (arith, l))) (receive_holds m n bits l) (receive_moves m n bits l) (next x (Pin SCL false)) vs f (rw (given x (Pin SCL false) [] refl) at within)))
+    (ninth (received_steady m n bits (omega (arith, l))) (receive_holds m n bits l) (receive_moves m n bits l) (next x (Ok (Pin SCL false))) vs f (rw (given x (Ok (Pin SCL false)) [] refl) at within)))
 
 -- A byte is clocked in from a hold with TRX 0. After the eighth rise come any words that leave the clock as it is, then the eighth fall, and again any such words:
 -- the chip puts on SDA what TXAK was just before that fall, and the ninth fall sets D and holds SCL with SDA free, acknowledged or not.
@@ -166,9 +167,9 @@ unfolding pulls_sda pulls_scl holds_at_fall
 address_acknowledged m bits c us vs h high before within =
     let x : Chip = advanced c us in
     let i : In (Addressed m bits false) x.core = steady_over (addressed_steady m bits false) c us h before in
-    let f : In (Addressed m bits true) (next x (Pin SCL false)).core = rw (addressed_fall m bits x.core.bus.iists) at (fallen x refl i (scl_over c us before high)) in
-    rw (given x (Pin SCL false) vs refl)
-    (ninth (addressed_steady m bits true) refl (addressed_moves m bits) (next x (Pin SCL false)) vs f (rw (given x (Pin SCL false) [] refl) at within))
+    let f : In (Addressed m bits true) (next x (Ok (Pin SCL false))).core = rw (addressed_fall m bits x.core.bus.iists) at (fallen x refl i (scl_over c us before high)) in
+    rw (given x (Ok (Pin SCL false)) vs refl)
+    (ninth (addressed_steady m bits true) refl (addressed_moves m bits) (next x (Ok (Pin SCL false))) vs f (rw (given x (Ok (Pin SCL false)) [] refl) at within))
 
 -- ---- the event that sets flag A
 
@@ -205,11 +206,11 @@ record Called (c : Chip) : Type 0 where
   pub scl : c.core.scl ≡ true
 
 module _ (c : Chip) (reset : c.core.reset ≡ true) (low : c.core.scl ≡ false) (enddc : bit 3 c.core.bus.iists ≡ false) (md : bit 0 c.core.mdcon ≡ false) where
-  rise_seen : pulls_scl c.core.bus.phase ≡ false → (next c (Pin SCL true)).core ≡ scl_rise (with_scl c.core true)
+  rise_seen : pulls_scl c.core.bus.phase ≡ false → (next c (Ok (Pin SCL true))).core ≡ scl_rise (with_scl c.core true)
   unfolding next core_after pin_moved pin_moved_as pin_kind scl_moved on_scl on_scl_ddc2b scl_pulled mode
   rise_seen free = rw (reset, enddc, md, low, free) refl
 
-  called_at : completes_match c.core.bus.iiadr (line (pulls_sda c.core.bus.phase) c.core.sda) c.core.bus.phase ≡ true → Called (next c (Pin SCL true))
+  called_at : completes_match c.core.bus.iiadr (line (pulls_sda c.core.bus.phase) c.core.sda) c.core.bus.phase ≡ true → Called (next c (Ok (Pin SCL true)))
   unfolding scl_rise bus_at_rise
   called_at h =
       let m = matched c.core.bus.iiadr c.core.bus.iists (line (pulls_sda c.core.bus.phase) c.core.sda) c.core.bus.phase h in
@@ -223,9 +224,9 @@ module _ (c : Chip) (reset : c.core.reset ≡ true) (low : c.core.scl ≡ false)
 
 called : (c : Chip) (e : Decoded) → raises AddressMatch c e ≡ true → Called (next c e)
 unfolding raises
-called c (Read a) h = absurd (true≢false (sym h))
-called c (Write a b) h = absurd (true≢false (sym h))
-called c (Pin p level) h =
+called c (Ok (Read a)) h = absurd (true≢false (sym h))
+called c (Ok (Write a b)) h = absurd (true≢false (sym h))
+called c (Ok (Pin p level)) h =
     let x = both _ _ h in
     let y = both _ _ x.0 in
     let put = both (eqb p 25) level y.0 in
@@ -234,9 +235,9 @@ called c (Pin p level) h =
     let v = both _ _ x.1 in
     let on = both _ _ v.0 in
     rw (eqb-true p 25 put.0, put.1) (called_at c z.0 (not-true c.core.scl u.0) (not-true _ on.0) (not-true _ on.1) v.1)
-called c (Clock k) h = absurd (true≢false (sym h))
-called c (Polarity vertical level) h = absurd (true≢false (sym h))
-called c (Refused n) h = absurd (true≢false (sym h))
+called c (Ok (Clock k)) h = absurd (true≢false (sym h))
+called c (Ok (Polarity vertical level)) h = absurd (true≢false (sym h))
+called c (Err r) h = absurd (true≢false (sym h))
 
 -- After the event that sets flag A, whatever was written to II STS or is: any words that leave the clock as it is, the eighth fall, and again any such words. The
 -- chip puts 0 on SDA, and the ninth fall sets D and holds SCL with SDA free.

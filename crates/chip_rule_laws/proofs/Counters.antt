@@ -9,8 +9,9 @@ use Rattle.bits.specs.Byte.{pick, bit}
 use Rattle.bits.proofs.Level.{pick_by}
 use Rattle.registers.specs.Names.{MDCON, CLRFLG, BTCON}
 use Rattle.registers.specs.Table.{table, row_of, is_writable, updated}
-use Rattle.events.specs.declared.Decoded.{Decoded}
-use Rattle.events.specs.declared.Decoded.TheVariants.{Read, Write, Pin, Clock, Polarity, Refused}
+use Rattle.std.specs.Prelude.{Ok, Err}
+use Rattle.events.specs.Decoded.{Decoded}
+use Rattle.events.specs.declared.Event.TheVariants.{Read, Write, Pin, Clock, Polarity}
 use Rattle.bus.specs.declared.Mode.{Mode}
 use Rattle.bus.specs.declared.Mode.TheVariants.{Off, Ddc1, Ddc2b}
 use Rattle.bus.specs.declared.Edge.{Edge}
@@ -128,7 +129,7 @@ module _ (c : Chip) (a b : ℕ) where
   -- a write sets no overflow bit and latches nothing
   write_after : (s : Sync) → s.lines.overflow ≡ pick (eqb a CLRFLG && (c.core.reset && bit 7 b)) false c.core.sync.lines.overflow →
       s.periods.overflow ≡ pick (eqb a CLRFLG && (c.core.reset && bit 6 b)) false c.core.sync.periods.overflow →
-      s.lines.latch.0 ≡ c.core.sync.lines.latch.0 → s.periods.latch.0 ≡ c.core.sync.periods.latch.0 → After c (Write a b) s
+      s.lines.latch.0 ≡ c.core.sync.lines.latch.0 → s.periods.latch.0 ≡ c.core.sync.periods.latch.0 → After c (Ok (Write a b)) s
   unfolding overflows_lines overflows_periods clears_lines clears_periods latches_lines latches_periods
   write_after s h v hl vl = record { hcntov = h ∙ clear_by (eqb a CLRFLG && (c.core.reset && bit 7 b)) c.core.sync.lines.overflow; vcntov = v ∙ clear_by (eqb a CLRFLG && (c.core.reset && bit 6 b)) c.core.sync.periods.overflow; hlatch = hl; vlatch = vl }
 
@@ -141,15 +142,15 @@ module _ (c : Chip) (a b : ℕ) where
   not_clrflg : eqb a MDCON ≡ true → eqb a CLRFLG ≡ false
   not_clrflg t = rw (eqb-true a MDCON t) refl
 
-  taken : c.core.reset ≡ true → After c (Write a b) (fields c a b).core.sync
+  taken : c.core.reset ≡ true → After c (Ok (Write a b)) (fields c a b).core.sync
   taken r =
-      pick_by (After c (Write a b)) (eqb a MDCON)
+      pick_by (After c (Ok (Write a b))) (eqb a MDCON)
       (λ t.
       let old : Bool = bit 2 c.core.mdcon in
       let new : Bool = bit 2 (updated MDCON c.core.mdcon b) in
       let k = hsel_kept old new c.core.sync in
       write_after (sync_at_hsel old new c.core.sync) (rw (not_clrflg t) k.0) (rw (not_clrflg t, k.1) refl) k.2 (rw k.1 refl))
-      (λ _. pick_by (After c (Write a b)) (eqb a CLRFLG)
+      (λ _. pick_by (After c (Ok (Write a b))) (eqb a CLRFLG)
       (λ t.
       let l = cleared_latches c.core.sync (bit 7 b) (bit 6 b) in
       write_after _ (rw (t, r) (cleared_h_lem c.core.sync (bit 7 b) (bit 6 b))) (rw (t, r) (cleared_v_lem c.core.sync (bit 7 b) (bit 6 b))) l.0 l.1)
@@ -165,9 +166,9 @@ module _ (c : Chip) (a b : ℕ) where
       low false z = refl
   not_taken k false t q = refl
 
-  at_write : After c (Write a b) (next c (Write a b)).core.sync
+  at_write : After c (Ok (Write a b)) (next c (Ok (Write a b))).core.sync
   at_write =
-      by_write (λ (x : Chip). After c (Write a b) x.core.sync) c a b (λ r _. taken r)
+      by_write (λ (x : Chip). After c (Ok (Write a b)) x.core.sync) c a b (λ r _. taken r)
       (λ q. write_after c.core.sync (rw (not_taken (bit 7 b) _ refl q) refl) (rw (not_taken (bit 6 b) _ refl q) refl) refl refl)
 
 -- ---- pins
@@ -194,9 +195,9 @@ sda_sync Ddc2b false Fall c = refl
 
 module _ (c : Chip) (level : Bool) where
   -- none of HSYNCI, VSYNCI and RESET
-  plain : (p : ℕ) (s : Sync) → eqb p 26 ≡ false → eqb p 27 ≡ false → eqb p 28 ≡ false → s ≡ c.core.sync → After c (Pin p level) s
+  plain : (p : ℕ) (s : Sync) → eqb p 26 ≡ false → eqb p 27 ≡ false → eqb p 28 ≡ false → s ≡ c.core.sync → After c (Ok (Pin p level)) s
   unfolding overflows_lines overflows_periods clears_lines clears_periods latches_lines latches_periods
-  plain p s h v r same = quiet c (Pin p level) s same (record { reset = rw r refl; h = rw h refl; v = refl; clears_h = rw r refl; clears_v = rw r refl; latches_h = rw v refl; latches_v = rw v refl })
+  plain p s h v r same = quiet c (Ok (Pin p level)) s same (record { reset = rw r refl; h = rw h refl; v = refl; clears_h = rw r refl; clears_v = rw r refl; latches_h = rw v refl; latches_v = rw v refl })
 
   hsynci_lines : (rise : Bool) (s : Sync) → (pick rise (on_hsync s) s).lines.overflow ≡ pick rise (overflowed 4095 s.lines.overflow s.lines.count.0) s.lines.overflow
   unfolding on_hsync step_lines
@@ -208,7 +209,7 @@ module _ (c : Chip) (level : Bool) where
   hsynci_kept true s = (refl, refl)
   hsynci_kept false s = (refl, refl)
 
-  at_hsynci : After c (Pin 26 level) (hsync_moved c.core level).sync
+  at_hsynci : After c (Ok (Pin 26 level)) (hsync_moved c.core level).sync
   unfolding hsync_moved overflows_lines overflows_periods clears_lines clears_periods latches_lines latches_periods
   at_hsynci =
       let rise : Bool = level && (c.core.reset && not c.core.pins.hsynci) in
@@ -242,7 +243,7 @@ module _ (c : Chip) (level : Bool) where
   or_none true = refl
   or_none false = refl
 
-  at_vsynci : After c (Pin 27 level) (vsync_moved c.core level).sync
+  at_vsynci : After c (Ok (Pin 27 level)) (vsync_moved c.core level).sync
   unfolding vsync_moved overflows_lines overflows_periods clears_lines clears_periods latches_lines latches_periods
   at_vsynci =
       let rise : Bool = level && (c.core.reset && not c.core.pins.vsynci) in
@@ -258,14 +259,14 @@ module _ (c : Chip) (level : Bool) where
         vlatch = ap (λ (x : Sync). x.periods.latch.0) m ∙ vsynci_periods rise hsel s ∙ latch_by rise s.periods.overflow s.periods.count.0 s.periods.latch.0;
       }
 
-  reset_by : (old : Bool) → c.core.reset ≡ old → (new : Bool) → level ≡ new → After c (Pin 28 level) (on_reset (edge old new) (with_reset c.core new)).sync
+  reset_by : (old : Bool) → c.core.reset ≡ old → (new : Bool) → level ≡ new → After c (Ok (Pin 28 level)) (on_reset (edge old new) (with_reset c.core new)).sync
   unfolding on_reset reset_core reset_at overflows_lines overflows_periods clears_lines clears_periods latches_lines latches_periods
-  reset_by true r true l = quiet c (Pin 28 level) _ refl (record { reset = rw (r, l) refl; h = refl; v = refl; clears_h = rw (r, l) refl; clears_v = rw (r, l) refl; latches_h = refl; latches_v = refl })
-  reset_by true r false l = zero_by c (Pin 28 level) _ refl (rw (r, l) refl) refl refl
-  reset_by false r true l = quiet c (Pin 28 level) _ refl (record { reset = rw r refl; h = refl; v = refl; clears_h = rw r refl; clears_v = rw r refl; latches_h = refl; latches_v = refl })
-  reset_by false r false l = quiet c (Pin 28 level) _ refl (record { reset = rw r refl; h = refl; v = refl; clears_h = rw r refl; clears_v = rw r refl; latches_h = refl; latches_v = refl })
+  reset_by true r true l = quiet c (Ok (Pin 28 level)) _ refl (record { reset = rw (r, l) refl; h = refl; v = refl; clears_h = rw (r, l) refl; clears_v = rw (r, l) refl; latches_h = refl; latches_v = refl })
+  reset_by true r false l = zero_by c (Ok (Pin 28 level)) _ refl (rw (r, l) refl) refl refl
+  reset_by false r true l = quiet c (Ok (Pin 28 level)) _ refl (record { reset = rw r refl; h = refl; v = refl; clears_h = rw r refl; clears_v = rw r refl; latches_h = refl; latches_v = refl })
+  reset_by false r false l = quiet c (Ok (Pin 28 level)) _ refl (record { reset = rw r refl; h = refl; v = refl; clears_h = rw r refl; clears_v = rw r refl; latches_h = refl; latches_v = refl })
 
-  at_kind_lem : {k : PinKind} {p : ℕ} → Numbered k p → After c (Pin p level) (pin_moved_as k c.core p level).sync
+  at_kind_lem : {k : PinKind} {p : ℕ} → Numbered k p → After c (Ok (Pin p level)) (pin_moved_as k c.core p level).sync
   unfolding pin_moved_as port0_moved port1_moved port2_moved p16_moved sda_moved scl_moved reset_moved
   at_kind_lem {p = p} (port0_pin u high) = plain p _ u.hsynci u.vsynci u.reset refl
   at_kind_lem {p = p} (port1_pin u low high) = plain p _ u.hsynci u.vsynci u.reset refl
@@ -321,7 +322,7 @@ module _ (c : Chip) where
   period_latch true hsel s = rw (interval_last_lem s.interval) (lines_latch hsel (ltb 1022 s.interval) s)
   period_latch false hsel s = refl
 
-  at_period : After c (Clock 0) (next c (Clock 0)).core.sync
+  at_period : After c (Ok (Clock 0)) (next c (Ok (Clock 0))).core.sync
   unfolding next core_after clocked clocked_as overflows_lines overflows_periods clears_lines clears_periods latches_lines latches_periods
   at_period =
       let s : Sync = c.core.sync in
@@ -336,27 +337,27 @@ module _ (c : Chip) where
       }
 
   watchdog_by : (reset fires : Bool) → c.core.reset ≡ reset → ltb 62 c.core.watchdog ≡ fires →
-      After c (Clock 3) (pick reset (pick fires (reset_core c.core) (with_watchdog c.core (watchdog_next c.core.watchdog))) c.core).sync
+      After c (Ok (Clock 3)) (pick reset (pick fires (reset_core c.core) (with_watchdog c.core (watchdog_next c.core.watchdog))) c.core).sync
   unfolding reset_core reset_at overflows_lines overflows_periods clears_lines clears_periods latches_lines latches_periods
-  watchdog_by true true r f = zero_by c (Clock 3) _ refl (rw (r, f) refl) refl refl
-  watchdog_by true false r f = quiet c (Clock 3) _ refl (record { reset = rw (r, f) refl; h = refl; v = refl; clears_h = rw (r, f) refl; clears_v = rw (r, f) refl; latches_h = refl; latches_v = refl })
-  watchdog_by false fires r f = quiet c (Clock 3) _ refl (record { reset = rw r refl; h = refl; v = refl; clears_h = rw r refl; clears_v = rw r refl; latches_h = refl; latches_v = refl })
+  watchdog_by true true r f = zero_by c (Ok (Clock 3)) _ refl (rw (r, f) refl) refl refl
+  watchdog_by true false r f = quiet c (Ok (Clock 3)) _ refl (record { reset = rw (r, f) refl; h = refl; v = refl; clears_h = rw (r, f) refl; clears_v = rw (r, f) refl; latches_h = refl; latches_v = refl })
+  watchdog_by false fires r f = quiet c (Ok (Clock 3)) _ refl (record { reset = rw r refl; h = refl; v = refl; clears_h = rw r refl; clears_v = rw r refl; latches_h = refl; latches_v = refl })
 
-  at_watchdog : After c (Clock 3) (next c (Clock 3)).core.sync
+  at_watchdog : After c (Ok (Clock 3)) (next c (Ok (Clock 3))).core.sync
   unfolding next core_after clocked clocked_as watchdog_clock
   at_watchdog = rw (watchdog_last c.core.watchdog) (watchdog_by c.core.reset (ltb 62 c.core.watchdog) refl refl)
 
-  at_timer : (k : ℕ) → eqb k 0 ≡ false → eqb k 3 ≡ false → After c (Clock k) (next c (Clock k)).core.sync
+  at_timer : (k : ℕ) → eqb k 0 ≡ false → eqb k 3 ≡ false → After c (Ok (Clock k)) (next c (Ok (Clock k))).core.sync
   unfolding next core_after clocked clocked_as timer_clock timer_step overflows_lines overflows_periods clears_lines clears_periods latches_lines latches_periods
   at_timer k e f =
       rw (e, f)
-      (quiet c (Clock k) _
+      (quiet c (Ok (Clock k)) _
       (pick_by (λ (x : Core). x.sync ≡ c.core.sync) c.core.reset
       (λ _. pick_by (λ (x : Core). x.sync ≡ c.core.sync) (timer_runs (register_at c.registers BTCON) k) (λ _. refl) (λ _. refl))
       (λ _. refl))
       (record { reset = rw f refl; h = refl; v = rw e refl; clears_h = rw f refl; clears_v = rw f refl; latches_h = rw e refl; latches_v = refl }))
 
-  clock_by : (k : ℕ) (zero three : Bool) → eqb k 0 ≡ zero → eqb k 3 ≡ three → After c (Clock k) (next c (Clock k)).core.sync
+  clock_by : (k : ℕ) (zero three : Bool) → eqb k 0 ≡ zero → eqb k 3 ≡ three → After c (Ok (Clock k)) (next c (Ok (Clock k))).core.sync
   clock_by k true three e f = rw (eqb-true k 0 e) at_period
   clock_by k false true e f = rw (eqb-true k 3 f) at_watchdog
   clock_by k false false e f = at_timer k e f
@@ -368,11 +369,11 @@ nothing c e q = quiet c e c.core.sync refl q
 
 pub counters_after : (c : Chip) (e : Decoded) → After c e (next c e).core.sync
 unfolding next core_after pin_moved polarity_found overflows_lines overflows_periods clears_lines clears_periods latches_lines latches_periods
-counters_after c (Read a) = nothing c (Read a) (record { reset = refl; h = refl; v = refl; clears_h = refl; clears_v = refl; latches_h = refl; latches_v = refl })
-counters_after c (Write a b) = at_write c a b
-counters_after c (Pin p level) = at_kind_lem c level (numbered p)
-counters_after c (Clock k) = clock_by c k _ _ refl refl
-counters_after c (Polarity vertical level) =
-    quiet c (Polarity vertical level) _ (pick_by (λ (x : Core). x.sync ≡ c.core.sync) c.core.reset (λ _. refl) (λ _. refl))
+counters_after c (Ok (Read a)) = nothing c (Ok (Read a)) (record { reset = refl; h = refl; v = refl; clears_h = refl; clears_v = refl; latches_h = refl; latches_v = refl })
+counters_after c (Ok (Write a b)) = at_write c a b
+counters_after c (Ok (Pin p level)) = at_kind_lem c level (numbered p)
+counters_after c (Ok (Clock k)) = clock_by c k _ _ refl refl
+counters_after c (Ok (Polarity vertical level)) =
+    quiet c (Ok (Polarity vertical level)) _ (pick_by (λ (x : Core). x.sync ≡ c.core.sync) c.core.reset (λ _. refl) (λ _. refl))
     (record { reset = refl; h = refl; v = refl; clears_h = refl; clears_v = refl; latches_h = refl; latches_v = refl })
-counters_after c (Refused n) = nothing c (Refused n) (record { reset = refl; h = refl; v = refl; clears_h = refl; clears_v = refl; latches_h = refl; latches_v = refl })
+counters_after c (Err r) = nothing c (Err r) (record { reset = refl; h = refl; v = refl; clears_h = refl; clears_v = refl; latches_h = refl; latches_v = refl })

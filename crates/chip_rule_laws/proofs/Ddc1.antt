@@ -7,9 +7,10 @@ use lib.Dec.{eqb}
 use Rattle.bits.specs.Byte.{bit}
 use Rattle.bits.proofs.Bitwise.{bit_with_bit}
 use Rattle.bits.proofs.Finite.{both}
+use Rattle.std.specs.Prelude.{Ok, Err}
 use Rattle.events.specs.Pins.{SCL}
-use Rattle.events.specs.declared.Decoded.{Decoded}
-use Rattle.events.specs.declared.Decoded.TheVariants.{Read, Write, Pin, Clock, Polarity, Refused}
+use Rattle.events.specs.Decoded.{Decoded}
+use Rattle.events.specs.declared.Event.TheVariants.{Read, Write, Pin, Clock, Polarity}
 use Rattle.bus.specs.Bus.{mode, scl_pulled}
 use Rattle.chip.specs.declared.Chip.{Chip}
 use Rattle.chip.specs.State.{released, with_scl}
@@ -20,11 +21,11 @@ use Rattle.chip_flag_laws.specs.Causes.{in_ddc1, falls_scl}
 use Rattle.chip_rule_laws.specs.Ddc1.{Left}
 
 module _ (c : Chip) (reset : c.core.reset ≡ true) (high : c.core.scl ≡ true) (enddc : bit 3 c.core.bus.iists ≡ false) (md : bit 0 c.core.mdcon ≡ true) where
-  fall_seen : (next c (Pin SCL false)).core ≡ leave_ddc1 (with_scl c.core false)
+  fall_seen : (next c (Ok (Pin SCL false))).core ≡ leave_ddc1 (with_scl c.core false)
   unfolding next core_after pin_moved pin_moved_as pin_kind scl_moved on_scl on_scl_ddc1 scl_pulled mode
   fall_seen = rw (reset, enddc, md, high) refl
 
-  left : Left c (next c (Pin SCL false))
+  left : Left c (next c (Ok (Pin SCL false)))
   unfolding leave_ddc1 released
   left =
       record {
@@ -35,15 +36,15 @@ module _ (c : Chip) (reset : c.core.reset ≡ true) (high : c.core.scl ≡ true)
       }
 
 pub scl_fall_leaves : (c : Chip) (e : Decoded) → in_ddc1 c ≡ true → falls_scl c e ≡ true → Left c (next c e)
-scl_fall_leaves c (Read a) on h = absurd (true≢false (sym h))
-scl_fall_leaves c (Write a b) on h = absurd (true≢false (sym h))
-scl_fall_leaves c (Pin p level) on h =
+scl_fall_leaves c (Ok (Read a)) on h = absurd (true≢false (sym h))
+scl_fall_leaves c (Ok (Write a b)) on h = absurd (true≢false (sym h))
+scl_fall_leaves c (Ok (Pin p level)) on h =
     let x = both _ _ h in
     let put = both (eqb p 25) (not level) x.0 in
     let y = both _ _ x.1 in
     let z = both _ _ y.1 in
     let m = both _ _ on in
     rw (eqb-true p 25 put.0, not-true level put.1) (left c y.0 z.0 (not-true _ m.0) m.1)
-scl_fall_leaves c (Clock k) on h = absurd (true≢false (sym h))
-scl_fall_leaves c (Polarity vertical level) on h = absurd (true≢false (sym h))
-scl_fall_leaves c (Refused n) on h = absurd (true≢false (sym h))
+scl_fall_leaves c (Ok (Clock k)) on h = absurd (true≢false (sym h))
+scl_fall_leaves c (Ok (Polarity vertical level)) on h = absurd (true≢false (sym h))
+scl_fall_leaves c (Err r) on h = absurd (true≢false (sym h))

@@ -11,8 +11,9 @@ use Rattle.bits.specs.Finite.{all_below}
 use Rattle.bits.proofs.Finite.{neither, both}
 use Rattle.bits.proofs.Level.{pick_by}
 use Rattle.bits.proofs.Bitwise.{bit_with_bit}
-use Rattle.events.specs.declared.Decoded.{Decoded}
-use Rattle.events.specs.declared.Decoded.TheVariants.{Read, Write, Pin, Clock, Polarity, Refused}
+use Rattle.std.specs.Prelude.{Ok, Err}
+use Rattle.events.specs.Decoded.{Decoded}
+use Rattle.events.specs.declared.Event.TheVariants.{Read, Write, Pin, Clock, Polarity}
 use Rattle.events.specs.Kinds.{on_pin}
 use Rattle.events.specs.Word.{decode, is_pin}
 use Rattle.bus.specs.declared.Mode.{Mode}
@@ -112,7 +113,7 @@ no_port2 q true h = le-ltb q 24 (let l = ltb-false q 29 h in omega arith)
 no_port2 q false h = refl
 
 module _ (c : Core) (level : Bool) where
-  put_kind : {k : PinKind} {q : ℕ} → Numbered k q → Put c (Pin q level) (pin_moved_as k c q level)
+  put_kind : {k : PinKind} {q : ℕ} → Numbered k q → Put c (Ok (Pin q level)) (pin_moved_as k c q level)
   unfolding pin_moved_as port0_moved port1_moved port2_moved p16_moved sda_moved scl_moved hsync_moved vsync_moved vsync_rise reset_moved
   put_kind {q = q} (port0_pin u high) =
       record {
@@ -165,7 +166,7 @@ module _ (c : Core) (level : Bool) where
   put_kind scl_pin = then_same (record { port0 = refl; port1 = refl; port2 = refl; sda = refl; scl = refl; hsynci = refl; vsynci = refl; reset = refl }) (scl_same _ _ (with_scl c level))
   put_kind hsynci_pin = record { port0 = refl; port1 = refl; port2 = refl; sda = refl; scl = refl; hsynci = refl; vsynci = refl; reset = refl }
   put_kind vsynci_pin =
-      pick_by (Put c (Pin 27 level)) (rises c.reset c.pins.vsynci level)
+      pick_by (Put c (Ok (Pin 27 level))) (rises c.reset c.pins.vsynci level)
       (λ _. record { port0 = refl; port1 = refl; port2 = refl; sda = refl; scl = refl; hsynci = refl; vsynci = refl; reset = refl })
       (λ _. record { port0 = refl; port1 = refl; port2 = refl; sda = refl; scl = refl; hsynci = refl; vsynci = refl; reset = refl })
   put_kind reset_pin = then_same (record { port0 = refl; port1 = refl; port2 = refl; sda = refl; scl = refl; hsynci = refl; vsynci = refl; reset = refl }) (reset_same c.reset level c)
@@ -186,8 +187,8 @@ clock_same btcon c k =
 
 put : (c : Chip) (e : Decoded) → Put c.core e (next c e).core
 unfolding next core_after pin_moved polarity_found alters
-put c (Read a) = record { port0 = refl; port1 = refl; port2 = refl; sda = refl; scl = refl; hsynci = refl; vsynci = refl; reset = refl }
-put c (Write a b) =
+put c (Ok (Read a)) = record { port0 = refl; port1 = refl; port2 = refl; sda = refl; scl = refl; hsynci = refl; vsynci = refl; reset = refl }
+put c (Ok (Write a b)) =
     let p = frame c a b PinLevels refl in
     record {
       port0 = ap (λ (x : Pins). x.port0) p;
@@ -199,14 +200,14 @@ put c (Write a b) =
       vsynci = ap (λ (x : Pins). x.vsynci) p;
       reset = frame c a b ResetLevel refl;
     }
-put c (Pin q level) = put_kind c.core level (numbered q)
-put c (Clock k) =
+put c (Ok (Pin q level)) = put_kind c.core level (numbered q)
+put c (Ok (Clock k)) =
     then_same (record { port0 = refl; port1 = refl; port2 = refl; sda = refl; scl = refl; hsynci = refl; vsynci = refl; reset = refl }) (clock_same (register_at c.registers 23) c.core k)
-put c (Polarity vertical level) =
-    pick_by (Put c.core (Polarity vertical level)) c.core.reset
+put c (Ok (Polarity vertical level)) =
+    pick_by (Put c.core (Ok (Polarity vertical level))) c.core.reset
     (λ _. record { port0 = refl; port1 = refl; port2 = refl; sda = refl; scl = refl; hsynci = refl; vsynci = refl; reset = refl })
     (λ _. record { port0 = refl; port1 = refl; port2 = refl; sda = refl; scl = refl; hsynci = refl; vsynci = refl; reset = refl })
-put c (Refused n) = record { port0 = refl; port1 = refl; port2 = refl; sda = refl; scl = refl; hsynci = refl; vsynci = refl; reset = refl }
+put c (Err r) = record { port0 = refl; port1 = refl; port2 = refl; sda = refl; scl = refl; hsynci = refl; vsynci = refl; reset = refl }
 
 -- ---- by the pin's number
 
@@ -218,9 +219,9 @@ with_bit_by x q k v e h = let f : k % 8 ≡ k = omega arith in rw (e, f)
 -- pins of a port, from `first` on
 module _ (first size : ℕ) (ofPort : ℕ → Bool) (eighth : first % 8 ≡ 0) (within : size ≤ 8) (in-port : (q : ℕ) → ofPort q ≡ true → (first ≤ q) × (q - first < size)) (of-port : (q : ℕ) → first ≤ q → q - first < size → ofPort q ≡ true) where
   port_bit : (p : ℕ) → first ≤ p → p - first < size → (e : Decoded) (x : ℕ) → bit (p - first) (port_after ofPort e x) ≡ level_after p e (bit (p - first) x)
-  port_bit p l h (Read a) x = refl
-  port_bit p l h (Write a b) x = refl
-  port_bit p l h (Pin q level) x =
+  port_bit p l h (Ok (Read a)) x = refl
+  port_bit p l h (Ok (Write a b)) x = refl
+  port_bit p l h (Ok (Pin q level)) x =
       pick_by (λ (y : ℕ). bit (p - first) y ≡ pick (eqb q p) level (bit (p - first) x)) (ofPort q)
       (λ t.
       let i = in-port q t in
@@ -237,9 +238,9 @@ module _ (first size : ℕ) (ofPort : ℕ → Bool) (eighth : first % 8 ≡ 0) (
           swapped_by : (q : ℕ) → first ≤ q → (t : Bool) → eqb q p ≡ t → eqb (p - first) (q - first) ≡ t
           swapped_by q g true e = eq-eqb (p - first) (q - first) (rw (eqb-true q p e) refl)
           swapped_by q g false e = ne_eqb (p - first) (q - first) (λ s. eqb-false q p e (omega (arith, s)))
-  port_bit p l h (Clock k) x = refl
-  port_bit p l h (Polarity vertical level) x = refl
-  port_bit p l h (Refused n) x = refl
+  port_bit p l h (Ok (Clock k)) x = refl
+  port_bit p l h (Ok (Polarity vertical level)) x = refl
+  port_bit p l h (Err r) x = refl
 
 -- ---- the level of a pin
 

@@ -2,9 +2,10 @@
 use mathlib.Core.Path.{◌≡◌, refl}
 use mathlib.Core.Bool.{true, false}
 use Rattle.registers.specs.Table.{table, row_of, reset_value, resets}
+use Rattle.std.specs.Prelude.{Ok}
 use Rattle.events.specs.Pins.{RESET}
 use Rattle.events.specs.Clocks.{watchdog}
-use Rattle.events.specs.declared.Decoded.TheVariants.{Pin, Clock}
+use Rattle.events.specs.declared.Event.TheVariants.{Pin, Clock}
 use Rattle.counters.specs.Count.{watchdog_fires}
 use Rattle.sync.specs.Sync.{zero_sync}
 use Rattle.chip.specs.declared.Chip.{Chip}
@@ -23,11 +24,11 @@ unfolding fresh reset_at resets reset_value row_of table zero_sync
 fresh_state_lem = refl
 
 -- RESET going low: every outside level stays but RESET's
-pub reset_by_pin : (c : Chip) → c.core.reset ≡ true → next c (Pin RESET false) ≡ reset_state c.core.pins c.core.sda c.core.scl false
+pub reset_by_pin : (c : Chip) → c.core.reset ≡ true → next c (Ok (Pin RESET false)) ≡ reset_state c.core.pins c.core.sda c.core.scl false
 unfolding next core_after kept_after was_reset pin_moved pin_moved_as pin_kind reset_moved on_reset reset_core reset_at resets reset_value row_of table zero_sync
 reset_by_pin c r = rw r refl
 
 -- the watchdog clock that finds 63 counted: every level stays
-pub reset_by_watchdog : (c : Chip) → c.core.reset ≡ true → c.core.watchdog ≡ 63 → next c (Clock watchdog) ≡ reset_state c.core.pins c.core.sda c.core.scl true
+pub reset_by_watchdog : (c : Chip) → c.core.reset ≡ true → c.core.watchdog ≡ 63 → next c (Ok (Clock watchdog)) ≡ reset_state c.core.pins c.core.sda c.core.scl true
 unfolding next core_after kept_after was_reset clocked clocked_as watchdog_clock watchdog_fires reset_core reset_at resets reset_value row_of table zero_sync
 reset_by_watchdog c r w = rw (r, w) refl

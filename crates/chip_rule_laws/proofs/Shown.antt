@@ -12,7 +12,8 @@ use Rattle.bits.proofs.Bitwise.{bit_with_bit}
 use Rattle.bits.proofs.Finite.{T_true, true_T, at_each}
 use Rattle.registers.specs.Names.{HVCON, HCNTL, HCNTH, VCNTL, VCNTH, HPOLI, VPOLI}
 use Rattle.registers.specs.Table.{table, row_of, read_mask, is_readable}
-use Rattle.events.specs.declared.Decoded.TheVariants.{Polarity}
+use Rattle.std.specs.Prelude.{Ok}
+use Rattle.events.specs.declared.Event.TheVariants.{Polarity}
 use Rattle.sync.specs.Fits.{SyncFits}
 use Rattle.sync.proofs.WellFormed.{fits}
 use Rattle.chip.specs.declared.Chip.{Chip}
@@ -56,7 +57,7 @@ hvcon_shown c w r =
 
 -- a polarity found is in its bit, and the other bit is as it was
 pub polarity_put : (c : Chip) (vertical level : Bool) → c.core.reset ≡ true →
-    (bit (found_at vertical) (next c (Polarity vertical level)).core.polarity ≡ level) × (bit (pick vertical HPOLI VPOLI) (next c (Polarity vertical level)).core.polarity ≡ bit (pick vertical HPOLI VPOLI) c.core.polarity)
+    (bit (found_at vertical) (next c (Ok (Polarity vertical level))).core.polarity ≡ level) × (bit (pick vertical HPOLI VPOLI) (next c (Ok (Polarity vertical level))).core.polarity ≡ bit (pick vertical HPOLI VPOLI) c.core.polarity)
 unfolding next core_after polarity_found
 polarity_put c true level r = (rw r (bit_with_bit 2 2 c.core.polarity level (omega arith) (omega arith)), rw r (bit_with_bit 3 2 c.core.polarity level (omega arith) (omega arith)))
 polarity_put c false level r = (rw r (bit_with_bit 3 3 c.core.polarity level (omega arith) (omega arith)), rw r (bit_with_bit 2 3 c.core.polarity level (omega arith) (omega arith)))

@@ -11,9 +11,10 @@ use Rattle.bits.proofs.Level.{pick_by}
 use Rattle.bits.proofs.Bitwise.{bit_or_lem, bit_with_bit}
 use Rattle.registers.specs.Names.{IISTS, START, STOP, BTCON}
 use Rattle.registers.specs.Table.{table, row_of, reset_value}
+use Rattle.std.specs.Prelude.{Ok, Err}
 use Rattle.events.specs.Word.{decode}
-use Rattle.events.specs.declared.Decoded.{Decoded}
-use Rattle.events.specs.declared.Decoded.TheVariants.{Read, Write, Pin, Clock, Polarity, Refused}
+use Rattle.events.specs.Decoded.{Decoded}
+use Rattle.events.specs.declared.Event.TheVariants.{Read, Write, Pin, Clock, Polarity}
 use Rattle.bus.specs.declared.Mode.{Mode}
 use Rattle.bus.specs.declared.Mode.TheVariants.{Off, Ddc1, Ddc2b}
 use Rattle.bus.specs.declared.Edge.{Edge}
@@ -78,31 +79,31 @@ written_bit x true = refl
 written_bit x false = refl
 
 module _ (c : Chip) (a b : ℕ) where
-  reset_kept : (next c (Write IISTS b)).core.reset ≡ c.core.reset
+  reset_kept : (next c (Ok (Write IISTS b))).core.reset ≡ c.core.reset
   unfolding level_of
-  reset_kept = level_after_lem 28 refl c (Write IISTS b)
+  reset_kept = level_after_lem 28 refl c (Ok (Write IISTS b))
 
-  written : c.core.reset ≡ true → After c (Write IISTS b) (next c (Write IISTS b)).core
+  written : c.core.reset ≡ true → After c (Ok (Write IISTS b)) (next c (Ok (Write IISTS b))).core
   unfolding clears_bit bit
   written r =
-      let x : Chip = next c (Write IISTS b) in
+      let x : Chip = next c (Ok (Write IISTS b)) in
       let high : x.core.reset ≡ true = reset_kept ∙ r in
       record {
         start = sym (status_shown x START high refl) ∙ start_written c b r ∙ ap (λ (t : Bool). kept_flag t (bit START b)) (status_shown c START r refl) ∙ rw r (written_bit (bit START c.core.bus.iists) (bit START b));
         stop = sym (status_shown x STOP high refl) ∙ stop_written c b r ∙ ap (λ (t : Bool). kept_flag t (bit STOP b)) (status_shown c STOP r refl) ∙ rw r (written_bit (bit STOP c.core.bus.iists) (bit STOP b));
       }
 
-  low : c.core.reset ≡ false → After c (Write a b) (next c (Write a b)).core
+  low : c.core.reset ≡ false → After c (Ok (Write a b)) (next c (Ok (Write a b))).core
   unfolding clears_bit
   low r =
-      by_write (λ (x : Chip). After c (Write a b) x.core) c a b (λ h _. absurd (true≢false (sym h ∙ r)))
-      (λ _. quiet c (Write a b) c.core refl refl refl refl (rw (r, and-false (eqb a IISTS)) refl) (rw (r, and-false (eqb a IISTS)) refl))
+      by_write (λ (x : Chip). After c (Ok (Write a b)) x.core) c a b (λ h _. absurd (true≢false (sym h ∙ r)))
+      (λ _. quiet c (Ok (Write a b)) c.core refl refl refl refl (rw (r, and-false (eqb a IISTS)) refl) (rw (r, and-false (eqb a IISTS)) refl))
 
-  others : eqb a IISTS ≡ false → After c (Write a b) (next c (Write a b)).core
+  others : eqb a IISTS ≡ false → After c (Ok (Write a b)) (next c (Ok (Write a b))).core
   unfolding clears_bit alters
-  others f = let k = frame c a b Iists f in quiet c (Write a b) _ (ap (bit START) k) (ap (bit STOP) k) refl refl (rw f refl) (rw f refl)
+  others f = let k = frame c a b Iists f in quiet c (Ok (Write a b)) _ (ap (bit START) k) (ap (bit STOP) k) refl refl (rw f refl) (rw f refl)
 
-  write_by : (found reset : Bool) → eqb a IISTS ≡ found → c.core.reset ≡ reset → After c (Write a b) (next c (Write a b)).core
+  write_by : (found reset : Bool) → eqb a IISTS ≡ found → c.core.reset ≡ reset → After c (Ok (Write a b)) (next c (Ok (Write a b))).core
   write_by true true t r = rw (eqb-true a IISTS t) (written r)
   write_by true false t r = low r
   write_by false reset t r = others t
@@ -191,12 +192,12 @@ or_kept false y = and_true y
 
 module _ (c : Chip) (level : Bool) where
   -- not in DDC2B, or with RESET low, SDA moves nothing
-  unseen : sda_moved c.core level ≡ with_sda c.core level → (c.core.reset && in_ddc2b c) ≡ false → After c (Pin 24 level) (sda_moved c.core level)
+  unseen : sda_moved c.core level ≡ with_sda c.core level → (c.core.reset && in_ddc2b c) ≡ false → After c (Ok (Pin 24 level)) (sda_moved c.core level)
   unfolding clears_bit
   unseen same off =
       let a = ap (λ (x : Core). bit START x.bus.iists) same in
       let o = ap (λ (x : Core). bit STOP x.bus.iists) same in
-      quiet c (Pin 24 level) (sda_moved c.core level) a o (never (not level) c.core.reset (c.core.sda && sda_free c) (in_ddc2b c) (c.core.scl && scl_free c) off)
+      quiet c (Ok (Pin 24 level)) (sda_moved c.core level) a o (never (not level) c.core.reset (c.core.sda && sda_free c) (in_ddc2b c) (c.core.scl && scl_free c) off)
       (never level c.core.reset (not c.core.sda && sda_free c) (in_ddc2b c) (c.core.scl && scl_free c) off) refl refl
     where
       never : (x r y d z : Bool) → (r && d) ≡ false → (x && (r && (y && (d && z)))) ≡ false
@@ -212,7 +213,7 @@ module _ (c : Chip) (level : Bool) where
       let on : active_mode c.core ≡ Ddc2b = rw (r, e, m) refl in
       rw on refl
 
-  at_ddc2b : c.core.reset ≡ true → bit 3 c.core.bus.iists ≡ false → bit 0 c.core.mdcon ≡ false → After c (Pin 24 level) (sda_moved c.core level)
+  at_ddc2b : c.core.reset ≡ true → bit 3 c.core.bus.iists ≡ false → bit 0 c.core.mdcon ≡ false → After c (Ok (Pin 24 level)) (sda_moved c.core level)
   unfolding clears_bit
   at_ddc2b r e m =
       let g = sda_edge_lem (with_sda c.core level) (pulls_sda c.core.bus.phase) (pulls_scl c.core.bus.phase) c.core.scl c.core.sda level in
@@ -223,11 +224,11 @@ module _ (c : Chip) (level : Bool) where
       }
     where
       start_is : c.core.reset ≡ true → bit 3 c.core.bus.iists ≡ false → bit 0 c.core.mdcon ≡ false →
-          starts c (Pin 24 level) ≡ falls (pulls_sda c.core.bus.phase) (pulls_scl c.core.bus.phase) c.core.scl c.core.sda level
+          starts c (Ok (Pin 24 level)) ≡ falls (pulls_sda c.core.bus.phase) (pulls_scl c.core.bus.phase) c.core.scl c.core.sda level
       start_is r e m = rw (r, e, m) refl
 
       stop_is : c.core.reset ≡ true → bit 3 c.core.bus.iists ≡ false → bit 0 c.core.mdcon ≡ false →
-          stops c (Pin 24 level) ≡ rises_up (pulls_sda c.core.bus.phase) (pulls_scl c.core.bus.phase) c.core.scl c.core.sda level
+          stops c (Ok (Pin 24 level)) ≡ rises_up (pulls_sda c.core.bus.phase) (pulls_scl c.core.bus.phase) c.core.scl c.core.sda level
       stop_is r e m = rw (r, e, m) refl
 
   not_seen : (r e m : Bool) → c.core.reset ≡ r → bit 3 c.core.bus.iists ≡ e → bit 0 c.core.mdcon ≡ m → (r && (not e && not m)) ≡ false → sda_moved c.core level ≡ with_sda c.core level
@@ -237,25 +238,25 @@ module _ (c : Chip) (level : Bool) where
   not_seen true false true x y z h = let one : active_mode c.core ≡ Ddc1 = rw (x, y, z) refl in rw one refl
   not_seen true false false x y z h = absurd (true≢false h)
 
-  at_sda : (r e m : Bool) → c.core.reset ≡ r → bit 3 c.core.bus.iists ≡ e → bit 0 c.core.mdcon ≡ m → After c (Pin 24 level) (sda_moved c.core level)
+  at_sda : (r e m : Bool) → c.core.reset ≡ r → bit 3 c.core.bus.iists ≡ e → bit 0 c.core.mdcon ≡ m → After c (Ok (Pin 24 level)) (sda_moved c.core level)
   at_sda false e m x y z = unseen (not_seen false e m x y z refl) (rw x refl)
   at_sda true true m x y z = unseen (not_seen true true m x y z refl) (rw (x, y) refl)
   at_sda true false true x y z = unseen (not_seen true false true x y z refl) (rw (x, y, z) refl)
   at_sda true false false x y z = at_ddc2b x y z
 
   -- a pin that is neither SDA nor RESET
-  plain : (p : ℕ) (after : Core) → eqb p 24 ≡ false → eqb p 28 ≡ false → bit START after.bus.iists ≡ status_bit START c → bit STOP after.bus.iists ≡ status_bit STOP c → After c (Pin p level) after
+  plain : (p : ℕ) (after : Core) → eqb p 24 ≡ false → eqb p 28 ≡ false → bit START after.bus.iists ≡ status_bit START c → bit STOP after.bus.iists ≡ status_bit STOP c → After c (Ok (Pin p level)) after
   unfolding clears_bit
-  plain p after s r a o = quiet c (Pin p level) after a o (rw s refl) (rw s refl) (rw r refl) (rw r refl)
+  plain p after s r a o = quiet c (Ok (Pin p level)) after a o (rw s refl) (rw s refl) (rw r refl) (rw r refl)
 
-  reset_by : (old : Bool) → c.core.reset ≡ old → (new : Bool) → level ≡ new → After c (Pin 28 level) (on_reset (edge old new) (with_reset c.core new))
+  reset_by : (old : Bool) → c.core.reset ≡ old → (new : Bool) → level ≡ new → After c (Ok (Pin 28 level)) (on_reset (edge old new) (with_reset c.core new))
   unfolding on_reset reset_core reset_at reset_value row_of table clears_bit bit
-  reset_by true r true l = quiet c (Pin 28 level) _ refl refl refl refl (rw (r, l) refl) (rw (r, l) refl)
-  reset_by true r false l = cleared c (Pin 28 level) _ refl refl refl refl (rw (r, l) refl) (rw (r, l) refl)
-  reset_by false r true l = quiet c (Pin 28 level) _ refl refl refl refl (rw r refl) (rw r refl)
-  reset_by false r false l = quiet c (Pin 28 level) _ refl refl refl refl (rw r refl) (rw r refl)
+  reset_by true r true l = quiet c (Ok (Pin 28 level)) _ refl refl refl refl (rw (r, l) refl) (rw (r, l) refl)
+  reset_by true r false l = cleared c (Ok (Pin 28 level)) _ refl refl refl refl (rw (r, l) refl) (rw (r, l) refl)
+  reset_by false r true l = quiet c (Ok (Pin 28 level)) _ refl refl refl refl (rw r refl) (rw r refl)
+  reset_by false r false l = quiet c (Ok (Pin 28 level)) _ refl refl refl refl (rw r refl) (rw r refl)
 
-  at_kind_lem : {k : PinKind} {p : ℕ} → Numbered k p → After c (Pin p level) (pin_moved_as k c.core p level)
+  at_kind_lem : {k : PinKind} {p : ℕ} → Numbered k p → After c (Ok (Pin p level)) (pin_moved_as k c.core p level)
   unfolding pin_moved_as port0_moved port1_moved port2_moved p16_moved scl_moved hsync_moved vsync_moved vsync_rise reset_moved
   at_kind_lem {p = p} (port0_pin u high) = plain p _ u.sda u.reset refl refl
   at_kind_lem {p = p} (port1_pin u low high) = plain p _ u.sda u.reset refl refl
@@ -267,7 +268,7 @@ module _ (c : Chip) (level : Bool) where
   at_kind_lem hsynci_pin = plain 26 _ refl refl refl refl
   at_kind_lem vsynci_pin =
       let k = vsync_iists (mode_of c.core) c.core.bus in
-      pick_by (After c (Pin 27 level)) (rises c.core.reset c.core.pins.vsynci level)
+      pick_by (After c (Ok (Pin 27 level))) (rises c.core.reset c.core.pins.vsynci level)
       (λ _. plain 27 _ refl refl (ap (bit START) k) (ap (bit STOP) k))
       (λ _. plain 27 _ refl refl refl refl)
   at_kind_lem reset_pin = reset_by c.core.reset refl level refl
@@ -276,25 +277,25 @@ module _ (c : Chip) (level : Bool) where
 
 module _ (c : Chip) where
   watchdog_by : (reset fires : Bool) → c.core.reset ≡ reset → ltb 62 c.core.watchdog ≡ fires →
-      After c (Clock 3) (pick reset (pick fires (reset_core c.core) (with_watchdog c.core (watchdog_next c.core.watchdog))) c.core)
+      After c (Ok (Clock 3)) (pick reset (pick fires (reset_core c.core) (with_watchdog c.core (watchdog_next c.core.watchdog))) c.core)
   unfolding reset_core reset_at reset_value row_of table clears_bit bit
-  watchdog_by true true r f = cleared c (Clock 3) _ refl refl refl refl (rw (r, f) refl) (rw (r, f) refl)
-  watchdog_by true false r f = quiet c (Clock 3) _ refl refl refl refl (rw (r, f) refl) (rw (r, f) refl)
-  watchdog_by false fires r f = quiet c (Clock 3) _ refl refl refl refl (rw r refl) (rw r refl)
+  watchdog_by true true r f = cleared c (Ok (Clock 3)) _ refl refl refl refl (rw (r, f) refl) (rw (r, f) refl)
+  watchdog_by true false r f = quiet c (Ok (Clock 3)) _ refl refl refl refl (rw (r, f) refl) (rw (r, f) refl)
+  watchdog_by false fires r f = quiet c (Ok (Clock 3)) _ refl refl refl refl (rw r refl) (rw r refl)
 
-  at_watchdog : After c (Clock 3) (next c (Clock 3)).core
+  at_watchdog : After c (Ok (Clock 3)) (next c (Ok (Clock 3))).core
   unfolding next core_after clocked clocked_as watchdog_clock
   at_watchdog = rw (watchdog_last c.core.watchdog) (watchdog_by c.core.reset (ltb 62 c.core.watchdog) refl refl)
 
-  other : (k : ℕ) → eqb k 3 ≡ false → After c (Clock k) (next c (Clock k)).core
+  other : (k : ℕ) → eqb k 3 ≡ false → After c (Ok (Clock k)) (next c (Ok (Clock k))).core
   unfolding next core_after clocked clocked_as period_clock timer_clock timer_step clears_bit
   other k f =
       let P : Core → Type 0 = λ (x : Core). x.bus.iists ≡ c.core.bus.iists in
       let same : P (pick c.core.reset (pick (eqb k 0) (period_clock c.core) (pick (eqb k 3) (watchdog_clock c.core) (timer_clock (register_at c.registers BTCON) c.core k))) c.core) =
       rw f (pick_by P c.core.reset (λ _. pick_by P (eqb k 0) (λ _. refl) (λ _. pick_by P (timer_runs (register_at c.registers BTCON) k) (λ _. refl) (λ _. refl))) (λ _. refl)) in
-      quiet c (Clock k) _ (ap (bit START) same) (ap (bit STOP) same) refl refl (rw f refl) (rw f refl)
+      quiet c (Ok (Clock k)) _ (ap (bit START) same) (ap (bit STOP) same) refl refl (rw f refl) (rw f refl)
 
-  clock_by : (k : ℕ) (three : Bool) → eqb k 3 ≡ three → After c (Clock k) (next c (Clock k)).core
+  clock_by : (k : ℕ) (three : Bool) → eqb k 3 ≡ three → After c (Ok (Clock k)) (next c (Ok (Clock k))).core
   clock_by k true f = rw (eqb-true k 3 f) at_watchdog
   clock_by k false f = other k f
 
@@ -302,12 +303,12 @@ module _ (c : Chip) where
 
 pub status_after : (c : Chip) (e : Decoded) → After c e (next c e).core
 unfolding next core_after pin_moved polarity_found clears_bit
-status_after c (Read a) = quiet c (Read a) _ refl refl refl refl refl refl
-status_after c (Write a b) = write_by c a b _ _ refl refl
-status_after c (Pin p level) = at_kind_lem c level (numbered p)
-status_after c (Clock k) = clock_by c k _ refl
-status_after c (Polarity vertical level) = pick_by (After c (Polarity vertical level)) c.core.reset (λ _. quiet c (Polarity vertical level) _ refl refl refl refl refl refl) (λ _. quiet c (Polarity vertical level) _ refl refl refl refl refl refl)
-status_after c (Refused n) = quiet c (Refused n) _ refl refl refl refl refl refl
+status_after c (Ok (Read a)) = quiet c (Ok (Read a)) _ refl refl refl refl refl refl
+status_after c (Ok (Write a b)) = write_by c a b _ _ refl refl
+status_after c (Ok (Pin p level)) = at_kind_lem c level (numbered p)
+status_after c (Ok (Clock k)) = clock_by c k _ refl
+status_after c (Ok (Polarity vertical level)) = pick_by (After c (Ok (Polarity vertical level))) c.core.reset (λ _. quiet c (Ok (Polarity vertical level)) _ refl refl refl refl refl refl) (λ _. quiet c (Ok (Polarity vertical level)) _ refl refl refl refl refl refl)
+status_after c (Err r) = quiet c (Err r) _ refl refl refl refl refl refl
 
 -- after a list START is set where a START condition came since it was last cleared, or it was set and has not been cleared
 pub start_seen : (c : Chip) (ws : List ℕ) → status_bit START (advanced c ws) ≡ seen_since starts START c ws (status_bit START c)

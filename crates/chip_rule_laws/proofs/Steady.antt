@@ -10,8 +10,9 @@ use Rattle.bits.proofs.Level.{pick_by}
 use Rattle.bits.proofs.Finite.{neither, both}
 use Rattle.registers.specs.Names.{MDCON, BTCON}
 use Rattle.registers.specs.Table.{table, row_of, is_writable, updated}
-use Rattle.events.specs.declared.Decoded.{Decoded}
-use Rattle.events.specs.declared.Decoded.TheVariants.{Read, Write, Pin, Clock, Polarity, Refused}
+use Rattle.std.specs.Prelude.{Ok, Err}
+use Rattle.events.specs.Decoded.{Decoded}
+use Rattle.events.specs.declared.Event.TheVariants.{Read, Write, Pin, Clock, Polarity}
 use Rattle.events.specs.Word.{decode}
 use Rattle.bus.specs.declared.Mode.TheVariants.{Ddc2b}
 use Rattle.bus.specs.declared.OwnAddress.{OwnAddress}
@@ -81,7 +82,7 @@ kept_mode iists mdcon iists' mdcon' b e m e' m' = rw (e, m, e', m')
 -- ---- writes
 
 module _ {p : Phase} (st : Steady p) (c : Chip) (b : ℕ) (h : In p c.core) where
-  at_target : {t : Target} {a : ℕ} → by.Addressed t a → ends c (Write a b) ≡ false → In p (pick (is_writable a) (written_to t c.core b) c.core)
+  at_target : {t : Target} {a : ℕ} → by.Addressed t a → ends c (Ok (Write a b)) ≡ false → In p (pick (is_writable a) (written_to t c.core b) c.core)
   unfolding is_writable row_of table written_to mdcon_written clrflg_written clrwdt_written iiadr_written iidat_written iists_written bus_at_iidat ends
   at_target at_mdcon z =
       let bus : Bus = c.core.bus in
@@ -102,7 +103,7 @@ module _ {p : Phase} (st : Steady p) (c : Chip) (b : ℕ) (h : In p c.core) wher
   at_target at_bt z = in_of refl refl refl h
   at_target {a = a} (at_plain q) z = pick_by (In p) (is_writable a) (λ _. h) (λ _. h)
 
-at_write : {p : Phase} → Steady p → (c : Chip) (a b : ℕ) → In p c.core → ends c (Write a b) ≡ false → In p (next c (Write a b)).core
+at_write : {p : Phase} → Steady p → (c : Chip) (a b : ℕ) → In p c.core → ends c (Ok (Write a b)) ≡ false → In p (next c (Ok (Write a b))).core
 unfolding next core_after write_register written
 at_write {p} st c a b h z = pick_by (In p) c.core.reset (λ _. at_target st c b h (addressed a) z) (λ _. h)
 
@@ -169,7 +170,7 @@ module _ {p : Phase} (st : Steady p) (c : Chip) (level : Bool) (h : In p c.core)
   reset_by old false r z = absurd (true≢false z)
   reset_by false true r z = absurd (true≢false (sym h.reset ∙ r))
 
-  at_kind_lem : {k : PinKind} {q : ℕ} → Numbered k q → ends c (Pin q level) ≡ false → In p (pin_moved_as k c.core q level)
+  at_kind_lem : {k : PinKind} {q : ℕ} → Numbered k q → ends c (Ok (Pin q level)) ≡ false → In p (pin_moved_as k c.core q level)
   unfolding pin_moved_as port0_moved port1_moved port2_moved p16_moved hsync_moved reset_moved ends
   at_kind_lem (port0_pin u high) z = in_of refl refl refl h
   at_kind_lem (port1_pin u low high) z = in_of refl refl refl h
@@ -182,7 +183,7 @@ module _ {p : Phase} (st : Steady p) (c : Chip) (level : Bool) (h : In p c.core)
   at_kind_lem vsynci_pin z = at_vsynci
   at_kind_lem reset_pin z = reset_by c.core.reset level refl z
 
-at_pin : {p : Phase} → Steady p → (c : Chip) (q : ℕ) (level : Bool) → In p c.core → ends c (Pin q level) ≡ false → In p (next c (Pin q level)).core
+at_pin : {p : Phase} → Steady p → (c : Chip) (q : ℕ) (level : Bool) → In p c.core → ends c (Ok (Pin q level)) ≡ false → In p (next c (Ok (Pin q level))).core
 unfolding next core_after pin_moved
 at_pin st c q level h z = at_kind_lem st c level h (numbered q) z
 
@@ -201,7 +202,7 @@ module _ {p : Phase} (st : Steady p) (c : Chip) (h : In p c.core) where
   unfolding watchdog_clock
   at_watchdog z = rw (watchdog_last c.core.watchdog, z) (in_of refl refl refl h)
 
-  at_clock : (k : ℕ) → ends c (Clock k) ≡ false → In p (next c (Clock k)).core
+  at_clock : (k : ℕ) → ends c (Ok (Clock k)) ≡ false → In p (next c (Ok (Clock k))).core
   unfolding next core_after clocked clocked_as ends
   at_clock k z =
       pick_by (In p) c.core.reset
@@ -212,12 +213,12 @@ module _ {p : Phase} (st : Steady p) (c : Chip) (h : In p c.core) where
 
 stays : {p : Phase} → Steady p → (c : Chip) (e : Decoded) → In p c.core → ends c e ≡ false → In p (next c e).core
 unfolding next core_after polarity_found
-stays st c (Read a) h z = h
-stays st c (Write a b) h z = at_write st c a b h z
-stays st c (Pin q level) h z = at_pin st c q level h z
-stays st c (Clock k) h z = at_clock st c h k z
-stays {p} st c (Polarity vertical level) h z = pick_by (In p) c.core.reset (λ _. in_of refl refl refl h) (λ _. h)
-stays st c (Refused n) h z = h
+stays st c (Ok (Read a)) h z = h
+stays st c (Ok (Write a b)) h z = at_write st c a b h z
+stays st c (Ok (Pin q level)) h z = at_pin st c q level h z
+stays st c (Ok (Clock k)) h z = at_clock st c h k z
+stays {p} st c (Ok (Polarity vertical level)) h z = pick_by (In p) c.core.reset (λ _. in_of refl refl refl h) (λ _. h)
+stays st c (Err r) h z = h
 
 pub steady_over : {p : Phase} → Steady p → (c : Chip) (ws : List ℕ) → In p c.core → lasts c ws ≡ true → In p (advanced c ws).core
 unfolding advance
@@ -229,17 +230,17 @@ steady_over st c (w ∷ ws) h z =
 -- SCL high stays high
 scl_stays : (c : Chip) (e : Decoded) → ends c e ≡ false → c.core.scl ≡ true → (next c e).core.scl ≡ true
 unfolding level_of ends
-scl_stays c (Read a) z s = level_after_lem 25 refl c (Read a) ∙ s
-scl_stays c (Write a b) z s = level_after_lem 25 refl c (Write a b) ∙ s
-scl_stays c (Pin p level) z s = level_after_lem 25 refl c (Pin p level) ∙ by_pin (eqb p 25) level (neither (eqb p 25 && (c.core.scl && not level)) _ z).0
+scl_stays c (Ok (Read a)) z s = level_after_lem 25 refl c (Ok (Read a)) ∙ s
+scl_stays c (Ok (Write a b)) z s = level_after_lem 25 refl c (Ok (Write a b)) ∙ s
+scl_stays c (Ok (Pin p level)) z s = level_after_lem 25 refl c (Ok (Pin p level)) ∙ by_pin (eqb p 25) level (neither (eqb p 25 && (c.core.scl && not level)) _ z).0
   where
     by_pin : (t level : Bool) → (t && (c.core.scl && not level)) ≡ false → pick t level c.core.scl ≡ true
     by_pin true true k = refl
     by_pin true false k = absurd (true≢false (sym (rw s) ∙ k))
     by_pin false level k = s
-scl_stays c (Clock k) z s = level_after_lem 25 refl c (Clock k) ∙ s
-scl_stays c (Polarity vertical level) z s = level_after_lem 25 refl c (Polarity vertical level) ∙ s
-scl_stays c (Refused n) z s = level_after_lem 25 refl c (Refused n) ∙ s
+scl_stays c (Ok (Clock k)) z s = level_after_lem 25 refl c (Ok (Clock k)) ∙ s
+scl_stays c (Ok (Polarity vertical level)) z s = level_after_lem 25 refl c (Ok (Polarity vertical level)) ∙ s
+scl_stays c (Err r) z s = level_after_lem 25 refl c (Err r) ∙ s
 
 pub scl_over : (c : Chip) (ws : List ℕ) → lasts c ws ≡ true → c.core.scl ≡ true → (advanced c ws).core.scl ≡ true
 unfolding advance

@@ -12,8 +12,9 @@ use Rattle.bits.proofs.Level.{pick_by}
 use Rattle.bits.proofs.Finite.{both, neither}
 use Rattle.registers.specs.Names.{BT, BTCON}
 use Rattle.registers.specs.Table.{table, row_of, write_mask, is_writable}
-use Rattle.events.specs.declared.Decoded.{Decoded}
-use Rattle.events.specs.declared.Decoded.TheVariants.{Read, Write, Pin, Clock, Polarity, Refused}
+use Rattle.std.specs.Prelude.{Ok, Err}
+use Rattle.events.specs.Decoded.{Decoded}
+use Rattle.events.specs.declared.Event.TheVariants.{Read, Write, Pin, Clock, Polarity}
 use Rattle.events.specs.Word.{decode}
 use Rattle.bus.specs.declared.Mode.{Mode}
 use Rattle.bus.specs.declared.Mode.TheVariants.{Off, Ddc1, Ddc2b}
@@ -68,7 +69,7 @@ reset_bt false true c h = refl
 reset_bt false false c h = refl
 
 module _ (c : Chip) (level : Bool) where
-  pin_bt : {k : PinKind} {q : ℕ} → Numbered k q → resets c (Pin q level) ≡ false → (pin_moved_as k c.core q level).bt ≡ c.core.bt
+  pin_bt : {k : PinKind} {q : ℕ} → Numbered k q → resets c (Ok (Pin q level)) ≡ false → (pin_moved_as k c.core q level).bt ≡ c.core.bt
   unfolding pin_moved_as port0_moved port1_moved port2_moved p16_moved sda_moved scl_moved hsync_moved vsync_moved vsync_rise reset_moved
   pin_bt (port0_pin u high) h = refl
   pin_bt (port1_pin u low high) h = refl
@@ -106,7 +107,7 @@ unfolding timer_next cycle_next
 stepped n h = pick_by (λ (x : ℕ). x ≡ (n + 1) % 256) (ltb n 255) (λ t. let l = ltb-true n 255 t in omega arith) (λ t. let l = ltb-false n 255 t in omega arith)
 
 module _ (c : Chip) (small : c.core.bt < 256) where
-  at_write : (a b : ℕ) → (eqb a BT && c.core.reset) ≡ false → (next c (Write a b)).core.bt ≡ c.core.bt
+  at_write : (a b : ℕ) → (eqb a BT && c.core.reset) ≡ false → (next c (Ok (Write a b))).core.bt ≡ c.core.bt
   at_write a b h =
       by_write (λ (x : Chip). x.core.bt ≡ c.core.bt) c a b
       (λ r _. pick_by (λ (x : ℕ). x ≡ c.core.bt) (eqb a BT) (λ t. absurd (true≢false (sym (rw (t, r) refl) ∙ h))) (λ _. refl))
@@ -129,11 +130,11 @@ module _ (c : Chip) (small : c.core.bt < 256) where
   unfolding watchdog_clock
   at_watchdog fires w f = rw (w, f) refl
 
-  clock_core : (k : ℕ) → c.core.reset ≡ true → (next c (Clock k)).core ≡ clocked_as (register_at c.registers BTCON) c.core k
+  clock_core : (k : ℕ) → c.core.reset ≡ true → (next c (Ok (Clock k))).core ≡ clocked_as (register_at c.registers BTCON) c.core k
   unfolding next core_after clocked
   clock_core k r = ap (λ (t : Bool). pick t (clocked_as (register_at c.registers BTCON) c.core k) c.core) r
 
-  steps_high : (k : ℕ) → c.core.reset ≡ true → steps_timer c (Clock k) ≡ (eqb k (pick (bit 1 (register_at c.registers BTCON)) 2 1) && not (bit 0 (register_at c.registers BTCON)))
+  steps_high : (k : ℕ) → c.core.reset ≡ true → steps_timer c (Ok (Clock k)) ≡ (eqb k (pick (bit 1 (register_at c.registers BTCON)) 2 1) && not (bit 0 (register_at c.registers BTCON)))
   unfolding steps_timer
   steps_high k r = rw r refl
 
@@ -147,11 +148,11 @@ module _ (c : Chip) (small : c.core.bt < 256) where
       (at_watchdog _ refl (watchdog_last c.core.watchdog ∙ rw f at h) ∙ other 3 (bit 1 (register_at c.registers BTCON)) (bit 0 (register_at c.registers BTCON)) refl refl)
   clock_by k false false e f h = rw (e, f, runs_is (register_at c.registers BTCON) k) (timer_by (eqb k (pick (bit 1 (register_at c.registers BTCON)) 2 1) && not (bit 0 (register_at c.registers BTCON))))
 
-  low_by : (k : ℕ) → c.core.reset ≡ false → (next c (Clock k)).core.bt ≡ (c.core.bt + num (steps_timer c (Clock k))) % 256
+  low_by : (k : ℕ) → c.core.reset ≡ false → (next c (Ok (Clock k))).core.bt ≡ (c.core.bt + num (steps_timer c (Ok (Clock k)))) % 256
   unfolding next core_after clocked steps_timer
   low_by k r = rw (r, and-false (eqb k (pick (bit 1 (register_at c.registers BTCON)) 2 1))) kept
 
-  at_clock : (k : ℕ) (reset : Bool) → c.core.reset ≡ reset → resets c (Clock k) ≡ false → (next c (Clock k)).core.bt ≡ (c.core.bt + num (steps_timer c (Clock k))) % 256
+  at_clock : (k : ℕ) (reset : Bool) → c.core.reset ≡ reset → resets c (Ok (Clock k)) ≡ false → (next c (Ok (Clock k))).core.bt ≡ (c.core.bt + num (steps_timer c (Ok (Clock k)))) % 256
   at_clock k true r h =
       let quiet : (eqb k 3 && ltb 62 c.core.watchdog) ≡ false = rw r at h in
       rw (clock_core k r, steps_high k r) (clock_by k _ _ refl refl quiet)
@@ -159,12 +160,12 @@ module _ (c : Chip) (small : c.core.bt < 256) where
 
 bt_after : (c : Chip) (e : Decoded) → c.core.bt < 256 → sets_timer c e ≡ false → (next c e).core.bt ≡ (c.core.bt + num (steps_timer c e)) % 256
 unfolding next core_after pin_moved polarity_found sets_timer steps_timer
-bt_after c (Read a) s h = kept c s
-bt_after c (Write a b) s h = at_write c s a b (neither _ false h).0 ∙ kept c s
-bt_after c (Pin q level) s h = pin_bt c level (numbered q) h ∙ kept c s
-bt_after c (Clock k) s h = at_clock c s k c.core.reset refl h
-bt_after c (Polarity vertical level) s h = pick_by (λ (x : Core). x.bt ≡ (c.core.bt + 0) % 256) c.core.reset (λ _. kept c s) (λ _. kept c s)
-bt_after c (Refused n) s h = kept c s
+bt_after c (Ok (Read a)) s h = kept c s
+bt_after c (Ok (Write a b)) s h = at_write c s a b (neither _ false h).0 ∙ kept c s
+bt_after c (Ok (Pin q level)) s h = pin_bt c level (numbered q) h ∙ kept c s
+bt_after c (Ok (Clock k)) s h = at_clock c s k c.core.reset refl h
+bt_after c (Ok (Polarity vertical level)) s h = pick_by (λ (x : Core). x.bt ≡ (c.core.bt + 0) % 256) c.core.reset (λ _. kept c s) (λ _. kept c s)
+bt_after c (Err r) s h = kept c s
 
 -- ---- a list
 
@@ -185,7 +186,7 @@ timer_runs_lem c (w ∷ ws) s h =
     ∙ ap (λ (x : ℕ). (x + n) % 256) e ∙ mod_add c.core.bt (num (steps_timer c (decode w))) n
 
 -- a write sets the count
-pub timer_set : (c : Chip) (b : ℕ) → b < 256 → c.core.reset ≡ true → (next c (Write BT b)).core.bt ≡ b
+pub timer_set : (c : Chip) (b : ℕ) → b < 256 → c.core.reset ≡ true → (next c (Ok (Write BT b))).core.bt ≡ b
 unfolding is_writable row_of table write_mask merge
 timer_set c b h r =
     by_write (λ (x : Chip). x.core.bt ≡ b) c BT b
@@ -193,10 +194,10 @@ timer_set c b h r =
     (λ q. absurd (true≢false (sym (rw r refl) ∙ q)))
 
 -- so from a write on it is the byte and the clocks since, modulo 256
-pub timer_since : (c : Chip) (b : ℕ) (ws : List ℕ) → b < 256 → c.core.reset ≡ true → never sets_timer (next c (Write BT b)) ws ≡ true →
-    (advanced (next c (Write BT b)) ws).core.bt ≡ (b + timer_steps (next c (Write BT b)) ws) % 256
+pub timer_since : (c : Chip) (b : ℕ) (ws : List ℕ) → b < 256 → c.core.reset ≡ true → never sets_timer (next c (Ok (Write BT b))) ws ≡ true →
+    (advanced (next c (Ok (Write BT b))) ws).core.bt ≡ (b + timer_steps (next c (Ok (Write BT b))) ws) % 256
 timer_since c b ws h r z =
-    let x : Chip = next c (Write BT b) in
+    let x : Chip = next c (Ok (Write BT b)) in
     let e : x.core.bt ≡ b = timer_set c b h r in
     let l : x.core.bt < 256 = omega (arith, e, h) in
     timer_runs_lem x ws l z ∙ ap (λ (n : ℕ). (n + timer_steps x ws) % 256) e

@@ -1,13 +1,13 @@
 -- The acknowledge of a byte, told by the words given, the levels that the chip puts on the lines and II STS before the eighth fall (document 02, Wish 2,
 -- and document 01, "The bus").
-use Rattle.std.specs.Prelude.{◌≡◌, Bool, true, false, not, ◌&&◌, ◌||◌, ℕ, List, [], ◌∷◌, eqb, ltb}
+use Rattle.std.specs.Prelude.{◌≡◌, Bool, true, false, not, ◌&&◌, ◌||◌, ℕ, List, [], ◌∷◌, eqb, ltb, Ok, Err}
 use Rattle.bits.specs.Byte.{bit}
 use Rattle.registers.specs.Names.{MDCON, IISTS, MD12, ENDDC, TXAK}
 use Rattle.events.specs.Pins.{SDA, SCL, RESET}
 use Rattle.events.specs.Clocks.{watchdog}
 use Rattle.events.specs.Word.{decode}
-use Rattle.events.specs.declared.Decoded.{Decoded}
-use Rattle.events.specs.declared.Decoded.TheVariants.{Read, Write, Pin, Clock, Polarity, Refused}
+use Rattle.events.specs.Decoded.{Decoded}
+use Rattle.events.specs.declared.Event.TheVariants.{Read, Write, Pin, Clock, Polarity}
 use Rattle.bus.specs.Bus.{line, scl_pulled}
 use Rattle.chip.specs.declared.Chip.{Chip}
 use Rattle.chip.specs.State.{mode_of}
@@ -33,14 +33,14 @@ differ false new = new
 
 -- what ends it: a fall of SCL, a START or a STOP (the SDA line moves while SCL is high), a reset, DDC turned off or DDC1 asked for
 unfoldable pub ends : Chip → Decoded → Bool
-ends c (Read a) = false
-ends c (Write a b) = (eqb a MDCON && bit MD12 b) || (eqb a IISTS && bit ENDDC b)
-ends c (Pin p level) =
+ends c (Ok (Read a)) = false
+ends c (Ok (Write a b)) = (eqb a MDCON && bit MD12 b) || (eqb a IISTS && bit ENDDC b)
+ends c (Ok (Pin p level)) =
     (eqb p SCL && (c.core.scl && not level))
     || ((eqb p SDA && (c.core.scl && (puts c && differ c.core.sda level))) || (eqb p RESET && not level))
-ends c (Clock k) = eqb k watchdog && ltb 62 c.core.watchdog
-ends c (Polarity vertical level) = false
-ends c (Refused n) = false
+ends c (Ok (Clock k)) = eqb k watchdog && ltb 62 c.core.watchdog
+ends c (Ok (Polarity vertical level)) = false
+ends c (Err r) = false
 
 -- no word of the list ends it
 abbrev pub lasts : Chip → List ℕ → Bool

@@ -4,7 +4,7 @@ use Rattle.bits.specs.Byte.{pick}
 use Rattle.registers.specs.Names.{CLRFLG, CLRHOV, CLRVOV}
 use Rattle.events.specs.Pins as pin
 use Rattle.events.specs.Clocks as clock
-use Rattle.events.specs.declared.Decoded.{Decoded}
+use Rattle.events.specs.Decoded.{Decoded}
 use Rattle.sync.specs.Sync.{count_last, interval_last}
 use Rattle.chip.specs.declared.Chip.{Chip}
 use Rattle.chip.specs.State.{hsel_of}

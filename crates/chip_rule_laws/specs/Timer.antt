@@ -3,7 +3,7 @@ use Rattle.std.specs.Prelude.{ℕ, ◌+◌, Bool, false, not, ◌&&◌, ◌||◌
 use Rattle.bits.specs.Byte.{pick, num, bit}
 use Rattle.registers.specs.Names.{BT, BTCON, TBS, ENBT}
 use Rattle.events.specs.Clocks as clock
-use Rattle.events.specs.declared.Decoded.{Decoded}
+use Rattle.events.specs.Decoded.{Decoded}
 use Rattle.events.specs.Kinds.{on_write}
 use Rattle.events.specs.Word.{decode}
 use Rattle.chip.specs.declared.Chip.{Chip}

@@ -17,7 +17,8 @@ use Rattle.bits.proofs.Mask.{complement_and, merge_keeps, merge_takes, merge_mas
 use Rattle.registers.specs.Names.{MDCON, HVCON, IRQX, CLRFLG, CLRWDT, IIADR, IIDAT, IISTS, BT}
 use Rattle.registers.specs.Table.{row_of, write_mask, is_writable}
 use Rattle.registers.proofs.Rules.{write_mask_lt}
-use Rattle.events.specs.declared.Decoded.TheVariants.{Write}
+use Rattle.std.specs.Prelude.{Ok}
+use Rattle.events.specs.declared.Event.TheVariants.{Write}
 use Rattle.bits.proofs.Level.{pick_by}
 use Rattle.bus.specs.Bus.{pulls_scl, compared_in}
 use Rattle.bus_ddc2b.proofs.First.{data_first}
@@ -95,7 +96,7 @@ module _ (c : Chip) (b : ℕ) where
       (kept_by (eqb a IRQX) (255 - write_mask a) c.core.irqx _ c.core.irqx (register_at c.registers a) refl (place_kept a))
 
 -- a write to any register, taken or refused
-pub kept_bits : (c : Chip) (a b : ℕ) → b < 256 → bit_and (kept_byte (next c (Write a b)) a) (255 - changeable a) ≡ bit_and (kept_byte c a) (255 - changeable a)
+pub kept_bits : (c : Chip) (a b : ℕ) → b < 256 → bit_and (kept_byte (next c (Ok (Write a b))) a) (255 - changeable a) ≡ bit_and (kept_byte c a) (255 - changeable a)
 kept_bits c a b h =
     by_write (λ (x : Chip). bit_and (kept_byte x a) (255 - changeable a) ≡ bit_and (kept_byte c a) (255 - changeable a)) c a b
     (λ _ _. kept_to c b (addressed a) h)
@@ -131,7 +132,7 @@ module _ (c : Chip) (b : ℕ) (size : length c.registers ≡ 38) where
 
 -- a write that is taken, at a state whose array has its 38 places, as all of the code's have
 pub taken_bits : (c : Chip) (a b : ℕ) → b < 256 → length c.registers ≡ 38 → a < 38 → c.core.reset ≡ true → is_writable a ≡ true →
-    bit_and (kept_byte (next c (Write a b)) a) (write_mask a) ≡ bit_and b (write_mask a)
+    bit_and (kept_byte (next c (Ok (Write a b))) a) (write_mask a) ≡ bit_and b (write_mask a)
 taken_bits c a b h size ha r w =
     by_write (λ (x : Chip). bit_and (kept_byte x a) (write_mask a) ≡ bit_and b (write_mask a)) c a b
     (λ _ _. taken_to c b size (addressed a) h ha w)

@@ -9,7 +9,8 @@ use lib.ListN.{set}
 use Rattle.bits.specs.Byte.{pick, bit}
 use Rattle.registers.specs.Names.{MDCON, HVCON, CLRFLG, CLRWDT, IIADR, IIDAT, IISTS, BT}
 use Rattle.registers.specs.Table.{is_writable}
-use Rattle.events.specs.declared.Decoded.TheVariants.{Write}
+use Rattle.std.specs.Prelude.{Ok}
+use Rattle.events.specs.declared.Event.TheVariants.{Write}
 use Rattle.sync.specs.Sync.{clear_overflow}
 use Rattle.bus.specs.Bus.{mode}
 use Rattle.chip.specs.declared.Core.{Core}
@@ -95,7 +96,7 @@ tested P c true false k new taken refused = refused refl
 tested P c false writable k new taken refused = refused refl
 
 -- what holds of these fields where the write is taken, and of the state where it is refused, holds after the write
-pub by_write : (P : Chip → Type 0) (c : Chip) (a b : ℕ) → (c.core.reset ≡ true → is_writable a ≡ true → P (fields c a b)) → ((c.core.reset && is_writable a) ≡ false → P c) → P (next c (Write a b))
+pub by_write : (P : Chip → Type 0) (c : Chip) (a b : ℕ) → (c.core.reset ≡ true → is_writable a ≡ true → P (fields c a b)) → ((c.core.reset && is_writable a) ≡ false → P c) → P (next c (Ok (Write a b)))
 unfolding next core_after kept_after write_register write_kept
 by_write P c a b taken refused =
     tested P c c.core.reset (is_writable a) (stored_by c.registers a b) (written c.core a b)

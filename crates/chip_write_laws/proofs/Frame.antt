@@ -12,7 +12,8 @@ use lib.Seq.{get_or-set_other, ext_get_or}
 use Rattle.bits.specs.Byte.{pick, bit}
 use Rattle.bits.proofs.Finite.{neither}
 use Rattle.registers.specs.Names.{MDCON, CLRFLG, IIADR, IIDAT, IISTS}
-use Rattle.events.specs.declared.Decoded.TheVariants.{Read, Write}
+use Rattle.std.specs.Prelude.{Ok}
+use Rattle.events.specs.declared.Event.TheVariants.{Read, Write}
 use Rattle.bits.proofs.Level.{pick_by}
 use Rattle.sync.specs.declared.Sync.{Sync}
 use Rattle.sync.specs.Sync.{clear_lines, clear_periods, zero_lines, hsel_cleared, clear_overflow}
@@ -182,11 +183,11 @@ same SclLevel c = refl
 same ResetLevel c = refl
 
 -- a write to any register, taken or refused, leaves each part that the table does not name for it
-pub frame : (c : Chip) (a b : ℕ) (p : Part) → alters a p ≡ false → SameAt p (next c (Write a b)) c
+pub frame : (c : Chip) (a b : ℕ) (p : Part) → alters a p ≡ false → SameAt p (next c (Ok (Write a b))) c
 frame c a b p k = by_write (λ (x : Chip). SameAt p x c) c a b (λ _ _. at_fields c a b p k) (λ _. same p c)
 
 -- a read leaves the state as it was
-pub read_frame : (c : Chip) (a : ℕ) → next c (Read a) ≡ c
+pub read_frame : (c : Chip) (a : ℕ) → next c (Ok (Read a)) ≡ c
 unfolding next core_after kept_after
 read_frame c a = refl
 

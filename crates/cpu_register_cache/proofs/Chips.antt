@@ -15,8 +15,9 @@ use Rattle.chip.specs.declared.Bus.{Bus}
 use Rattle.registers.specs.Names.{CLRWDT, IEX}
 use Rattle.registers.specs.Table.{updated, read_mask, is_readable, is_writable, row_of, table}
 use Rattle.registers.proofs.Rules.{writable_register}
+use Rattle.std.specs.Prelude.{Ok}
 use Rattle.events.specs.Clocks as clock
-use Rattle.events.specs.declared.Decoded.TheVariants as event
+use Rattle.events.specs.declared.Event.TheVariants as event
 use Rattle.counters.specs.Count.{watchdog_fires}
 use Rattle.sync.specs.declared.Sync.{Sync}
 use Rattle.sync.specs.Sync.{on_period}
@@ -53,14 +54,14 @@ clock_kept_by true x = refl
 clock_kept_by false x = refl
 
 -- it stores no register, and BTCON does not steer it
-pub clock_chip : (registers : List ℕ) (core : Core) → next (chip_of registers core) (event.Clock clock.period) ≡ chip_of registers (ticked core)
+pub clock_chip : (registers : List ℕ) (core : Core) → next (chip_of registers core) (Ok (event.Clock clock.period)) ≡ chip_of registers (ticked core)
 unfolding next kept_after was_reset core_after
 clock_chip registers core =
     ap₂ (λ (l : List ℕ) (x : Core). chip_of l x) (ap (λ x. keep x registers) (clock_kept_by core.reset (watchdog_fires core.watchdog)))
     (sym (clock_core_by core.reset core refl _) ∙ clock_core_by core.reset core refl 0)
 
 after_by : (b : Bool) (registers : List ℕ) (core : Core)
-    → pick b (chip_of registers core) (next (chip_of registers core) (event.Clock clock.period)) ≡ chip_of registers (pick b core (ticked core))
+    → pick b (chip_of registers core) (next (chip_of registers core) (Ok (event.Clock clock.period))) ≡ chip_of registers (pick b core (ticked core))
 after_by true registers core = refl
 after_by false registers core = clock_chip registers core
 
@@ -146,7 +147,7 @@ write_by true false registers core w s h = absurd (true≢false (sym h))
 write_by false x registers core w s h = absurd (true≢false (sym h))
 
 write_chip : (registers : List ℕ) (core : Core) (r b : ℕ) → eqb (write_number core.reset r) 0 ≡ true
-    → next (chip_of registers core) (event.Write r b) ≡ chip_of (keep (stored_by registers r b) registers) (written core r b)
+    → next (chip_of registers core) (Ok (event.Write r b)) ≡ chip_of (keep (stored_by registers r b) registers) (written core r b)
 unfolding next kept_after core_after write_register write_kept write_number
 write_chip registers core r b h = write_by core.reset (is_writable r) registers core (written core r b) (stored_by registers r b) h
 

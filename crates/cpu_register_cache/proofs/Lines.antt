@@ -13,9 +13,10 @@ use Rattle.bus.specs.declared.Mode.TheVariants.{Off, Ddc1, Ddc2b}
 use Rattle.bus.specs.declared.Edge.{Edge}
 use Rattle.bus.specs.declared.Edge.TheVariants.{Flat, Rise, Fall}
 use Rattle.bus.specs.Bus.{edge, line, sda_pulled, scl_pulled}
+use Rattle.std.specs.Prelude.{Ok, Err}
 use Rattle.events.specs.Pins as pin
-use Rattle.events.specs.declared.Decoded.{Decoded}
-use Rattle.events.specs.declared.Decoded.TheVariants as event
+use Rattle.events.specs.Decoded.{Decoded}
+use Rattle.events.specs.declared.Event.TheVariants as event
 use Rattle.chip.specs.declared.Core.{Core}
 use Rattle.chip.specs.declared.Chip.{Chip}
 use Rattle.chip.specs.State.{chip_of, keep, with_sda, with_scl}
@@ -75,22 +76,22 @@ knows_beside seen registers c d b l h q g =
 
 -- ---- after an event
 
-scl_chip : (registers : List ℕ) (c : Core) (level : Bool) → next (chip_of registers c) (event.Pin pin.SCL level) ≡ chip_of registers (scl_moved c level)
+scl_chip : (registers : List ℕ) (c : Core) (level : Bool) → next (chip_of registers c) (Ok (event.Pin pin.SCL level)) ≡ chip_of registers (scl_moved c level)
 unfolding next kept_after was_reset core_after pin_moved pin_moved_as pin_kind
 scl_chip registers c level = refl
 
-sda_chip : (registers : List ℕ) (c : Core) (level : Bool) → next (chip_of registers c) (event.Pin pin.SDA level) ≡ chip_of registers (sda_moved c level)
+sda_chip : (registers : List ℕ) (c : Core) (level : Bool) → next (chip_of registers c) (Ok (event.Pin pin.SDA level)) ≡ chip_of registers (sda_moved c level)
 unfolding next kept_after was_reset core_after pin_moved pin_moved_as pin_kind
 sda_chip registers c level = refl
 
-knows_scl : (seen registers : List ℕ) (c : Core) (level : Bool) → length seen ≡ 38 → Knows seen (chip_of registers c) → Knows (bus_forgotten seen) (next (chip_of registers c) (event.Pin pin.SCL level))
+knows_scl : (seen registers : List ℕ) (c : Core) (level : Bool) → length seen ≡ 38 → Knows seen (chip_of registers c) → Knows (bus_forgotten seen) (next (chip_of registers c) (Ok (event.Pin pin.SCL level)))
 unfolding scl_moved
 knows_scl seen registers c level l h =
     let pulled : Bool = scl_pulled (active_mode c) c.bus.phase in
     rw (scl_chip registers c level)
     (knows_beside seen registers c (scl_moved c level) (scl_beside (active_mode c) (edge (line pulled c.scl) (line pulled level)) (with_scl c level)) l h)
 
-knows_sda : (seen registers : List ℕ) (c : Core) (level : Bool) → length seen ≡ 38 → Knows seen (chip_of registers c) → Knows (bus_forgotten seen) (next (chip_of registers c) (event.Pin pin.SDA level))
+knows_sda : (seen registers : List ℕ) (c : Core) (level : Bool) → length seen ≡ 38 → Knows seen (chip_of registers c) → Knows (bus_forgotten seen) (next (chip_of registers c) (Ok (event.Pin pin.SDA level)))
 unfolding sda_moved
 knows_sda seen registers c level l h =
     let pulled : Bool = sda_pulled (active_mode c) c.bus.phase c.bus.shifter in
@@ -99,19 +100,19 @@ knows_sda seen registers c level l h =
     (sda_beside (active_mode c) (line (scl_pulled (active_mode c) c.bus.phase) c.scl) (edge (line pulled c.sda) (line pulled level)) (with_sda c level)) l h)
 
 line_by : (x y : Bool) (seen registers : List ℕ) (c : Core) (p : ℕ) (level : Bool) → eqb p pin.SCL ≡ x → eqb p pin.SDA ≡ y → length seen ≡ 38 → Knows seen (chip_of registers c)
-    → Knows (pick (x || y) (bus_forgotten seen) none_seen) (next (chip_of registers c) (event.Pin p level))
+    → Knows (pick (x || y) (bus_forgotten seen) none_seen) (next (chip_of registers c) (Ok (event.Pin p level)))
 line_by true y seen registers c p level e f l h = rw (eqb-true p pin.SCL e) (knows_scl seen registers c level l h)
 line_by false true seen registers c p level e f l h = rw (eqb-true p pin.SDA f) (knows_sda seen registers c level l h)
 line_by false false seen registers c p level e f l h = knows_none _
 
 pub knows_event : (seen registers : List ℕ) (c : Core) (e : Decoded) → length seen ≡ 38 → Knows seen (chip_of registers c) → Knows (seen_after_event seen e) (next (chip_of registers c) e)
 unfolding seen_after_event is_bus
-knows_event seen registers c (event.Read a) l h = knows_none _
-knows_event seen registers c (event.Write a b) l h = knows_none _
-knows_event seen registers c (event.Pin p level) l h = line_by (eqb p pin.SCL) (eqb p pin.SDA) seen registers c p level refl refl l h
-knows_event seen registers c (event.Clock k) l h = knows_none _
-knows_event seen registers c (event.Polarity vertical level) l h = knows_none _
-knows_event seen registers c (event.Refused n) l h = knows_none _
+knows_event seen registers c (Ok (event.Read a)) l h = knows_none _
+knows_event seen registers c (Ok (event.Write a b)) l h = knows_none _
+knows_event seen registers c (Ok (event.Pin p level)) l h = line_by (eqb p pin.SCL) (eqb p pin.SDA) seen registers c p level refl refl l h
+knows_event seen registers c (Ok (event.Clock k)) l h = knows_none _
+knows_event seen registers c (Ok (event.Polarity vertical level)) l h = knows_none _
+knows_event seen registers c (Err r) l h = knows_none _
 
 event_length_by : (b : Bool) (seen : List ℕ) → length seen ≡ 38 → length (pick b (bus_forgotten seen) none_seen) ≡ 38
 event_length_by true seen l =

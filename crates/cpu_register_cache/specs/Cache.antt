@@ -1,13 +1,13 @@
 -- What is known of the chip's registers while instructions run, and what stays known of them after each change of the chip: the reads of
 -- registers kept in an array, so that an instruction needs no chip. What the array may hold is in the crate machine (Seen).
-use Rattle.std.specs.Prelude.{ℕ, zero, suc, ◌+◌, Bool, true, false, not, ◌||◌, List, [], ◌∷◌, eqb, ltb, set}
+use Rattle.std.specs.Prelude.{ℕ, zero, suc, ◌+◌, Bool, true, false, not, ◌||◌, List, [], ◌∷◌, eqb, ltb, set, Ok, Err}
 use Rattle.std.specs.Int.Bits.{bit_and}
 use Rattle.bits.specs.Byte.{pick}
 use Rattle.registers.specs.Names.{PT0, PT1, PT2, PT3, MDCON, IRQX, IIDAT, IISTS}
 use Rattle.events.specs.Pins as pin
 use Rattle.events.specs.Clocks as clock
-use Rattle.events.specs.declared.Decoded.{Decoded}
-use Rattle.events.specs.declared.Decoded.TheVariants as event
+use Rattle.events.specs.Decoded.{Decoded}
+use Rattle.events.specs.declared.Event.TheVariants as event
 use Rattle.sync.specs.declared.Sync.{Sync}
 use Rattle.sync.specs.Sync.{on_period}
 use Rattle.chip.specs.declared.Core.{Core}
@@ -41,12 +41,12 @@ bus_forgotten seen = forgotten IISTS (forgotten IIDAT (forgotten IRQX (forgotten
 
 -- a level put to SCL or SDA
 unfoldable pub is_bus : Decoded → Bool
-is_bus (event.Read a) = false
-is_bus (event.Write a b) = false
-is_bus (event.Pin p level) = eqb p pin.SCL || eqb p pin.SDA
-is_bus (event.Clock k) = false
-is_bus (event.Polarity vertical level) = false
-is_bus (event.Refused n) = false
+is_bus (Ok (event.Read a)) = false
+is_bus (Ok (event.Write a b)) = false
+is_bus (Ok (event.Pin p level)) = eqb p pin.SCL || eqb p pin.SDA
+is_bus (Ok (event.Clock k)) = false
+is_bus (Ok (event.Polarity vertical level)) = false
+is_bus (Err r) = false
 
 -- any other event may move all that is read
 unfoldable pub seen_after_event : List ℕ → Decoded → List ℕ

@@ -13,7 +13,7 @@ ghost use Rattle.cpu_register_cache.specs.Cache.{none_seen, ports_forgotten, bus
 use chip::{Core, Kept};
 use chip_reads::Reading;
 use chip_writes::Target;
-use events::{Decoded, SCL, SDA};
+use events::{Event, Refusal, SCL, SDA};
 use registers::{DACH0, IIDAT, IISTS, IRQX, MDCON, PT0, PT1, PT2, PT3};
 use sync::Sync;
 
@@ -73,21 +73,18 @@ fn forget_bus(seen: &mut [u16; 38])
 }
 
 // An edge of the bus.
-fn is_bus(event: Decoded) -> bool
+#[tactic(auto, unfolding(crate::specs::Cache::is_bus))]
+fn is_bus(event: Result<Event, Refusal>) -> bool
     ensures { result ≡ is_bus event }
 {
     match event {
-        Decoded::Read(_) => false,
-        Decoded::Write(_, _) => false,
-        Decoded::Pin(p, _) => (p == SCL) | (p == SDA),
-        Decoded::Clock(_) => false,
-        Decoded::Polarity(_, _) => false,
-        Decoded::Refused(_) => false,
+        Ok(Event::Pin(p, _)) => (p == SCL) | (p == SDA),
+        _ => false,
     }
 }
 
 // After an event: an edge of the bus leaves the other registers known.
-pub fn forget_by(seen: &mut [u16; 38], event: Decoded)
+pub fn forget_by(seen: &mut [u16; 38], event: Result<Event, Refusal>)
     ensures { seen.new ≡ seen_after_event seen.old event }
 {
     if is_bus(event) {

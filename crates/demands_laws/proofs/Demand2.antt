@@ -7,8 +7,9 @@ use mathlib.Core.List.{List, ◌++◌}
 use lib.Dec.{ltb}
 use lib.ListN.{length, drop}
 use Rattle.bits.specs.Byte.{bit}
+use Rattle.std.specs.Prelude.{Ok}
 use Rattle.events.specs.Word.{decode}
-use Rattle.events.specs.declared.Decoded.TheVariants.{Write}
+use Rattle.events.specs.declared.Event.TheVariants.{Write}
 use Rattle.chip.specs.declared.Chip.{Chip}
 use Rattle.chip.specs.State.{requests}
 use Rattle.chip_well_formed.specs.WellFormed.{well_formed}
@@ -31,7 +32,7 @@ pub flagged : (s : Source) (c : Chip) (word : ℕ)
 flagged = cause.causes_of_word
 
 -- a register write alters only what document 01 names for that register
-pub altered : (c : Chip) (register byte : ℕ) (p : Part) → alters register p ≡ false → SameAt p (next c (Write register byte)) c
+pub altered : (c : Chip) (register byte : ℕ) (p : Part) → alters register p ≡ false → SameAt p (next c (Ok (Write register byte))) c
 altered = write.frame
 
 -- a list call that returns 0 is the step given word by word; places past the words are as they were

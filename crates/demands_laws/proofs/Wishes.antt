@@ -11,7 +11,7 @@ use Rattle.bits.specs.Byte.{bit, pick}
 use Rattle.registers.specs.Table as register
 use Rattle.registers.proofs.Rules as registers
 use Rattle.events.specs.Word.{decode}
-use Rattle.events.specs.declared.Decoded.{Decoded}
+use Rattle.events.specs.Decoded.{Decoded}
 use Rattle.bus.specs.declared.Mode.TheVariants.{Ddc2b}
 use Rattle.bus.specs.Bus.{is_own}
 use Rattle.bus_ddc2b.specs.Ddc2b.{compared}

@@ -11,10 +11,11 @@ use Rattle.bits.specs.Byte.{pick, bit}
 use Rattle.bits.proofs.Finite.{both, neither}
 use Rattle.registers.specs.Names.{BTCON}
 use Rattle.registers.specs.Table.{is_writable}
-use Rattle.events.specs.declared.Decoded.{Decoded}
-use Rattle.events.specs.declared.Decoded.TheVariants.{Read, Write, Pin, Clock, Polarity, Refused}
+use Rattle.std.specs.Prelude.{Ok, Err}
+use Rattle.events.specs.Decoded.{Decoded}
+use Rattle.events.specs.declared.Event.TheVariants.{Read, Write, Pin, Clock, Polarity}
 use Rattle.events.specs.Word.{decode, InRange}
-use Rattle.events.proofs.Refusal.{decode_in_range}
+use Rattle.events.proofs.Refused.{decode_in_range}
 use Rattle.chip.specs.declared.Core.{Core}
 use Rattle.chip.specs.declared.Chip.{Chip}
 use Rattle.chip.specs.State.{chip_of, register_at, keep, with_reset, with_watchdog}
@@ -36,8 +37,8 @@ use Rattle.edid_feed_laws.proofs.Writes.{write_by}
 -- ---- clocks and polarity
 
 module _ (btcon : ℕ) (g : Core) {a b loaded written : Bool} {y r n : ℕ} {p : List Bool} {d : List ℕ} (k : ModeOf g a b) (t : Stage a b loaded n r p) (w : Pending written y d) where
-  watchdog_tracks : (z s : Bool) → permitted (seen g z s a b n loaded written) (Clock 3) ≡ true
-      → Tracks (clocked btcon (frame g z s y r n) 3) (observe (seen g z s a b n loaded written) (Clock 3)) p d
+  watchdog_tracks : (z s : Bool) → permitted (seen g z s a b n loaded written) (Ok (Clock 3)) ≡ true
+      → Tracks (clocked btcon (frame g z s y r n) 3) (observe (seen g z s a b n loaded written) (Ok (Clock 3))) p d
   unfolding clocked clocked_as watchdog_clock watchdog_fires watchdog_next cycle_next observe permitted
   watchdog_tracks false s h = tracks g false s k t w
   watchdog_tracks true s h =
@@ -50,8 +51,8 @@ module _ (btcon : ℕ) (g : Core) {a b loaded written : Bool} {y r n : ℕ} {p :
   other_tracks z s false true = tracks (timer_step g) z s k t w
   other_tracks z s false false = tracks g z s k t w
 
-  clock_tracks : (z s : Bool) (clock : ℕ) (watchdog : Bool) → eqb clock 3 ≡ watchdog → permitted (seen g z s a b n loaded written) (Clock clock) ≡ true
-      → Tracks (clocked btcon (frame g z s y r n) clock) (observe (seen g z s a b n loaded written) (Clock clock)) p d
+  clock_tracks : (z s : Bool) (clock : ℕ) (watchdog : Bool) → eqb clock 3 ≡ watchdog → permitted (seen g z s a b n loaded written) (Ok (Clock clock)) ≡ true
+      → Tracks (clocked btcon (frame g z s y r n) clock) (observe (seen g z s a b n loaded written) (Ok (Clock clock))) p d
   unfolding clocked clocked_as timer_clock observe
   clock_tracks z s clock true e h = rw (eqb-true clock 3 e) (watchdog_tracks z s (rw (eqb-true clock 3 e) at h))
   clock_tracks false s clock false e h = tracks g false s k t w
@@ -68,12 +69,12 @@ pub event_moved : (rs : List ℕ) (g : Core) (z s : Bool) {a m loaded fresh : Bo
     → (e : Decoded) → InRange e → permitted (seen g z s a m n loaded fresh) e ≡ true
     → After (core_after (chip_of rs (frame g z s y r n)) e) (seen g z s a m n loaded fresh) e p d
 unfolding core_after write_register pin_moved observe permitted
-event_moved rs g z s k t w (Read x) u h = kept (tracks g z s k t w)
-event_moved rs g z s k t w (Write x b) u h = write_by g z (is_writable x) s k t w x b u.1 h
-event_moved rs g z s k t w (Pin q l) u h = kind_moved g z s k t w (numbered q) l h
-event_moved rs g z s k t w (Clock c) u h = kept (clock_tracks (register_at rs BTCON) g k t w z s c (eqb c 3) refl h)
-event_moved rs g z s k t w (Polarity v l) u h = kept (polarity_tracks (register_at rs BTCON) g k t w z s v l)
-event_moved rs g z s k t w (Refused c) u h = kept (tracks g z s k t w)
+event_moved rs g z s k t w (Ok (Read x)) u h = kept (tracks g z s k t w)
+event_moved rs g z s k t w (Ok (Write x b)) u h = write_by g z (is_writable x) s k t w x b u.1 h
+event_moved rs g z s k t w (Ok (Pin q l)) u h = kind_moved g z s k t w (numbered q) l h
+event_moved rs g z s k t w (Ok (Clock c)) u h = kept (clock_tracks (register_at rs BTCON) g k t w z s c (eqb c 3) refl h)
+event_moved rs g z s k t w (Ok (Polarity v l)) u h = kept (polarity_tracks (register_at rs BTCON) g k t w z s v l)
+event_moved rs g z s k t w (Err r) u h = kept (tracks g z s k t w)
 
 -- ---- DDC2B stays, and no rise of VSYNCI shifts
 
@@ -110,13 +111,13 @@ ddc2b_write true true s u n w loaded fresh x b h = ddc2b_written s u n w loaded 
 
 ddc2b_stays : {o : Observer} → Ddc2bBy o → (e : Decoded) → permitted o e ≡ true → Ddc2bBy (observe o e) × (shows o e ≡ false)
 unfolding observe permitted
-ddc2b_stays (ddc2b_by z s v n w loaded fresh) (Read x) h = (ddc2b_by z s v n w loaded fresh, refl)
-ddc2b_stays (ddc2b_by z s v n w loaded fresh) (Write x b) h =
+ddc2b_stays (ddc2b_by z s v n w loaded fresh) (Ok (Read x)) h = (ddc2b_by z s v n w loaded fresh, refl)
+ddc2b_stays (ddc2b_by z s v n w loaded fresh) (Ok (Write x b)) h =
     (ddc2b_write z (is_writable x) s v n w loaded fresh x b h, refl)
-ddc2b_stays (ddc2b_by z s v n w loaded fresh) (Pin q l) h = (ddc2b_by _ _ _ _ w _ _, never_shows (eqb q 27) z (not v && l) _)
-ddc2b_stays (ddc2b_by z s v n w loaded fresh) (Clock c) h = (ddc2b_by z s v n _ loaded fresh, refl)
-ddc2b_stays (ddc2b_by z s v n w loaded fresh) (Polarity x l) h = (ddc2b_by z s v n w loaded fresh, refl)
-ddc2b_stays (ddc2b_by z s v n w loaded fresh) (Refused c) h = (ddc2b_by z s v n w loaded fresh, refl)
+ddc2b_stays (ddc2b_by z s v n w loaded fresh) (Ok (Pin q l)) h = (ddc2b_by _ _ _ _ w _ _, never_shows (eqb q 27) z (not v && l) _)
+ddc2b_stays (ddc2b_by z s v n w loaded fresh) (Ok (Clock c)) h = (ddc2b_by z s v n _ loaded fresh, refl)
+ddc2b_stays (ddc2b_by z s v n w loaded fresh) (Ok (Polarity x l)) h = (ddc2b_by z s v n w loaded fresh, refl)
+ddc2b_stays (ddc2b_by z s v n w loaded fresh) (Err r) h = (ddc2b_by z s v n w loaded fresh, refl)
 
 -- ---- a list of words
 

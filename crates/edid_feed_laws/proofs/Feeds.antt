@@ -14,8 +14,9 @@ use Rattle.bits.specs.Byte.{pick, bit}
 use Rattle.bits.proofs.Finite.{both}
 use Rattle.registers.specs.Names.{IIDAT, ENDDC}
 use Rattle.registers.specs.Table.{is_writable, row_of, table, reset_value}
-use Rattle.events.specs.declared.Decoded.{Decoded}
-use Rattle.events.specs.declared.Decoded.TheVariants.{Write, Pin}
+use Rattle.std.specs.Prelude.{Ok}
+use Rattle.events.specs.Decoded.{Decoded}
+use Rattle.events.specs.declared.Event.TheVariants.{Write, Pin}
 use Rattle.events.specs.Word.{decode, event, no_event, no_place, bad_byte, event_word}
 use Rattle.events.proofs.EventWord.{decode_encode}
 use Rattle.chip.specs.declared.Chip.{Chip}
@@ -99,7 +100,7 @@ clear_sends s v w loaded = record { fits = refl; writes = refl; puts = λ c. ref
 write_sends : (s v : Bool) (w : ℕ) (loaded : Bool) (b : ℕ) → b < 256 → Sends (ready s v w loaded) (event_word 2 IIDAT b ∷ []) (b ∷ []) 0 (full s v w loaded)
 unfolding observe permitted is_writable row_of table
 write_sends s v w loaded b h =
-    word_sends (ready s v w loaded) (event_word 2 IIDAT b) (Write IIDAT b) (decode_encode (Write IIDAT b) (omega arith, h)) refl refl
+    word_sends (ready s v w loaded) (event_word 2 IIDAT b) (Ok (Write IIDAT b)) (decode_encode (Ok (Write IIDAT b)) (omega arith, h)) refl refl
 
 byte_sends : (s v : Bool) (w : ℕ) (loaded : Bool) (b : ℕ) → b < 256 → Sends (ready s v w loaded) (sending b) (b ∷ []) 9 (ready s true 0 true)
 unfolding sending

@@ -11,8 +11,9 @@ use lib.Bits.{bit_or}
 use borrow.Author.Tests.{ne_eqb}
 use Rattle.bits.specs.Byte.{pick, bit, weight, weight_if}
 use Rattle.registers.specs.Names.{INTV, INTD}
-use Rattle.events.specs.declared.Decoded.{Decoded}
-use Rattle.events.specs.declared.Decoded.TheVariants.{Pin}
+use Rattle.std.specs.Prelude.{Ok}
+use Rattle.events.specs.Decoded.{Decoded}
+use Rattle.events.specs.declared.Event.TheVariants.{Pin}
 use Rattle.bus.specs.declared.Mode.{Mode}
 use Rattle.bus.specs.declared.Phase.{Phase}
 use Rattle.bus.specs.declared.Phase.TheVariants.{Idle}
@@ -56,8 +57,8 @@ module _ (g : Core) {a b loaded written : Bool} {y r n : ℕ} {p : List Bool} {d
   unfolding scl_moved scl_pulled on_scl
   scl_to s l h = rw (scl_free_lem (off_or_ddc1 k t) Idle, scl_unmoved (off_or_ddc1 k t) s l h) (kept (tracks g true l k t w))
 
-  scl_moved_lem : (z s l : Bool) → permitted (seen g z s a b n loaded written) (Pin 25 l) ≡ true
-      → Moved (scl_moved (frame g z s y r n) l) (observe (seen g z s a b n loaded written) (Pin 25 l)) [] [] p d
+  scl_moved_lem : (z s l : Bool) → permitted (seen g z s a b n loaded written) (Ok (Pin 25 l)) ≡ true
+      → Moved (scl_moved (frame g z s y r n) l) (observe (seen g z s a b n loaded written) (Ok (Pin 25 l))) [] [] p d
   unfolding scl_moved on_scl observe permitted
   scl_moved_lem false s l h = kept (tracks g false l k t w)
   scl_moved_lem true true true h = scl_to true true refl
@@ -69,8 +70,8 @@ module _ (g : Core) {a b loaded written : Bool} {y r n : ℕ} {p : List Bool} {d
   sda_moved_lem false s l = kept (tracks (with_sda g l) false s k t w)
   sda_moved_lem true s l = rw (sda_unmoved (off_or_ddc1 k t)) (kept (tracks (with_sda g l) true s k t w))
 
-  reset_moved_lem : (z s l : Bool) → permitted (seen g z s a b n loaded written) (Pin 28 l) ≡ true
-      → Moved (reset_moved (frame g z s y r n) l) (observe (seen g z s a b n loaded written) (Pin 28 l)) [] [] p d
+  reset_moved_lem : (z s l : Bool) → permitted (seen g z s a b n loaded written) (Ok (Pin 28 l)) ≡ true
+      → Moved (reset_moved (frame g z s y r n) l) (observe (seen g z s a b n loaded written) (Ok (Pin 28 l))) [] [] p d
   unfolding reset_moved on_reset observe permitted
   reset_moved_lem true s true h = kept (tracks g true s k t w)
   reset_moved_lem true s false h = absurd (true≢false (sym h))
@@ -103,10 +104,10 @@ vsync_to g s y r n v l = pick (not v && l) (vsync_rise (vsync_level (frame g tru
 
 -- what the observer says of it
 abbrev Followed : Core → Observer → Bool → List Bool → List ℕ → Type 0
-Followed c o l p d = Moved c (observe o (Pin 27 l)) (pick (shows o (Pin 27 l)) (level (eqb o.left 0) (sda_put c) ∷ []) []) [] p d
+Followed c o l p d = Moved c (observe o (Ok (Pin 27 l))) (pick (shows o (Ok (Pin 27 l))) (level (eqb o.left 0) (sda_put c) ∷ []) []) [] p d
 
 rise_moved : (g : Core) (s : Bool) {a b loaded written : Bool} {y r n : ℕ} {p : List Bool} {d : List ℕ} → ModeOf g a b → Stage a b loaded n r p → Pending written y d
-    → permitted (observer true s false a b n (watchdog_of g) loaded written) (Pin 27 true) ≡ true
+    → permitted (observer true s false a b n (watchdog_of g) loaded written) (Ok (Pin 27 true)) ≡ true
     → Followed (vsync_to g s y r n false true) (observer true s false a b n (watchdog_of g) loaded written) true p d
 unfolding vsync_rise bus_at_vsync loads_at_vsync loads_at_rise shifter_at_rise sda_pulled observe permitted
 rise_moved g s k (turned_off_lem md n r) w h = rw (off_mode k) (kept (tracks (risen g false true) true s k (turned_off_lem md n r) w))
@@ -123,7 +124,7 @@ rise_moved g s k (sending r (x ∷ p) e) w h =
 
 -- a rise, or none
 vsync_by : (g : Core) (s v l : Bool) {a b loaded written : Bool} {y r n : ℕ} {p : List Bool} {d : List ℕ} → ModeOf g a b → Stage a b loaded n r p → Pending written y d
-    → permitted (observer true s v a b n (watchdog_of g) loaded written) (Pin 27 l) ≡ true
+    → permitted (observer true s v a b n (watchdog_of g) loaded written) (Ok (Pin 27 l)) ≡ true
     → Followed (vsync_to g s y r n v l) (observer true s v a b n (watchdog_of g) loaded written) l p d
 unfolding observe
 vsync_by g s false true k t w h = rise_moved g s k t w h
@@ -131,7 +132,7 @@ vsync_by g s false false k t w h = kept (tracks (vsync_level g false) true s k t
 vsync_by g s true l k t w h = kept (tracks (vsync_level g l) true s k t w)
 
 vsync_moved_lem : (g : Core) (z s l : Bool) {a b loaded written : Bool} {y r n : ℕ} {p : List Bool} {d : List ℕ} → ModeOf g a b → Stage a b loaded n r p → Pending written y d
-    → permitted (seen g z s a b n loaded written) (Pin 27 l) ≡ true
+    → permitted (seen g z s a b n loaded written) (Ok (Pin 27 l)) ≡ true
     → Followed (vsync_moved (frame g z s y r n) l) (seen g z s a b n loaded written) l p d
 unfolding vsync_moved observe
 vsync_moved_lem g false s l k t w h = kept (tracks (vsync_level g l) false s k t w)
@@ -142,14 +143,14 @@ vsync_moved_lem g true s l k t w h = vsync_by g s (vsynci_of g) l k t w h
 abbrev pub After : Core → Observer → Decoded → List Bool → List ℕ → Type 0
 After c o e p d = Moved c (observe o e) (pick (shows o e) (level (eqb o.left 0) (sda_put c) ∷ []) []) (byte_written o e) p d
 
-unnamed : {c : Core} {o : Observer} {q : ℕ} (l : Bool) {p : List Bool} {d : List ℕ} → Unnamed q → Tracks c o p d → After c o (Pin q l) p d
+unnamed : {c : Core} {o : Observer} {q : ℕ} (l : Bool) {p : List Bool} {d : List ℕ} → Unnamed q → Tracks c o p d → After c o (Ok (Pin q l)) p d
 unfolding observe
 unnamed l u f = rw (u.scl, u.vsynci, u.reset) (kept f)
 
 pub kind_moved : (g : Core) (z s : Bool) {a b loaded written : Bool} {y r n : ℕ} {p : List Bool} {d : List ℕ} → ModeOf g a b → Stage a b loaded n r p → Pending written y d
     → {kind : PinKind} {q : ℕ} → Numbered kind q → (l : Bool)
-    → permitted (seen g z s a b n loaded written) (Pin q l) ≡ true
-    → After (pin_moved_as kind (frame g z s y r n) q l) (seen g z s a b n loaded written) (Pin q l) p d
+    → permitted (seen g z s a b n loaded written) (Ok (Pin q l)) ≡ true
+    → After (pin_moved_as kind (frame g z s y r n) q l) (seen g z s a b n loaded written) (Ok (Pin q l)) p d
 unfolding pin_moved_as port0_moved port1_moved port2_moved p16_moved hsync_moved observe permitted
 kind_moved g z s k t w {q = q} (port0_pin u high) l h = unnamed l u (tracks (port0_moved g q l) z s k t w)
 kind_moved g z s k t w {q = q} (port1_pin u low high) l h = unnamed l u (tracks (port1_moved g q l) z s k t w)

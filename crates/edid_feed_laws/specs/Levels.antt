@@ -3,7 +3,7 @@ use Rattle.std.specs.Prelude.{ℕ, ◌-◌, ◌<◌, ◌≡◌, List, [], ◌∷
 use Rattle.bits.specs.Byte.{pick, bit}
 use Rattle.registers.specs.Names.{IIDAT}
 use Rattle.events.specs.Pins as pin
-use Rattle.events.specs.declared.Decoded.{Decoded}
+use Rattle.events.specs.Decoded.{Decoded}
 use Rattle.events.specs.Kinds.{on_write, on_pin}
 use Rattle.events.specs.Word.{decode}
 use Rattle.bus.specs.Bus.{line, sda_pulled}

@@ -1,14 +1,14 @@
 -- Bytes fed through DDC1 (document 02, Wish 7): what is presumed of a list of words. An observer follows words, outside levels,
 -- the mode, the rises left before the next load and the watchdog's clocks; it looks neither at II DAT nor at the shift register.
-use Rattle.std.specs.Prelude.{ℕ, ◌+◌, ◌-◌, List, [], ◌∷◌, ◌++◌, Bool, true, false, not, ◌&&◌, ◌||◌, eqb, ltb}
+use Rattle.std.specs.Prelude.{ℕ, ◌+◌, ◌-◌, List, [], ◌∷◌, ◌++◌, Bool, true, false, not, ◌&&◌, ◌||◌, eqb, ltb, Ok, Err}
 use Rattle.std.specs.Bool.{beq}
 use Rattle.bits.specs.Byte.{pick, bit}
 use Rattle.registers.specs.Names.{MDCON, CLRWDT, IIDAT, IISTS, MD12, ENDDC}
 use Rattle.registers.specs.Table.{is_writable}
 use Rattle.events.specs.Pins as pin
 use Rattle.events.specs.Clocks as clock
-use Rattle.events.specs.declared.Decoded.{Decoded}
-use Rattle.events.specs.declared.Decoded.TheVariants.{Read, Write, Pin, Clock, Polarity, Refused}
+use Rattle.events.specs.Decoded.{Decoded}
+use Rattle.events.specs.declared.Event.TheVariants.{Read, Write, Pin, Clock, Polarity}
 use Rattle.events.specs.Word.{decode}
 use Rattle.chip.specs.declared.Core.{Core}
 use Rattle.chip.specs.declared.Chip.{Chip}
@@ -134,12 +134,12 @@ observe_clock o k =
     }
 
 unfoldable pub observe : Observer → Decoded → Observer
-observe o (Read a) = o
-observe o (Write a b) = observe_write o a b
-observe o (Pin p level) = observe_pin o p level
-observe o (Clock k) = observe_clock o k
-observe o (Polarity vertical level) = o
-observe o (Refused n) = o
+observe o (Ok (Read a)) = o
+observe o (Ok (Write a b)) = observe_write o a b
+observe o (Ok (Pin p level)) = observe_pin o p level
+observe o (Ok (Clock k)) = observe_clock o k
+observe o (Ok (Polarity vertical level)) = o
+observe o (Err r) = o
 
 -- the observer after a list
 abbrev pub observed : Observer → List ℕ → Observer
@@ -182,12 +182,12 @@ watchdog_expires o k = o.reset && (eqb k clock.watchdog && not (ltb o.watchdog 6
 
 -- what each event of a list must keep to
 unfoldable pub permitted : Observer → Decoded → Bool
-permitted o (Read a) = true
-permitted o (Write a b) = not (accepted o a && forbidden_write o a b)
-permitted o (Pin p level) = not (scl_falls o p level) && (not (reset_falls o p level) && not (loads_nothing o p level))
-permitted o (Clock k) = not (watchdog_expires o k)
-permitted o (Polarity vertical level) = true
-permitted o (Refused n) = true
+permitted o (Ok (Read a)) = true
+permitted o (Ok (Write a b)) = not (accepted o a && forbidden_write o a b)
+permitted o (Ok (Pin p level)) = not (scl_falls o p level) && (not (reset_falls o p level) && not (loads_nothing o p level))
+permitted o (Ok (Clock k)) = not (watchdog_expires o k)
+permitted o (Ok (Polarity vertical level)) = true
+permitted o (Err r) = true
 
 -- every word of a list keeps to it
 abbrev pub throughout : Observer → List ℕ → Bool

@@ -8,9 +8,13 @@ use borrow.Author.Tests.{ltb-false, le-ltb, eqb-true, eqb-false}
 use Rattle.bits.specs.Byte.{num}
 use Rattle.bits.proofs.Mask.{num_lt}
 use Rattle.bits.proofs.Level.{pick_by, eqb_num, num_eqb}
-use Rattle.events.proofs.Refusal.{pin_lt, decode_in_range, number_is}
-use Rattle.events.specs.declared.Decoded.{Decoded}
-use Rattle.events.specs.declared.Decoded.TheVariants.{Read, Write, Pin, Clock, Polarity, Refused}
+use Rattle.events.proofs.Refused.{pin_lt, decode_in_range, number_is}
+use Rattle.std.specs.Prelude.{Ok, Err}
+use Rattle.events.specs.Decoded.{Decoded}
+use Rattle.events.specs.declared.Event.{Event}
+use Rattle.events.specs.declared.Refusal.{Refusal}
+use Rattle.events.specs.declared.Refusal.TheVariants.{NoEvent, NoPlace, BadByte}
+use Rattle.events.specs.declared.Event.TheVariants.{Read, Write, Pin, Clock, Polarity}
 use Rattle.events.specs.Word.{kind, reserved, field_a, field_b, event_word, refused_word, event, no_event, no_place, bad_byte, DecodedCase}
 use Rattle.events.specs.Word.{decode, encode, number_of, kind_of, InRange}
 
@@ -28,38 +32,36 @@ module _ (k a b : ℕ) (ha : a < 256) (hb : b < 256) where
   field_b_is : field_b (event_word k a b) ≡ b
   field_b_is = omega arith
 
-decode_refused : (n : ℕ) → (0 < n) × (n < 4) → decode (refused_word n) ≡ Refused n
+decode_refused : (r : Refusal) → decode (refused_word r) ≡ Err r
 unfolding decode no_event no_place bad_byte event
-decode_refused n h =
-    let P : ℕ → Type 0 = λ (w : ℕ). decode w ≡ Refused n in
-    pick_by P (eqb n 2) (λ e. ap Refused (sym (eqb-true n 2 e)))
-    (λ two. pick_by P (eqb n 3) (λ e. ap Refused (sym (eqb-true n 3 e)))
-    (λ three. let one : 1 ≡ n = omega (arith, eqb-false n 2 two, eqb-false n 3 three) in ap Refused one))
+decode_refused NoEvent = refl
+decode_refused NoPlace = refl
+decode_refused BadByte = refl
 
 pub decode_encode : (e : Decoded) → InRange e → decode (encode e) ≡ e
 unfolding decode no_event no_place bad_byte event
-decode_encode (Read a) h =
+decode_encode (Ok (Read a)) h =
     let ha : a < 256 = omega arith in
     let hb : 0 < 256 = omega arith in
     rw (kind_is 1 a 0, reserved_is 1 a 0, field_a_is 1 a 0, field_b_is 1 a 0, le-ltb 0x25 a (omega arith))
-decode_encode (Write a b) h =
+decode_encode (Ok (Write a b)) h =
     let ha : a < 256 = omega arith in
     let hb : b < 256 = h.1 in
     rw (kind_is 2 a b, reserved_is 2 a b, field_a_is 2 a b, field_b_is 2 a b, le-ltb 0x25 a (omega arith))
-decode_encode (Pin a level) h =
+decode_encode (Ok (Pin a level)) h =
     let v : ℕ = num level in
     let ha : a < 256 = omega (arith, pin_lt a h) in
     let hb : v < 256 = omega (arith, num_lt level) in
     rw (kind_is 3 a v, reserved_is 3 a v, field_a_is 3 a v, field_b_is 3 a v, h, le-ltb 1 v (omega (arith, num_lt level)), eqb_num level)
-decode_encode (Clock a) h =
+decode_encode (Ok (Clock a)) h =
     let ha : a < 256 = omega arith in
     let hb : 0 < 256 = omega arith in
     rw (kind_is 4 a 0, reserved_is 4 a 0, field_a_is 4 a 0, field_b_is 4 a 0, le-ltb 3 a (omega arith))
-decode_encode (Polarity true true) h = refl
-decode_encode (Polarity true false) h = refl
-decode_encode (Polarity false true) h = refl
-decode_encode (Polarity false false) h = refl
-decode_encode (Refused number) h = decode_refused number h
+decode_encode (Ok (Polarity true true)) h = refl
+decode_encode (Ok (Polarity true false)) h = refl
+decode_encode (Ok (Polarity false true)) h = refl
+decode_encode (Ok (Polarity false false)) h = refl
+decode_encode (Err r) h = decode_refused r
 
 none_of : (x y z : Bool) → (x || (y || z)) ≡ false → (x ≡ false) × (y ≡ false) × (z ≡ false)
 none_of false false false h = (refl, refl, refl)
@@ -69,10 +71,10 @@ none_of true y z h = (cc, cc, cc)
 
 -- where no number applies: the kind is one of five and bits 23..16 are 0 by number 1, the values are the table's by numbers 2 and 3
 module _ (w : ℕ) (s : no_event w ≡ false) (t : no_place w ≡ false) (u : bad_byte w ≡ false) where
-  encode_event : encode (event w) ≡ w
+  encode_event : encode (Ok (event w)) ≡ w
   unfolding event no_event no_place bad_byte
   encode_event =
-      let P : Decoded → Type 0 = λ (e : Decoded). encode e ≡ w in
+      let P : Event → Type 0 = λ (e : Event). encode (Ok e) ≡ w in
       let none : (ltb (kind w) 1 ≡ false) × (ltb 5 (kind w) ≡ false) × (ltb 0 (reserved w) ≡ false) =
       none_of (ltb (kind w) 1) (ltb 5 (kind w)) (ltb 0 (reserved w)) s in
       let least : 1 ≤ kind w = ltb-false (kind w) 1 none.0 in
@@ -102,12 +104,12 @@ encode_decode w =
 
 -- an event's kind is that of its word; with `encode-decode`, a decoded event has the kind of the word
 kind_of_word : (e : Decoded) → InRange e → number_of e ≡ 0 → kind (encode e) ≡ kind_of e
-kind_of_word (Read a) h z = omega arith
-kind_of_word (Write a b) h z = omega arith
-kind_of_word (Pin a level) h z = omega (arith, pin_lt a h, num_lt level)
-kind_of_word (Clock a) h z = omega arith
-kind_of_word (Polarity vertical level) h z = omega (arith, num_lt vertical, num_lt level)
-kind_of_word (Refused number) h z = omega arith
+kind_of_word (Ok (Read a)) h z = omega arith
+kind_of_word (Ok (Write a b)) h z = omega arith
+kind_of_word (Ok (Pin a level)) h z = omega (arith, pin_lt a h, num_lt level)
+kind_of_word (Ok (Clock a)) h z = omega arith
+kind_of_word (Ok (Polarity vertical level)) h z = omega (arith, num_lt vertical, num_lt level)
+kind_of_word (Err r) h z = omega arith
 
 pub kind_of_decode : (w : ℕ) → number_of (decode w) ≡ 0 → kind_of (decode w) ≡ kind w
 kind_of_decode w z = sym (kind_of_word (decode w) (decode_in_range w) z) ∙ ap kind (encode_decode w z)

@@ -1,3 +1,3 @@
-pub mod Refusal
+pub mod Refused
 pub mod EventWord
 pub mod Worked

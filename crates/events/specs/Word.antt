@@ -1,8 +1,11 @@
 -- Event words, and the numbers 1 to 3 that refuse a word (document 01, "Event words" and "Numbers given back").
-use Rattle.std.specs.Prelude.{ℕ, ◌+◌, ◌*◌, ◌/◌, ◌%◌, ◌<◌, Bool, true, false, not, ◌&&◌, ◌||◌, ◌≡◌, eqb, ltb}
+use Rattle.std.specs.Prelude.{ℕ, ◌+◌, ◌*◌, ◌/◌, ◌%◌, ◌<◌, Bool, true, false, not, ◌&&◌, ◌||◌, ◌≡◌, eqb, ltb, Ok, Err}
 use Rattle.bits.specs.Byte.{pick, num}
-use Rattle.events.specs.declared.Decoded.{Decoded}
-use Rattle.events.specs.declared.Decoded.TheVariants.{Read, Write, Pin, Clock, Polarity, Refused}
+use Rattle.events.specs.Decoded.{Decoded}
+use Rattle.events.specs.declared.Event.{Event}
+use Rattle.events.specs.declared.Refusal.{Refusal}
+use Rattle.events.specs.declared.Event.TheVariants.{Read, Write, Pin, Clock, Polarity}
+use Rattle.events.specs.declared.Refusal.TheVariants.{NoEvent, NoPlace, BadByte}
 
 -- "Event words": bits 31..24 of a word
 abbrev pub kind : ℕ → ℕ
@@ -21,7 +24,7 @@ abbrev pub field_b : ℕ → ℕ
 field_b word = word % 256
 
 -- "Event words", the table: the event of each kind; a level is B 1, and a polarity with A 1 is the vertical one
-unfoldable pub event : ℕ → Decoded
+unfoldable pub event : ℕ → Event
 event word =
     pick (eqb (kind word) 1) (Read (field_a word))
     (pick (eqb (kind word) 2) (Write (field_a word) (field_b word))
@@ -31,12 +34,12 @@ event word =
 
 -- "Event words", the table: the kind of each case; a refused word has none, told by 0
 abbrev pub kind_of : Decoded → ℕ
-kind_of (Read a) = 1
-kind_of (Write a b) = 2
-kind_of (Pin a level) = 3
-kind_of (Clock a) = 4
-kind_of (Polarity vertical level) = 5
-kind_of (Refused number) = 0
+kind_of (Ok (Read a)) = 1
+kind_of (Ok (Write a b)) = 2
+kind_of (Ok (Pin a level)) = 3
+kind_of (Ok (Clock a)) = 4
+kind_of (Ok (Polarity vertical level)) = 5
+kind_of (Err r) = 0
 
 -- "Event words", pins: 0 to 14 and 16 to 28
 abbrev pub is_pin : ℕ → Bool
@@ -67,42 +70,50 @@ bad_byte word =
 -- "Numbers given back": the first number that applies refuses a word, else it is the event of its kind
 unfoldable pub decode : ℕ → Decoded
 decode word =
-    pick (no_event word) (Refused 1) (pick (no_place word) (Refused 2) (pick (bad_byte word) (Refused 3) (event word)))
+    pick (no_event word) (Err NoEvent) (pick (no_place word) (Err NoPlace) (pick (bad_byte word) (Err BadByte) (Ok (event word))))
+
+-- "Numbers given back", 1 to 3: the number of each refusal
+abbrev pub refusal_number : Refusal → ℕ
+refusal_number NoEvent = 1
+refusal_number NoPlace = 2
+refusal_number BadByte = 3
 
 -- "Numbers given back": the number of each case; an event is not refused
 abbrev pub number_of : Decoded → ℕ
-number_of (Read a) = 0
-number_of (Write a b) = 0
-number_of (Pin a level) = 0
-number_of (Clock a) = 0
-number_of (Polarity vertical level) = 0
-number_of (Refused number) = number
+number_of (Ok (Read a)) = 0
+number_of (Ok (Write a b)) = 0
+number_of (Ok (Pin a level)) = 0
+number_of (Ok (Clock a)) = 0
+number_of (Ok (Polarity vertical level)) = 0
+number_of (Err r) = refusal_number r
 
 -- "Event words" and "Numbers given back": the values of columns A and B, and the three numbers
 abbrev pub InRange : Decoded → Type 0
-InRange (Read a) = a < 38
-InRange (Write a b) = (a < 38) × (b < 256)
-InRange (Pin a level) = is_pin a ≡ true
-InRange (Clock a) = a < 4
-InRange (Polarity vertical level) = Unit
-InRange (Refused number) = (0 < number) × (number < 4)
+InRange (Ok (Read a)) = a < 38
+InRange (Ok (Write a b)) = (a < 38) × (b < 256)
+InRange (Ok (Pin a level)) = is_pin a ≡ true
+InRange (Ok (Clock a)) = a < 4
+InRange (Ok (Polarity vertical level)) = Unit
+InRange (Err r) = (0 < refusal_number r) × (refusal_number r < 4)
 
 -- "Event words": the word with these fields and zero in bits 23..16
 abbrev pub event_word : ℕ → ℕ → ℕ → ℕ
 event_word kind a b = kind * 16777216 + a * 256 + b
 
--- "Numbers given back": a word that each number refuses: of kind 0, a read of 26H, a read with B 1
-abbrev pub refused_word : ℕ → ℕ
-refused_word number = pick (eqb number 2) (event_word 1 0x26 0) (pick (eqb number 3) (event_word 1 0 1) 0)
+-- "Numbers given back": a word of each refusal: of kind 0, a read of 26H, a read with B 1
+abbrev pub refused_word : Refusal → ℕ
+refused_word NoEvent = 0
+refused_word NoPlace = event_word 1 0x26 0
+refused_word BadByte = event_word 1 0 1
 
 -- "Event words", the table: the kind and the values of each case, as its word; for a refusal, a word that it refuses
 abbrev pub encode : Decoded → ℕ
-encode (Read a) = event_word 1 a 0
-encode (Write a b) = event_word 2 a b
-encode (Pin a level) = event_word 3 a (num level)
-encode (Clock a) = event_word 4 a 0
-encode (Polarity vertical level) = event_word 5 (num vertical) (num level)
-encode (Refused number) = refused_word number
+encode (Ok (Read a)) = event_word 1 a 0
+encode (Ok (Write a b)) = event_word 2 a b
+encode (Ok (Pin a level)) = event_word 3 a (num level)
+encode (Ok (Clock a)) = event_word 4 a 0
+encode (Ok (Polarity vertical level)) = event_word 5 (num vertical) (num level)
+encode (Err r) = refused_word r
 
 -- "Numbers given back", 1 to 3 in their order, of a word
 abbrev pub refusal : ℕ → ℕ

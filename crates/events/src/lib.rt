@@ -3,7 +3,7 @@
 
 ghost use Rattle.std.specs.Prelude.{◌≡◌};
 ghost use Rattle.events.specs.Word.{decode as decode_of, encode as encode_of, event as event_of, is_pin, no_event, no_place, bad_byte};
-ghost use Rattle.events.specs.Word.{DecodedCase, refused_word, event_word};
+ghost use Rattle.events.specs.Word.{DecodedCase, refusal_number, refused_word, event_word};
 
 // Pins that a rule names, by their number.
 pub const P16: u8 = 14;
@@ -46,9 +46,8 @@ const VSYNCI_HIGH: u32 = 0x0300_1b01;
 
 const PERIOD_CLOCK: u32 = 0x0400_0000;
 
-// An event, or the number with which a word is refused.
 #[derive(Clone, Copy)]
-pub enum Decoded {
+pub enum Event {
     // a register
     Read(u8),
     // a register and a byte
@@ -59,7 +58,27 @@ pub enum Decoded {
     Clock(u8),
     // vertical or not, and the polarity found
     Polarity(bool, bool),
-    Refused(u8),
+}
+
+// Why a word is no event.
+#[derive(Clone, Copy)]
+pub enum Refusal {
+    NoEvent,
+    NoPlace,
+    BadByte,
+}
+
+impl Refusal {
+    // The number that an answer word gives for it.
+    pub fn number(self) -> u8
+        ensures { result ≡ refusal_number self }
+    {
+        match self {
+            Refusal::NoEvent => 1,
+            Refusal::NoPlace => 2,
+            Refusal::BadByte => 3,
+        }
+    }
 }
 
 // Pins 0 to 14 and 16 to 28.
@@ -107,52 +126,52 @@ fn bad_byte(word: u32) -> bool
 
 // The event of the word's kind, once no number refuses it.
 #[tactic(auto, unfolding(crate::specs::Word::event))]
-fn event(word: u32) -> Decoded
+fn by_kind(word: u32) -> Event
     ensures { result ≡ event_of word }
 {
     let [kind, _, a, b] = word.to_be_bytes();
     match kind {
-        1 => Decoded::Read(a),
-        2 => Decoded::Write(a, b),
-        3 => Decoded::Pin(a, b == 1),
-        4 => Decoded::Clock(a),
-        _ => Decoded::Polarity(a == 1, b == 1),
+        1 => Event::Read(a),
+        2 => Event::Write(a, b),
+        3 => Event::Pin(a, b == 1),
+        4 => Event::Clock(a),
+        _ => Event::Polarity(a == 1, b == 1),
     }
 }
 
 // The first number that applies refuses the word, else it is an event.
 #[tactic(auto, unfolding(crate::specs::Word::decode))]
-fn by_fields(word: u32) -> Decoded
+fn by_fields(word: u32) -> Result<Event, Refusal>
     ensures { result ≡ decode_of word }
 {
     if no_event(word) {
-        return Decoded::Refused(1);
+        return Err(Refusal::NoEvent);
     }
     if no_place(word) {
-        return Decoded::Refused(2);
+        return Err(Refusal::NoPlace);
     }
     if bad_byte(word) {
-        return Decoded::Refused(3);
+        return Err(Refusal::BadByte);
     }
-    event(word)
+    Ok(by_kind(word))
 }
 
-// A word's event, or the number that refuses it. The words of common events are met first, with their event as a constant, so that what
+// A word's event, or why it is refused. The words of common events are met first, with their event as a constant, so that what
 // takes it apart does not test it again.
 #[tactic(auto, unfolding(crate::specs::Word::decode, crate::specs::Word::no_event, crate::specs::Word::no_place, crate::specs::Word::bad_byte, crate::specs::Word::event))]
-pub fn decode(word: u32) -> Decoded
+pub fn decode(word: u32) -> Result<Event, Refusal>
     ensures { (result ≡ decode_of word) × DecodedCase word result }
 {
     match word {
-        SDA_LOW => Decoded::Pin(SDA, false),
-        SDA_HIGH => Decoded::Pin(SDA, true),
-        SCL_LOW => Decoded::Pin(SCL, false),
-        SCL_HIGH => Decoded::Pin(SCL, true),
-        HSYNCI_LOW => Decoded::Pin(HSYNCI, false),
-        HSYNCI_HIGH => Decoded::Pin(HSYNCI, true),
-        VSYNCI_LOW => Decoded::Pin(VSYNCI, false),
-        VSYNCI_HIGH => Decoded::Pin(VSYNCI, true),
-        PERIOD_CLOCK => Decoded::Clock(PERIOD),
+        SDA_LOW => Ok(Event::Pin(SDA, false)),
+        SDA_HIGH => Ok(Event::Pin(SDA, true)),
+        SCL_LOW => Ok(Event::Pin(SCL, false)),
+        SCL_HIGH => Ok(Event::Pin(SCL, true)),
+        HSYNCI_LOW => Ok(Event::Pin(HSYNCI, false)),
+        HSYNCI_HIGH => Ok(Event::Pin(HSYNCI, true)),
+        VSYNCI_LOW => Ok(Event::Pin(VSYNCI, false)),
+        VSYNCI_HIGH => Ok(Event::Pin(VSYNCI, true)),
+        PERIOD_CLOCK => Ok(Event::Clock(PERIOD)),
         _ => by_fields(word),
     }
 }
@@ -164,27 +183,27 @@ fn event_word(kind: u8, a: u8, b: u8) -> u32
     u32::from_be_bytes([kind, 0, a, b])
 }
 
-// A word that the number refuses.
-fn refused_word(number: u8) -> u32
-    ensures { result ≡ refused_word number }
+// A word that is refused so.
+fn refused_word(refusal: Refusal) -> u32
+    ensures { result ≡ refused_word refusal }
 {
-    match number {
-        2 => event_word(1, 0x26, 0),
-        3 => event_word(1, 0, 1),
-        _ => 0,
+    match refusal {
+        Refusal::NoEvent => 0,
+        Refusal::NoPlace => event_word(1, 0x26, 0),
+        Refusal::BadByte => event_word(1, 0, 1),
     }
 }
 
 // The word of an event; for a refusal, one of the words that it refuses.
-pub fn encode(event: Decoded) -> u32
+pub fn encode(event: Result<Event, Refusal>) -> u32
     ensures { result ≡ encode_of event }
 {
     match event {
-        Decoded::Read(a) => event_word(1, a, 0),
-        Decoded::Write(a, b) => event_word(2, a, b),
-        Decoded::Pin(a, level) => event_word(3, a, u8::from(level)),
-        Decoded::Clock(a) => event_word(4, a, 0),
-        Decoded::Polarity(vertical, level) => event_word(5, u8::from(vertical), u8::from(level)),
-        Decoded::Refused(number) => refused_word(number),
+        Ok(Event::Read(a)) => event_word(1, a, 0),
+        Ok(Event::Write(a, b)) => event_word(2, a, b),
+        Ok(Event::Pin(a, level)) => event_word(3, a, u8::from(level)),
+        Ok(Event::Clock(a)) => event_word(4, a, 0),
+        Ok(Event::Polarity(vertical, level)) => event_word(5, u8::from(vertical), u8::from(level)),
+        Err(refusal) => refused_word(refusal),
     }
 }

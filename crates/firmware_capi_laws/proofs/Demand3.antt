@@ -8,7 +8,7 @@ use lib.ListN.{length, length-set}
 use borrow.Author.Tests.{eq-eqb, ltb-true}
 use Rattle.bits.proofs.Finite.{both as both_true}
 use Rattle.registers.specs.Table.{resets}
-use Rattle.events.specs.declared.Decoded.{Decoded}
+use Rattle.events.specs.Decoded.{Decoded}
 use Rattle.bus.specs.declared.Mode.TheVariants.{Ddc2b}
 use Rattle.chip.specs.declared.Chip.{Chip}
 use Rattle.chip.specs.declared.Kept.{Kept}

@@ -10,10 +10,11 @@ use Rattle.bits.specs.Byte.{pick}
 use Rattle.bits.proofs.Finite.{both as both_true}
 use Rattle.registers.specs.Names.{CLRWDT, IIADR}
 use Rattle.registers.specs.Table.{is_writable}
+use Rattle.std.specs.Prelude.{Ok, Err}
 use Rattle.events.specs.Word.{decode}
 use Rattle.events.specs.Clocks as clock
-use Rattle.events.specs.declared.Decoded.{Decoded}
-use Rattle.events.specs.declared.Decoded.TheVariants.{Read, Write, Pin, Clock, Polarity, Refused}
+use Rattle.events.specs.Decoded.{Decoded}
+use Rattle.events.specs.declared.Event.TheVariants.{Read, Write, Pin, Clock, Polarity}
 use Rattle.isolation_laws.specs.Foreign as words
 use Rattle.isolation_laws.specs.Foreign.{Trace, Observer, observe, permitted, untouched, equal_at_high}
 
@@ -32,12 +33,12 @@ fewer true true k l g h =
 
 permitted_cleared : {o q : Observer} → Cleared o q → (e : Decoded) → permitted o e ≡ true → permitted q e ≡ true
 unfolding permitted
-permitted_cleared (cleared s c r own x k l g) (Read a) h = h
-permitted_cleared (cleared s c r own x k l g) (Write a b) h = h
-permitted_cleared (cleared s c r own x k l g) (Pin a b) h = h
-permitted_cleared (cleared s c r own x k l g) (Clock a) h = fewer r (eqb a clock.watchdog) k l g h
-permitted_cleared (cleared s c r own x k l g) (Polarity a b) h = h
-permitted_cleared (cleared s c r own x k l g) (Refused a) h = h
+permitted_cleared (cleared s c r own x k l g) (Ok (Read a)) h = h
+permitted_cleared (cleared s c r own x k l g) (Ok (Write a b)) h = h
+permitted_cleared (cleared s c r own x k l g) (Ok (Pin a b)) h = h
+permitted_cleared (cleared s c r own x k l g) (Ok (Clock a)) h = fewer r (eqb a clock.watchdog) k l g h
+permitted_cleared (cleared s c r own x k l g) (Ok (Polarity a b)) h = h
+permitted_cleared (cleared s c r own x k l g) (Err a) h = h
 
 zeroed_le : (b : Bool) (k l : ℕ) → l ≤ k → pick b 0 l ≤ pick b 0 k
 zeroed_le true k l g = omega arith
@@ -49,12 +50,12 @@ counted_le false k l g = g
 
 observe_cleared : {o q : Observer} → Cleared o q → (e : Decoded) → Cleared (observe o e) (observe q e)
 unfolding observe
-observe_cleared (cleared s c r own x k l g) (Read a) = cleared s c r own x k l g
-observe_cleared (cleared s c r own x k l g) (Write a b) = cleared _ _ _ _ _ _ _ (zeroed_le ((r && is_writable a) && (eqb a CLRWDT && eqb b 0x55)) k l g)
-observe_cleared (cleared s c r own x k l g) (Pin a b) = cleared _ _ _ _ _ _ _ g
-observe_cleared (cleared s c r own x k l g) (Clock a) = cleared _ _ _ _ _ _ _ (counted_le (r && eqb a clock.watchdog) k l g)
-observe_cleared (cleared s c r own x k l g) (Polarity a b) = cleared s c r own x k l g
-observe_cleared (cleared s c r own x k l g) (Refused a) = cleared s c r own x k l g
+observe_cleared (cleared s c r own x k l g) (Ok (Read a)) = cleared s c r own x k l g
+observe_cleared (cleared s c r own x k l g) (Ok (Write a b)) = cleared _ _ _ _ _ _ _ (zeroed_le ((r && is_writable a) && (eqb a CLRWDT && eqb b 0x55)) k l g)
+observe_cleared (cleared s c r own x k l g) (Ok (Pin a b)) = cleared _ _ _ _ _ _ _ g
+observe_cleared (cleared s c r own x k l g) (Ok (Clock a)) = cleared _ _ _ _ _ _ _ (counted_le (r && eqb a clock.watchdog) k l g)
+observe_cleared (cleared s c r own x k l g) (Ok (Polarity a b)) = cleared s c r own x k l g
+observe_cleared (cleared s c r own x k l g) (Err a) = cleared s c r own x k l g
 
 high_cleared : {o q p r : Observer} → Cleared o q → Cleared p r → (w v : ℕ) → equal_at_high o p w v ≡ true → equal_at_high q r w v ≡ true
 unfolding untouched
@@ -85,7 +86,7 @@ zero_le : (b : Bool) (k : ℕ) → pick b 0 k ≤ k
 zero_le true k = omega arith
 zero_le false k = omega arith
 
-pub write_cleared : (o : Observer) (a b : ℕ) → eqb a IIADR ≡ false → Cleared o (observe o (Write a b))
+pub write_cleared : (o : Observer) (a b : ℕ) → eqb a IIADR ≡ false → Cleared o (observe o (Ok (Write a b)))
 unfolding observe
 write_cleared o a b h =
     rw (h, own_kept (o.reset && is_writable a) o.own b)

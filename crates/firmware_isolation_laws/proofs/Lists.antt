@@ -8,8 +8,9 @@ use lib.Dec.{eqb, ltb}
 use borrow.Author.Tests.{eqb-true, not-true}
 use Rattle.bits.specs.Byte.{pick}
 use Rattle.bits.proofs.Finite.{both as both_true}
-use Rattle.events.specs.declared.Decoded.{Decoded}
-use Rattle.events.specs.declared.Decoded.TheVariants.{Write}
+use Rattle.std.specs.Prelude.{Ok}
+use Rattle.events.specs.Decoded.{Decoded}
+use Rattle.events.specs.declared.Event.TheVariants.{Write}
 use Rattle.events.specs.Word.{decode}
 use Rattle.chip.specs.declared.Chip.{Chip}
 use Rattle.chip_events.specs.Outcome.{was_reset}
@@ -35,15 +36,15 @@ unfolding permitted observe
 left_permitted [] s o h = (refl, h)
 left_permitted (read_at x l ∷ a) s o h = left_permitted a s o h
 left_permitted (write_at x b ∷ a) s o h =
-    let z = both_true (permitted o (Write x b)) _ h in
-    let r = left_permitted a s (observe o (Write x b)) z.1 in
+    let z = both_true (permitted o (Ok (Write x b))) _ h in
+    let r = left_permitted a s (observe o (Ok (Write x b))) z.1 in
     (rw z.0 r.0, r.1)
 
 pub right_listed : (a : List Access) (s : List Entry) (o : Observer) → throughout may_be_listed o (entries a ++ s) ≡ true → throughout may_be_listed (watch o a) s ≡ true
 unfolding observe
 right_listed [] s o h = h
 right_listed (read_at x l ∷ a) s o h = right_listed a s o h
-right_listed (write_at x b ∷ a) s o h = right_listed a s (observe o (Write x b)) h
+right_listed (write_at x b ∷ a) s o h = right_listed a s (observe o (Ok (Write x b))) h
 
 pub left_unread : (a : List Access) (s : List Entry) (o : Observer) → throughout leaves_data o (entries a ++ s) ≡ true → Unread 20 a × (throughout leaves_data (watch o a) s ≡ true)
 unfolding observe
@@ -52,13 +53,13 @@ left_unread (read_at x l ∷ a) s o h =
     let z = both_true (not (eqb x 20)) _ h in
     let r = left_unread a s o z.1 in
     ((not-true (eqb x 20) z.0, r.0), r.1)
-left_unread (write_at x b ∷ a) s o h = left_unread a s (observe o (Write x b)) h
+left_unread (write_at x b ∷ a) s o h = left_unread a s (observe o (Ok (Write x b))) h
 
 pub both_equal : (a : List Access) (s t : List Entry) (o p : Observer) → equal_throughout o p (entries a ++ s) (entries a ++ t) ≡ true → equal_throughout (watch o a) (watch p a) s t ≡ true
 unfolding observe
 both_equal [] s t o p h = h
 both_equal (read_at x l ∷ a) s t o p h = both_equal a s t o p h
-both_equal (write_at x b ∷ a) s t o p h = both_equal a s t (observe o (Write x b)) (observe p (Write x b)) h
+both_equal (write_at x b ∷ a) s t o p h = both_equal a s t (observe o (Ok (Write x b))) (observe p (Ok (Write x b))) h
 
 pub events_behind : (a : List Access) (s : List Entry) → events_of (entries a ++ s) ≡ events_of s
 events_behind [] s = refl

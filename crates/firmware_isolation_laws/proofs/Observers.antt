@@ -8,7 +8,8 @@ use lib.Dec.{eqb, ltb}
 use borrow.Author.Tests.{ltb-false, ne_eqb}
 use Rattle.bits.specs.Byte.{pick}
 use Rattle.bits.proofs.Finite.{both}
-use Rattle.events.specs.declared.Decoded.TheVariants.{Write, Clock}
+use Rattle.std.specs.Prelude.{Ok}
+use Rattle.events.specs.declared.Event.TheVariants.{Write, Clock}
 use Rattle.chip.specs.declared.Chip.{Chip}
 use Rattle.isolation_laws.specs.Foreign.{Observer, observe, permitted}
 use Rattle.isolation_laws.specs.Related.{related, RelatedChips, chips}
@@ -24,16 +25,16 @@ use Rattle.firmware_isolation_laws.specs.Related.{watch, writes_permitted}
 
 -- ---- one write, one clock
 
-away_by : (o : Observer) (a b : ℕ) → eqb a 18 ≡ false → eqb a 19 ≡ false → observe o (Write a b) ≡ o
+away_by : (o : Observer) (a b : ℕ) → eqb a 18 ≡ false → eqb a 19 ≡ false → observe o (Ok (Write a b)) ≡ o
 unfolding observe
 away_by o a b h g = rw (h, g, and-false)
 
 -- a write past the registers is not seen
-pub away : (o : Observer) (a b : ℕ) → 38 ≤ a → observe o (Write a b) ≡ o
+pub away : (o : Observer) (a b : ℕ) → 38 ≤ a → observe o (Ok (Write a b)) ≡ o
 away o a b h = away_by o a b (ne_eqb a 18 (λ (e : a ≡ 18). omega arith)) (ne_eqb a 19 (λ (e : a ≡ 19). omega arith))
 
 -- nor is a clock of 8 µs, which is always permitted
-pub clock_unseen : (o : Observer) → observe o (Clock 0) ≡ o
+pub clock_unseen : (o : Observer) → observe o (Ok (Clock 0)) ≡ o
 unfolding observe
 clock_unseen o = rw and-false
 
@@ -41,12 +42,12 @@ clock_by : (b : Bool) → not (b && false) ≡ true
 clock_by true = refl
 clock_by false = refl
 
-pub clock_permitted : (o : Observer) → permitted o (Clock 0) ≡ true
+pub clock_permitted : (o : Observer) → permitted o (Ok (Clock 0)) ≡ true
 unfolding permitted
 clock_permitted o = clock_by o.reset
 
 -- a write is permitted in both runs or in neither
-pub write_permitted_equal : {c d : Chip} {o p : Observer} → RelatedChips c d o p → (a b : ℕ) → permitted o (Write a b) ≡ permitted p (Write a b)
+pub write_permitted_equal : {c d : Chip} {o p : Observer} → RelatedChips c d o p → (a b : ℕ) → permitted o (Ok (Write a b)) ≡ permitted p (Ok (Write a b))
 unfolding permitted
 write_permitted_equal (chips rs (related g z s x x' y y' k h)) a b = refl
 
@@ -76,12 +77,12 @@ leads a = leads_by (ltb a 0xA000) (ltb a 0x180) (ltb a 0x80) (ltb a 0x26) (ltb a
 pub watch_append : (s t : List Access) (o : Observer) → watch o (s ++ t) ≡ watch (watch o s) t
 watch_append [] t o = refl
 watch_append (read_at a l ∷ s) t o = watch_append s t o
-watch_append (write_at a b ∷ s) t o = watch_append s t (observe o (Write a b))
+watch_append (write_at a b ∷ s) t o = watch_append s t (observe o (Ok (Write a b)))
 
 pub permitted_right : (s t : List Access) (o : Observer) → writes_permitted o (s ++ t) ≡ true → writes_permitted (watch o s) t ≡ true
 permitted_right [] t o h = h
 permitted_right (read_at a l ∷ s) t o h = permitted_right s t o h
-permitted_right (write_at a b ∷ s) t o h = permitted_right s t (observe o (Write a b)) (both (permitted o (Write a b)) _ h).1
+permitted_right (write_at a b ∷ s) t o h = permitted_right s t (observe o (Ok (Write a b))) (both (permitted o (Ok (Write a b))) _ h).1
 
 pub unread_right : (d : ℕ) (s t : List Access) → Unread d (s ++ t) → Unread d t
 unread_right d [] t q = q
@@ -102,8 +103,8 @@ ends_byte_lem : (o : Observer) (f : ℕ → Loaded) (a : ℕ) (k : ℕ → Instr
 ends_byte_lem o f a k (Byte b) h = ends_read o a (Byte b) (accesses f (k b)) (perform f (k b)) (h b)
 ends_byte_lem o f a k (Refused n) h = tt
 
-ends_push : (o : Observer) (s b : ℕ) (t : List Access) (r : Result Effect) → observe o (Write (stack s) b) ≡ o → Ends o t r → Ends o (write_at (stack s) b ∷ t) r
-ends_push o s b t (gives e) h q = (rw h q.0, λ (w : writes_permitted o (write_at (stack s) b ∷ t) ≡ true). q.1 (rw h at (both (permitted o (Write (stack s) b)) _ w).1))
+ends_push : (o : Observer) (s b : ℕ) (t : List Access) (r : Result Effect) → observe o (Ok (Write (stack s) b)) ≡ o → Ends o t r → Ends o (write_at (stack s) b ∷ t) r
+ends_push o s b t (gives e) h q = (rw h q.0, λ (w : writes_permitted o (write_at (stack s) b ∷ t) ≡ true). q.1 (rw h at (both (permitted o (Ok (Write (stack s) b))) _ w).1))
 ends_push o s b t (refuses n) h q = tt
 
 pub ends : (o : Observer) (f : ℕ → Loaded) (t : Instruction) → Ends o (accesses f t) (perform f t)

@@ -6,7 +6,8 @@ use mathlib.Core.List.{List, [], ◌++◌}
 use lib.Dec.{eqb, ltb}
 use Rattle.bits.specs.Byte.{pick}
 use Rattle.bits.proofs.Finite.{both as both_true}
-use Rattle.events.specs.declared.Decoded.TheVariants.{Write, Clock}
+use Rattle.std.specs.Prelude.{Ok}
+use Rattle.events.specs.declared.Event.TheVariants.{Write, Clock}
 use Rattle.chip.specs.declared.Chip.{Chip}
 use Rattle.chip_writes.specs.Writes.{write_number}
 use Rattle.chip_events.specs.Outcome.{next}
@@ -52,27 +53,27 @@ loads ram rom t a h = load_by (ltb a 0xA000) (ltb a 0x180) (ltb a 0x80) (ltb a 0
 
 -- ---- the clock behind an instruction
 
-clock_by : (b : Bool) {d e : Chip} {o p : Observer} → RelatedChips d e o p → RelatedChips (pick b d (next d (Clock 0))) (pick b e (next e (Clock 0))) o p
+clock_by : (b : Bool) {d e : Chip} {o p : Observer} → RelatedChips d e o p → RelatedChips (pick b d (next d (Ok (Clock 0)))) (pick b e (next e (Ok (Clock 0)))) o p
 clock_by true t = t
-clock_by false {o = o} {p = p} t = rw (clock_unseen o, clock_unseen p) at (event_related t (same {e = Clock 0} refl) (clock_permitted o) (clock_permitted p))
+clock_by false {o = o} {p = p} t = rw (clock_unseen o, clock_unseen p) at (event_related t (same {e = Ok (Clock 0)} refl) (clock_permitted o) (clock_permitted p))
 
 finish : (x : Effect) (ram : List ℕ) {d e : Chip} {o p : Observer} → RelatedChips d e o p → Ended o p (finished x ram d) (finished x ram e)
 finish x ram t = onward (both (counted x) ram (clock_by (ltb (cycles_with x) 32) t))
 
 -- ---- the store
 
-write_by : (x : Effect) (c : Cpu) (ram : List ℕ) (a b : ℕ) {d e : Chip} {o p : Observer} → RelatedChips d e o p → permitted o (Write a b) ≡ true
+write_by : (x : Effect) (c : Cpu) (ram : List ℕ) (a b : ℕ) {d e : Chip} {o p : Observer} → RelatedChips d e o p → permitted o (Ok (Write a b)) ≡ true
     → (n n' : ℕ) → n ≡ n' → (z : Bool) → eqb n 0 ≡ z
-    → Ended (observe o (Write a b)) (observe p (Write a b))
-    (pick (eqb n 0) (finished x ram (next d (Write a b))) (turned (machine c ram d) n))
-    (pick (eqb n' 0) (finished x ram (next e (Write a b))) (turned (machine c ram e) n'))
+    → Ended (observe o (Ok (Write a b))) (observe p (Ok (Write a b)))
+    (pick (eqb n 0) (finished x ram (next d (Ok (Write a b)))) (turned (machine c ram d) n))
+    (pick (eqb n' 0) (finished x ram (next e (Ok (Write a b)))) (turned (machine c ram e) n'))
 write_by x c ram a b t h n n' q true z =
-    rw (← q, z) (finish x ram (event_related t (same {e = Write a b} refl) h (sym (write_permitted_equal t a b) ∙ h)))
+    rw (← q, z) (finish x ram (event_related t (same {e = Ok (Write a b)} refl) h (sym (write_permitted_equal t a b) ∙ h)))
 write_by x c ram a b t h n n' q false z = rw (← q, z) (halted n z (both c ram t))
 
-store_at : (x : Effect) (c : Cpu) (ram : List ℕ) (a b : ℕ) {d e : Chip} {o p : Observer} → RelatedChips d e o p → permitted o (Write a b) ≡ true
+store_at : (x : Effect) (c : Cpu) (ram : List ℕ) (a b : ℕ) {d e : Chip} {o p : Observer} → RelatedChips d e o p → permitted o (Ok (Write a b)) ≡ true
     → (q : Place) → Leads a q
-    → Ended (observe o (Write a b)) (observe p (Write a b)) (stored_to (destination_at b q) x (machine c ram d)) (stored_to (destination_at b q) x (machine c ram e))
+    → Ended (observe o (Ok (Write a b))) (observe p (Ok (Write a b))) (stored_to (destination_at b q) x (machine c ram d)) (stored_to (destination_at b q) x (machine c ram e))
 store_at x c ram a b {d} {e} t h _ to_register = write_by x c ram a b t h (write_number d.core.reset a) (write_number e.core.reset a) (write_number_equal t a) _ refl
 store_at x c ram a b {o = o} {p = p} t h _ (to_ram i g) = rw (away o a b g, away p a b g) (finish x (stored ram x.store) t)
 store_at x c ram a b t h _ (to_rom i g) = halted 21 refl (both c ram t)
@@ -82,7 +83,7 @@ stores : (x : Effect) (s : Store) (c : Cpu) (ram : List ℕ) {d e : Chip} {o p :
     → Ended (watch o (last_access s)) (watch p (last_access s)) (stored_to (destination s) x (machine c ram d)) (stored_to (destination s) x (machine c ram e))
 unfolding destination
 stores x Nothing c ram t h = finish x (stored ram x.store) t
-stores x (Byte a b) c ram {o = o} t h = store_at x c ram a b t (both_true (permitted o (Write a b)) _ h).0 (place a) (leads a)
+stores x (Byte a b) c ram {o = o} t h = store_at x c ram a b t (both_true (permitted o (Ok (Write a b))) _ h).0 (place a) (leads a)
 stores x (PushOne s b) c ram t h = finish x (stored ram x.store) t
 stores x (PushTwo s b b') c ram t h = finish x (stored ram x.store) t
 stores x (PushThree s b b' b'') c ram t h = finish x (stored ram x.store) t

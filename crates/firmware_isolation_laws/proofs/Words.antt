@@ -10,9 +10,10 @@ use borrow.Author.Tests.{not-true, eqb-true}
 use Rattle.bits.specs.Byte.{pick}
 use Rattle.bits.proofs.Finite.{both as both_true}
 use Rattle.registers.specs.Names.{IIADR}
+use Rattle.std.specs.Prelude.{Ok, Err}
 use Rattle.events.specs.Word.{decode}
-use Rattle.events.specs.declared.Decoded.{Decoded}
-use Rattle.events.specs.declared.Decoded.TheVariants.{Read, Write, Pin, Clock, Polarity, Refused}
+use Rattle.events.specs.Decoded.{Decoded}
+use Rattle.events.specs.declared.Event.TheVariants.{Read, Write, Pin, Clock, Polarity}
 use Rattle.bus.specs.declared.Mode.TheVariants.{Ddc2b}
 use Rattle.chip.specs.declared.Chip.{Chip}
 use Rattle.chip.specs.State.{mode_of}
@@ -44,7 +45,7 @@ permitted_along (given e x ∷ s) (f ∷ fs) o u h =
 permitted_along (made (read_at a l) ∷ s) fs o u h = permitted_along s fs o u h
 permitted_along (made (write_at a b) ∷ s) fs o u h =
     let z = both_true (not (eqb a IIADR)) _ u in
-    permitted_along s fs (observe o (Write a b)) z.1 (throughout_cleared (words_in fs) (write_cleared o a b (not-true (eqb a IIADR) z.0)) h)
+    permitted_along s fs (observe o (Ok (Write a b))) z.1 (throughout_cleared (words_in fs) (write_cleared o a b (not-true (eqb a IIADR) z.0)) h)
 
 equal_along : (s : List Entry) (fs : List ℕ) (o p : Observer) → keeps_address s ≡ true → words.equal_throughout o p (words_in (events_of s)) (words_in fs) ≡ true → equal_throughout o p s (exchanged s fs) ≡ true
 unfolding observe
@@ -57,7 +58,7 @@ equal_along (made (read_at a l) ∷ s) fs o p u h = equal_along s fs o p u h
 equal_along (made (write_at a b) ∷ s) fs o p u h =
     let z = both_true (not (eqb a IIADR)) _ u in
     let g = not-true (eqb a IIADR) z.0 in
-    equal_along s fs (observe o (Write a b)) (observe p (Write a b)) z.1 (equal_cleared (words_in (events_of s)) (words_in fs) (write_cleared o a b g) (write_cleared p a b g) h)
+    equal_along s fs (observe o (Ok (Write a b))) (observe p (Ok (Write a b))) z.1 (equal_cleared (words_in (events_of s)) (words_in fs) (write_cleared o a b g) (write_cleared p a b g) h)
 
 -- the events of the first run are all given
 pub foreign_along : (n : ℕ) (es fs : List ℕ) (o : Observer) (s : List Entry) → events_of s ≡ es → keeps_address s ≡ true → is_foreign_list es o fs ≡ true → is_foreign_along n es o s fs ≡ true
@@ -94,12 +95,12 @@ alike_length (e ∷ es) (f ∷ fs) h = let z = alike_length es fs (both_true (sa
 
 -- a word that touches SDA reads nothing
 sda_unread : (e : Decoded) → touches_sda e ≡ true → reads_data e ≡ false
-sda_unread (Read a) h = absurd (true≢false (sym h))
-sda_unread (Write a b) h = refl
-sda_unread (Pin a b) h = refl
-sda_unread (Clock a) h = refl
-sda_unread (Polarity a b) h = refl
-sda_unread (Refused a) h = refl
+sda_unread (Ok (Read a)) h = absurd (true≢false (sym h))
+sda_unread (Ok (Write a b)) h = refl
+sda_unread (Ok (Pin a b)) h = refl
+sda_unread (Ok (Clock a)) h = refl
+sda_unread (Ok (Polarity a b)) h = refl
+sda_unread (Err r) h = refl
 
 word_unread : (w v : ℕ) (b : Bool) → eqb w v ≡ b → same_but_sda w v ≡ true → not (reads_data (decode w)) ≡ true → not (reads_data (decode v)) ≡ true
 word_unread w v true e h g = rw (← (eqb-true w v e)) g

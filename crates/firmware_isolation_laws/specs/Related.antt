@@ -1,6 +1,6 @@
 -- Two machines of which one cannot be told from the other: what the accesses show the observer, and what two turns leave.
-use Rattle.std.specs.Prelude.{Bool, true, ◌&&◌, false, List, [], ◌∷◌, ℕ, ◌≡◌, eqb}
-use Rattle.events.specs.declared.Decoded.TheVariants.{Write}
+use Rattle.std.specs.Prelude.{Bool, true, ◌&&◌, false, List, [], ◌∷◌, ℕ, ◌≡◌, eqb, Ok}
+use Rattle.events.specs.declared.Event.TheVariants.{Write}
 use Rattle.isolation_laws.specs.Foreign.{Observer, observe, permitted}
 use Rattle.cpu_instruction.specs.Program.{Access, read_at, write_at}
 use Rattle.chip.specs.declared.Chip.{Chip}
@@ -14,13 +14,13 @@ use Rattle.firmware_isolation_laws.specs.Transfers.{ForeignLists, compared_trace
 abbrev pub watch : Observer → List Access → Observer
 watch o [] = o
 watch o (read_at a l ∷ s) = watch o s
-watch o (write_at a b ∷ s) = watch (observe o (Write a b)) s
+watch o (write_at a b ∷ s) = watch (observe o (Ok (Write a b))) s
 
 -- every write is permitted
 abbrev pub writes_permitted : Observer → List Access → Bool
 writes_permitted o [] = true
 writes_permitted o (read_at a l ∷ s) = writes_permitted o s
-writes_permitted o (write_at a b ∷ s) = permitted o (Write a b) && writes_permitted (observe o (Write a b)) s
+writes_permitted o (write_at a b ∷ s) = permitted o (Ok (Write a b)) && writes_permitted (observe o (Ok (Write a b))) s
 
 -- the same CPU and RAM, and related chips
 pub data Both : Machine → Machine → Observer → Observer → Type 0 where

@@ -1,10 +1,10 @@
 -- Two firmware runs through transfers that are not for this chip (document 02, Wish 5, with Wish 13): what is presumed of what happens in
 -- them, and what is then the same.
-use Rattle.std.specs.Prelude.{ℕ, ◌≡◌, Bool, true, false, not, ◌&&◌, List, [], ◌∷◌, length, eqb, ltb}
+use Rattle.std.specs.Prelude.{ℕ, ◌≡◌, Bool, true, false, not, ◌&&◌, List, [], ◌∷◌, length, eqb, ltb, Ok}
 use Rattle.bits.specs.Byte.{pick}
 use Rattle.registers.specs.Names.{IIDAT}
-use Rattle.events.specs.declared.Decoded.{Decoded}
-use Rattle.events.specs.declared.Decoded.TheVariants.{Read, Write}
+use Rattle.events.specs.Decoded.{Decoded}
+use Rattle.events.specs.declared.Event.TheVariants.{Read, Write}
 use Rattle.events.specs.Word.{decode}
 use Rattle.isolation_laws.specs.Foreign.{Observer, observe, permitted, untouched, same_but_sda, equal_at_high, compared_answer, compared_answers, compared_state}
 use Rattle.cpu_instruction.specs.Program.{read_at, write_at}
@@ -34,8 +34,8 @@ within n (e ∷ es) = pick (ltb (number_of e) n) (e ∷ within n es) []
 -- an entry as an event: the CPU reads and writes registers as listed words do; its accesses to RAM and ROM lead to no register
 abbrev pub happening : Entry → Decoded
 happening (given e x) = decode (word_of e)
-happening (made (read_at a l)) = Read a
-happening (made (write_at a b)) = Write a b
+happening (made (read_at a l)) = Ok (Read a)
+happening (made (write_at a b)) = Ok (Write a b)
 
 -- DDC2B stays selected, no address is the chip's, nothing resets it: by listed events
 abbrev pub may_be_listed : Observer → Entry → Bool

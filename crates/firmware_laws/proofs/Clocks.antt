@@ -8,7 +8,8 @@ use lib.Dec.{eqb, ltb}
 use borrow.Author.Tests.{lt-ltb, ltb-true, ltb-false}
 use Rattle.bits.specs.Byte.{pick}
 use Rattle.bits.proofs.Finite.{both as both_true}
-use Rattle.events.specs.declared.Decoded.TheVariants as event
+use Rattle.std.specs.Prelude.{Ok}
+use Rattle.events.specs.declared.Event.TheVariants as event
 use Rattle.events.specs.Word.{decode}
 use Rattle.chip.specs.declared.Chip.{Chip}
 use Rattle.chip_well_formed.specs.WellFormed.{well_formed}
@@ -100,7 +101,7 @@ nothing m o = record { chip = refl; balance = record { sum = omega arith; small 
 -- ---- an instruction or interrupt
 
 due_by : (b : Bool) (w : ℕ) (k : Chip) → ltb w 32 ≡ b → w < 64
-    → (chip_after k (pick b [] (clocked ∷ [])) ≡ pick b k (next k (event.Clock 0))) × (w ≡ clocks_in (pick b [] (clocked ∷ [])) * 32 + w % 32)
+    → (chip_after k (pick b [] (clocked ∷ [])) ≡ pick b k (next k (Ok (event.Clock 0)))) × (w ≡ clocks_in (pick b [] (clocked ∷ [])) * 32 + w % 32)
 due_by true w k h g = (refl, omega (arith, ltb-true w 32 h))
 due_by false w k h g = (refl, omega (arith, ltb-false w 32 h))
 
@@ -114,8 +115,8 @@ finished_counted e m ram k s b o c z =
     }
 
 register_counted : (e : Effect) (m : Machine) (r b : ℕ) (n : ℕ) (t : Bool) → Bounded m.cpu.over (gives e) → m.cpu.over < 32
-    → Counted m (pick t (finished e m.ram (next m.chip (event.Write r b))) (turned m n)).machine (pick t e.cycles 0) (pick t (written r b ∷ clock_due (cycles_with e)) [])
-register_counted e m r b n true h o = finished_counted e m m.ram (next m.chip (event.Write r b)) (written r b ∷ []) h o refl refl
+    → Counted m (pick t (finished e m.ram (next m.chip (Ok (event.Write r b)))) (turned m n)).machine (pick t e.cycles 0) (pick t (written r b ∷ clock_due (cycles_with e)) [])
+register_counted e m r b n true h o = finished_counted e m m.ram (next m.chip (Ok (event.Write r b))) (written r b ∷ []) h o refl refl
 register_counted e m r b n false h o = nothing m o
 
 stored_counted : (d : Destination) (e : Effect) (m : Machine) → Bounded m.cpu.over (gives e) → m.cpu.over < 32

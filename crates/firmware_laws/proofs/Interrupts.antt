@@ -5,8 +5,9 @@ use mathlib.Core.Bool.{Bool, true, false, not, ◌&&◌, and-false}
 use mathlib.Core.List.{List}
 use lib.Dec.{eqb}
 use Rattle.bits.specs.Byte.{pick}
+use Rattle.std.specs.Prelude.{Ok}
 use Rattle.events.specs.Clocks as clock
-use Rattle.events.specs.declared.Decoded.TheVariants as event
+use Rattle.events.specs.declared.Event.TheVariants as event
 use Rattle.events.specs.Word.{decode}
 use Rattle.chip.specs.declared.Chip.{Chip}
 use Rattle.chip.specs.State.{requests}
@@ -65,10 +66,10 @@ unfolding occurred
 event_keeps rom m w h = rw h
 
 -- what an instruction gives the chip, a write or a clock of 8 µs, does not reset it
-pub write_resets_not : (k : Chip) (r b : ℕ) → was_reset k (event.Write r b) ≡ false
+pub write_resets_not : (k : Chip) (r b : ℕ) → was_reset k (Ok (event.Write r b)) ≡ false
 unfolding was_reset
 write_resets_not k r b = refl
 
-pub clock_resets_not : (k : Chip) → was_reset k (event.Clock clock.period) ≡ false
+pub clock_resets_not : (k : Chip) → was_reset k (Ok (event.Clock clock.period)) ≡ false
 unfolding was_reset
 clock_resets_not k = and-false k.core.reset

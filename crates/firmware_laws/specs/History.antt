@@ -1,9 +1,9 @@
 -- What the chip is given in a firmware run, in order, and the cycles that are counted (document 02, Wish 5).
-use Rattle.std.specs.Prelude.{ℕ, zero, suc, ◌+◌, List, [], ◌∷◌, ◌++◌, eqb, ltb}
+use Rattle.std.specs.Prelude.{ℕ, zero, suc, ◌+◌, List, [], ◌∷◌, ◌++◌, eqb, ltb, Ok}
 use Rattle.bits.specs.Byte.{pick}
 use Rattle.events.specs.Clocks as clock
-use Rattle.events.specs.declared.Decoded.{Decoded}
-use Rattle.events.specs.declared.Decoded.TheVariants as event
+use Rattle.events.specs.Decoded.{Decoded}
+use Rattle.events.specs.declared.Event.TheVariants as event
 use Rattle.events.specs.Word.{decode}
 use Rattle.chip.specs.declared.Chip.{Chip}
 use Rattle.chip_writes.specs.Writes.{write_number}
@@ -26,8 +26,8 @@ pub data Given : Type 0 where
 
 abbrev pub event_of : Given → Decoded
 event_of (listed w) = decode w
-event_of (written r b) = event.Write r b
-event_of clocked = event.Clock clock.period
+event_of (written r b) = Ok (event.Write r b)
+event_of clocked = Ok (event.Clock clock.period)
 
 -- the chip after them
 abbrev pub chip_after : Chip → List Given → Chip

@@ -8,8 +8,9 @@ use lib.Dec.{eqb, ltb}
 use lib.ListN.{get_or}
 use borrow.Author.Tests.{lt-ltb, le-ltb}
 use Rattle.bits.specs.Byte.{pick}
+use Rattle.std.specs.Prelude.{Ok}
 use Rattle.events.specs.Clocks as clock
-use Rattle.events.specs.declared.Decoded.TheVariants as event
+use Rattle.events.specs.declared.Event.TheVariants as event
 use Rattle.chip.specs.declared.Chip.{Chip}
 use Rattle.chip_events.specs.Outcome.{next}
 use Rattle.cpu_opcodes.specs.Table.{opcodes}
@@ -35,7 +36,7 @@ use Rattle.firmware_machine.proofs.Loads.{sees, Gets, same, waits, gets, Numbere
 
 module _ (seen : List ℕ) (c : Cpu) (ram : List ℕ) (k : Chip) where
   shows_done : (e : Effect) (ram' : List ℕ) (b : Bool)
-      → Shows seen c ram k (pick b (On (counted e)) (Clock (counted e))) ram' (turned (machine (counted e) ram' (pick b k (next k (event.Clock clock.period)))) 0)
+      → Shows seen c ram k (pick b (On (counted e)) (Clock (counted e))) ram' (turned (machine (counted e) ram' (pick b k (next k (Ok (event.Clock clock.period))))) 0)
   shows_done e ram' true = refl
   shows_done e ram' false = refl
 

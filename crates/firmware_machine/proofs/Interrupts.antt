@@ -5,8 +5,9 @@ use mathlib.Core.Bool.{Bool, true, false}
 use mathlib.Core.List.{List, []}
 use lib.Dec.{ltb}
 use Rattle.bits.specs.Byte.{pick}
+use Rattle.std.specs.Prelude.{Ok}
 use Rattle.events.specs.Clocks as clock
-use Rattle.events.specs.declared.Decoded.TheVariants as event
+use Rattle.events.specs.declared.Event.TheVariants as event
 use Rattle.chip.specs.declared.Chip.{Chip}
 use Rattle.chip_clocks.specs.Clocks.{clocked, clocked_as, period_clock}
 use Rattle.chip_events.specs.Outcome.{core_after, next}
@@ -26,7 +27,7 @@ unfolding interrupt_taken perform and_then trap load place after_push interrupte
 interrupt_is rom c ram k = refl
 
 -- a clock of 8 µs leaves RESET high
-clock_by : (b : Bool) (k : Chip) → k.core.reset ≡ true → (pick b k (next k (event.Clock clock.period))).core.reset ≡ true
+clock_by : (b : Bool) (k : Chip) → k.core.reset ≡ true → (pick b k (next k (Ok (event.Clock clock.period)))).core.reset ≡ true
 unfolding next core_after clocked clocked_as period_clock
 clock_by true k h = h
 clock_by false k h = rw h refl

@@ -1,8 +1,8 @@
 -- The CPU, its RAM and the chip as one machine (document 02, Wish 5): an instruction, an interrupt, and the turn of an instruction.
-use Rattle.std.specs.Prelude.{ℕ, Bool, true, false, not, List, eqb, ltb, get_or}
+use Rattle.std.specs.Prelude.{ℕ, Bool, true, false, not, List, eqb, ltb, get_or, Ok}
 use Rattle.bits.specs.Byte.{pick}
 use Rattle.events.specs.Clocks as clock
-use Rattle.events.specs.declared.Decoded.TheVariants as event
+use Rattle.events.specs.declared.Event.TheVariants as event
 use Rattle.chip.specs.declared.Chip.{Chip}
 use Rattle.chip.specs.State.{requests}
 use Rattle.chip_reads.specs.declared.Reading.{Reading}
@@ -60,7 +60,7 @@ load ram k rom a = load_at ram k rom (place a)
 
 -- 32 cycles, those over from before counted, give one 8 µs clock
 abbrev pub clock_after : ℕ → Chip → Chip
-clock_after n k = pick (ltb n 32) k (next k (event.Clock clock.period))
+clock_after n k = pick (ltb n 32) k (next k (Ok (event.Clock clock.period)))
 
 abbrev pub finished : Effect → List ℕ → Chip → Turned
 finished e ram k = turned (machine (counted e) ram (clock_after (cycles_with e) k)) 0
@@ -70,7 +70,7 @@ abbrev pub stored_to : Destination → Effect → Machine → Turned
 stored_to to.Ram e m = finished e (stored m.ram e.store) m.chip
 stored_to (to.Register r b) e m =
     pick (eqb (write_number m.chip.core.reset r) 0)
-    (finished e m.ram (next m.chip (event.Write r b)))
+    (finished e m.ram (next m.chip (Ok (event.Write r b))))
     (turned m (write_number m.chip.core.reset r))
 stored_to (to.Refused n) e m = turned m n
 

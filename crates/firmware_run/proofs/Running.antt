@@ -12,8 +12,9 @@ use Rattle.chip.specs.declared.Bus.{Bus}
 use Rattle.bus_ddc2b.specs.Ddc2b.{phase_at_period}
 use Rattle.sync.specs.declared.Sync.{Sync}
 use Rattle.sync.specs.Sync.{on_period}
+use Rattle.std.specs.Prelude.{Ok}
 use Rattle.events.specs.Clocks as clock
-use Rattle.events.specs.declared.Decoded.TheVariants as event
+use Rattle.events.specs.declared.Event.TheVariants as event
 use Rattle.chip.specs.declared.Core.{Core}
 use Rattle.chip.specs.declared.Chip.{Chip}
 use Rattle.chip.specs.State.{chip_of, hsel_of, with_sync, with_bus}
@@ -48,7 +49,7 @@ use Rattle.cpu_register_cache.proofs.Chips.{clock_chip, after_cycles, ticked_par
 -- the run from instruction i on; where `clocked` is false that instruction is done but for a clock of 8 µs, which is due
 abbrev pub remaining : List ℕ → ℕ → Bool → Machine → ℕ → Ended
 remaining rom to true m i = runs (to - i) i rom [] m
-remaining rom to false m i = runs (to - (i + 1)) (i + 1) rom [] (machine m.cpu m.ram (next m.chip (event.Clock clock.period)))
+remaining rom to false m i = runs (to - (i + 1)) (i + 1) rom [] (machine m.cpu m.ram (next m.chip (Ok (event.Clock clock.period))))
 
 pub record Running (rom : List ℕ) (from to : ℕ) (start : Machine) (ram seen registers : List ℕ) (core : Core) (c : Cpu) (i : ℕ) (clocked request : Bool) : Type 0 where
   pub small : to < 4294967296
@@ -160,7 +161,7 @@ module _ (rom : List ℕ) (from to : ℕ) (start : Machine) (ram seen registers 
       due d q =
           record {
             small = h.small;
-            total = after (turned (machine d ram' (next k (event.Clock clock.period))) 0) (rw q at seen_turn);
+            total = after (turned (machine d ram' (next k (Ok (event.Clock clock.period)))) 0) (rw q at seen_turn);
             knows = h.knows;
             size = h.size;
             high = h.high;
@@ -209,7 +210,7 @@ module _ (rom : List ℕ) (from to : ℕ) (start : Machine) (ram seen registers 
         writing : Shows seen c ram k (Write q n r b) ram' (turn rom (machine c ram k))
         writing = rw w at seen_turn
 
-        written_by : (x : Bool) → eqb (write_number core.reset r) 0 ≡ x → x ≡ true → (k' : Chip) → next k (event.Write r b) ≡ k'
+        written_by : (x : Bool) → eqb (write_number core.reset r) 0 ≡ x → x ≡ true → (k' : Chip) → next k (Ok (event.Write r b)) ≡ k'
             → written seen c ram k q n r b ≡ turned (machine (set_over ((q.over + n) % 32) q) ram (clock_after (q.over + n) k')) 0
         written_by true z y k' m = rw (z, m)
         written_by false z y k' m = absurd (true≢false (sym y))
@@ -225,7 +226,7 @@ module _ (rom : List ℕ) (from to : ℕ) (start : Machine) (ram seen registers 
           wrote_by true z a y =
               record { small = h.small; total = after (turned (machine (set_over ((q.over + n) % 32) q) ram k') 0) (turns_to ∙ (rw z)); knows = g.knows; size = g.size; high = g.high; asked = y; begun = λ z. absurd (true≢false z) }
           wrote_by false z a y =
-              record { small = h.small; total = after (turned (machine (set_over ((q.over + n) % 32) q) ram (next k' (event.Clock clock.period))) 0) (turns_to ∙ (rw z)); knows = g.knows; size = g.size; high = g.high; asked = y; begun = λ z. l }
+              record { small = h.small; total = after (turned (machine (set_over ((q.over + n) % 32) q) ram (next k' (Ok (event.Clock clock.period)))) 0) (turns_to ∙ (rw z)); knows = g.knows; size = g.size; high = g.high; asked = y; begun = λ z. l }
 
           wrote_at : (x : ℕ) → x ≡ q.over + n → (f : Bool) → f ≡ ltb x 32 → (a : Bool) → a ≡ is_requesting k' → Running rom from to start ram seen' registers' core' (set_over (x % 32) q) (pick f (i + 1) i) f a
           wrote_at x u f m a y = rw u (wrote_by f (sym (m ∙ ap (λ (x : ℕ). ltb x 32) u)) a y)

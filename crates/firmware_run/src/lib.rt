@@ -20,7 +20,7 @@ use chip::{Chip, Core};
 use cpu_operations::Cpu;
 use cpu_register_cache::NONE_SEEN;
 use cpu_step::Turn;
-use events::{Decoded, PERIOD, RESET, WATCHDOG};
+use events::{Event, PERIOD, RESET, Refusal, WATCHDOG};
 use registers::{CLRWDT, IEX};
 
 // What a firmware call gives back: 0 or the number of the refusal, CPU and chip, how many instructions were counted, and how many of the
@@ -61,16 +61,14 @@ pub struct Settled {
 // ---- events
 
 // Whether an event resets the chip: RESET that falls, or the watchdog's time that is up. The registers are lent for the contract alone.
-pub fn was_reset(registers: &[u8; 38], c: Core, event: Decoded) -> bool
+#[tactic(auto, unfolding(chip_events::specs::Outcome::was_reset))]
+pub fn was_reset(registers: &[u8; 38], c: Core, event: Result<Event, Refusal>) -> bool
     ensures { result ≡ was_reset (chip_of registers.now c) event }
 {
     match event {
-        Decoded::Read(_) => false,
-        Decoded::Write(_, _) => false,
-        Decoded::Pin(p, level) => (p == RESET) & (c.reset & !level),
-        Decoded::Clock(k) => c.reset & ((k == WATCHDOG) & counters::watchdog_fires(c.watchdog)),
-        Decoded::Polarity(_, _) => false,
-        Decoded::Refused(_) => false,
+        Ok(Event::Pin(p, level)) => (p == RESET) & (c.reset & !level),
+        Ok(Event::Clock(k)) => c.reset & ((k == WATCHDOG) & counters::watchdog_fires(c.watchdog)),
+        _ => false,
     }
 }
 

@@ -15,7 +15,7 @@ use chip_reads::Reading;
 use cpu_arithmetic::Flags;
 use cpu_memory::{Loaded, Place};
 use cpu_operations::Cpu;
-use events::{Decoded, PERIOD};
+use events::{Event, PERIOD};
 use firmware_run::FirmwareResult;
 
 // CPU and chip after an event, and its answer.
@@ -116,7 +116,7 @@ fn clocked_after(n: u16, chip: Chip) -> Chip
     if n < 32 {
         chip
     } else {
-        let stepped = step::advance(chip, Decoded::Clock(PERIOD));
+        let stepped = step::advance(chip, Ok(Event::Clock(PERIOD)));
         let after = stepped.chip;
         after
     }

@@ -9,9 +9,10 @@ use lib.ListN.{length}
 use borrow.Author.Tests.{eqb-true}
 use Rattle.bits.specs.Byte.{pick}
 use Rattle.bits.proofs.Finite.{both}
+use Rattle.std.specs.Prelude.{Ok, Err}
 use Rattle.events.specs.Pins as pin
-use Rattle.events.specs.declared.Decoded.{Decoded}
-use Rattle.events.specs.declared.Decoded.TheVariants.{Read, Write, Pin, Clock, Polarity, Refused}
+use Rattle.events.specs.Decoded.{Decoded}
+use Rattle.events.specs.declared.Event.TheVariants.{Read, Write, Pin, Clock, Polarity}
 use Rattle.events.specs.Word.{decode}
 use Rattle.bus.specs.declared.Mode.{Mode}
 use Rattle.bus.specs.declared.Mode.TheVariants.{Off, Ddc1, Ddc2b}
@@ -71,12 +72,12 @@ pins_permitted false false match falls h k = refl
 
 permitted_of : (o : Observer) (e : Decoded) → Kept o e → permitted o e ≡ true
 unfolding permitted keeps_on keeps_ddc2b matches_none keeps_reset watchdog_waits
-permitted_of o (Read a) k = refl
-permitted_of o (Write a b) k = rw (k.on, k.ddc2b)
-permitted_of o (Pin p level) k = pins_permitted (eqb p pin.SCL) (eqb p pin.RESET) _ _ k.foreign k.reset
-permitted_of o (Clock n) k = k.watchdog
-permitted_of o (Polarity vertical level) k = refl
-permitted_of o (Refused n) k = refl
+permitted_of o (Ok (Read a)) k = refl
+permitted_of o (Ok (Write a b)) k = rw (k.on, k.ddc2b)
+permitted_of o (Ok (Pin p level)) k = pins_permitted (eqb p pin.SCL) (eqb p pin.RESET) _ _ k.foreign k.reset
+permitted_of o (Ok (Clock n)) k = k.watchdog
+permitted_of o (Ok (Polarity vertical level)) k = refl
+permitted_of o (Err r) k = refl
 
 -- the five tests through a run
 record KeptThroughout (o : Observer) (ws : List ℕ) : Type 0 where
@@ -202,16 +203,16 @@ pins_kept p false match falls e h = (refl, reset_kept (eqb p pin.RESET) falls h)
 
 kept_of : (o : Observer) (e : Decoded) → permitted o e ≡ true → Kept o e
 unfolding permitted keeps_on keeps_ddc2b matches_none keeps_reset watchdog_waits
-kept_of o (Read a) h = record { on = refl; ddc2b = refl; foreign = refl; reset = refl; watchdog = refl }
-kept_of o (Write a b) h =
+kept_of o (Ok (Read a)) h = record { on = refl; ddc2b = refl; foreign = refl; reset = refl; watchdog = refl }
+kept_of o (Ok (Write a b)) h =
     let two = both (not (accepted o a && turns_off a b)) (not (accepted o a && asks_ddc1 a b)) h in
     record { on = two.0; ddc2b = two.1; foreign = refl; reset = refl; watchdog = refl }
-kept_of o (Pin p level) h =
+kept_of o (Ok (Pin p level)) h =
     let two = pins_kept p (eqb p pin.SCL) (scl_rises o level && completes_match o.own o.sda o.trace) (reset_falls o level) refl h in
     record { on = refl; ddc2b = refl; foreign = two.0; reset = two.1; watchdog = refl }
-kept_of o (Clock n) h = record { on = refl; ddc2b = refl; foreign = refl; reset = refl; watchdog = h }
-kept_of o (Polarity vertical level) h = record { on = refl; ddc2b = refl; foreign = refl; reset = refl; watchdog = refl }
-kept_of o (Refused n) h = record { on = refl; ddc2b = refl; foreign = refl; reset = refl; watchdog = refl }
+kept_of o (Ok (Clock n)) h = record { on = refl; ddc2b = refl; foreign = refl; reset = refl; watchdog = h }
+kept_of o (Ok (Polarity vertical level)) h = record { on = refl; ddc2b = refl; foreign = refl; reset = refl; watchdog = refl }
+kept_of o (Err r) h = record { on = refl; ddc2b = refl; foreign = refl; reset = refl; watchdog = refl }
 
 kept_throughout : (o : Observer) (ws : List ℕ) → throughout permitted o ws ≡ true → KeptThroughout o ws
 kept_throughout o [] h = record { on = refl; ddc2b = refl; foreign = refl; reset = refl; watchdog = refl }

@@ -4,7 +4,7 @@ use Rattle.std.specs.Prelude.{ℕ, ◌≡◌, List, [], ◌∷◌, Bool, true, f
 use Rattle.std.specs.Bool.{beq}
 use Rattle.bits.specs.Byte.{pick}
 use Rattle.events.specs.Pins as pin
-use Rattle.events.specs.declared.Decoded.{Decoded}
+use Rattle.events.specs.Decoded.{Decoded}
 use Rattle.events.specs.Kinds.{on_write, on_pin, on_clock}
 use Rattle.events.specs.Word.{decode}
 use Rattle.bus.specs.declared.Mode.{Mode}

@@ -10,8 +10,9 @@ use Rattle.bits.specs.Byte.{pick}
 use Rattle.bits.proofs.Finite.{beq_eq, true_T, both}
 use Rattle.registers.specs.Names.{BTCON, IEX, IIDAT}
 use Rattle.registers.specs.Table.{is_readable}
-use Rattle.events.specs.declared.Decoded.{Decoded}
-use Rattle.events.specs.declared.Decoded.TheVariants.{Read, Write, Pin, Clock, Polarity, Refused}
+use Rattle.std.specs.Prelude.{Ok, Err}
+use Rattle.events.specs.Decoded.{Decoded}
+use Rattle.events.specs.declared.Event.TheVariants.{Read, Write, Pin, Clock, Polarity}
 use Rattle.events.specs.Word.{decode}
 use Rattle.answers.specs.Answer.{answer_word}
 use Rattle.chip.specs.declared.Chip.{Chip}
@@ -35,15 +36,15 @@ use Rattle.isolation_laws.proofs.Writes.{write_related, clock_related, polarity_
 
 -- an event that touches SDA
 pub data Touches : Decoded → Type 0 where
-  touches : (l : Bool) → Touches (Pin 24 l)
+  touches : (l : Bool) → Touches (Ok (Pin 24 l))
 
 pub touches_of : (e : Decoded) → touches_sda e ≡ true → Touches e
-touches_of (Read a) h = absurd (true≢false (sym h))
-touches_of (Write a b) h = absurd (true≢false (sym h))
-touches_of (Pin p l) h = rw (eqb-true p 24 h) (touches l)
-touches_of (Clock k) h = absurd (true≢false (sym h))
-touches_of (Polarity v l) h = absurd (true≢false (sym h))
-touches_of (Refused n) h = absurd (true≢false (sym h))
+touches_of (Ok (Read a)) h = absurd (true≢false (sym h))
+touches_of (Ok (Write a b)) h = absurd (true≢false (sym h))
+touches_of (Ok (Pin p l)) h = rw (eqb-true p 24 h) (touches l)
+touches_of (Ok (Clock k)) h = absurd (true≢false (sym h))
+touches_of (Ok (Polarity v l)) h = absurd (true≢false (sym h))
+touches_of (Err r) h = absurd (true≢false (sym h))
 
 low_of : (scl : Bool) → not (scl && true) ≡ true → scl ≡ false
 low_of true h = absurd (true≢false (sym h))
@@ -77,13 +78,13 @@ paired o o' w v s h = words_paired o o' w v (eqb w v) refl s h
 same_related : {c d : Chip} {o o' : Observer} → RelatedChips c d o o' → (e : Decoded) → touches_sda e ≡ false → permitted o e ≡ true → permitted o' e ≡ true
     → RelatedChips (next c e) (next d e) (observe o e) (observe o' e)
 unfolding next core_after kept_after was_reset observe
-same_related r (Read a) t h h' = r
-same_related (chips rs (related g z s x x' y y' k o)) (Write a b) t h h' = chips (keep (write_kept z rs a b) rs) (write_related (related g z s x x' y y' k o) a b h)
-same_related (chips rs (related g z s x x' y y' k o)) (Pin p l) t h h' = chips (keep (reset_if (eqb p 28 && (z && not l))) rs) (pin_related (related g z s x x' y y' k o) p l t h h')
-same_related (chips rs (related g z s x x' y y' k o)) (Clock m) t h h' =
+same_related r (Ok (Read a)) t h h' = r
+same_related (chips rs (related g z s x x' y y' k o)) (Ok (Write a b)) t h h' = chips (keep (write_kept z rs a b) rs) (write_related (related g z s x x' y y' k o) a b h)
+same_related (chips rs (related g z s x x' y y' k o)) (Ok (Pin p l)) t h h' = chips (keep (reset_if (eqb p 28 && (z && not l))) rs) (pin_related (related g z s x x' y y' k o) p l t h h')
+same_related (chips rs (related g z s x x' y y' k o)) (Ok (Clock m)) t h h' =
     chips (keep (reset_if (z && (eqb m 3 && watchdog_fires g.watchdog))) rs) (clock_related (register_at rs BTCON) (related g z s x x' y y' k o) m h)
-same_related (chips rs r) (Polarity v l) t h h' = chips rs (polarity_related r v l)
-same_related r (Refused n) t h h' = r
+same_related (chips rs r) (Ok (Polarity v l)) t h h' = chips rs (polarity_related r v l)
+same_related r (Err n) t h h' = r
 
 pub event_related : {c d : Chip} {o o' : Observer} → RelatedChips c d o o' → {e f : Decoded} → Paired o o' e f → permitted o e ≡ true → permitted o' f ≡ true
     → RelatedChips (next c e) (next d f) (observe o e) (observe o' f)
@@ -102,12 +103,12 @@ requests_equal (chips rs (related g z s x x' y y' k o)) = refl
 
 pub was_reset_equal : {c d : Chip} {o o' : Observer} → RelatedChips c d o o' → (e : Decoded) → was_reset c e ≡ was_reset d e
 unfolding was_reset
-was_reset_equal (chips rs (related g z s x x' y y' k o)) (Read a) = refl
-was_reset_equal (chips rs (related g z s x x' y y' k o)) (Write a b) = refl
-was_reset_equal (chips rs (related g z s x x' y y' k o)) (Pin p l) = refl
-was_reset_equal (chips rs (related g z s x x' y y' k o)) (Clock m) = refl
-was_reset_equal (chips rs (related g z s x x' y y' k o)) (Polarity v l) = refl
-was_reset_equal (chips rs (related g z s x x' y y' k o)) (Refused n) = refl
+was_reset_equal (chips rs (related g z s x x' y y' k o)) (Ok (Read a)) = refl
+was_reset_equal (chips rs (related g z s x x' y y' k o)) (Ok (Write a b)) = refl
+was_reset_equal (chips rs (related g z s x x' y y' k o)) (Ok (Pin p l)) = refl
+was_reset_equal (chips rs (related g z s x x' y y' k o)) (Ok (Clock m)) = refl
+was_reset_equal (chips rs (related g z s x x' y y' k o)) (Ok (Polarity v l)) = refl
+was_reset_equal (chips rs (related g z s x x' y y' k o)) (Err r) = refl
 
 pub write_number_equal : {c d : Chip} {o o' : Observer} → RelatedChips c d o o' → (a : ℕ) → write_number c.core.reset a ≡ write_number d.core.reset a
 unfolding write_number
@@ -165,17 +166,17 @@ requests_lt (chips rs (related g z s x x' y y' k o)) = omega (arith, o.flags, an
 same_answers : {c d : Chip} {o o' : Observer} → RelatedChips c d o o' → (e : Decoded) → requests (next c e) ≡ requests (next d e) → requests (next c e) < 256
     → compared_answer e (answered c e) ≡ compared_answer e (answered d e)
 unfolding answered number_given byte_given watchdog_reset
-same_answers {c} {d} r (Read a) q b =
-    read_answers (eqb a IIDAT) (reading c a).number (reading d a).number (requests (next c (Read a))) (requests (next d (Read a))) (reading c a).byte (reading d a).byte
+same_answers {c} {d} r (Ok (Read a)) q b =
+    read_answers (eqb a IIDAT) (reading c a).number (reading d a).number (requests (next c (Ok (Read a)))) (requests (next d (Ok (Read a)))) (reading c a).byte (reading d a).byte
     (reading_number_equal r a) q b (reading_byte_lt c a) (reading_byte_lt d a) (λ h. ap (λ (t : Reading). t.byte) (reading_equal r a h))
     (λ h. refused_byte c a h ∙ sym (refused_byte d a (rw (reading_number_equal r a) at h)))
-same_answers r (Write a b) q m = rw (write_number_equal r a, q)
-same_answers r (Pin p l) q b = rw q
-same_answers (chips rs (related g z s x x' y y' k o)) (Clock m) q b = rw q
-same_answers r (Polarity v l) q b = rw q
-same_answers r (Refused n) q b = rw q
+same_answers r (Ok (Write a b)) q m = rw (write_number_equal r a, q)
+same_answers r (Ok (Pin p l)) q b = rw q
+same_answers (chips rs (related g z s x x' y y' k o)) (Ok (Clock m)) q b = rw q
+same_answers r (Ok (Polarity v l)) q b = rw q
+same_answers r (Err n) q b = rw q
 
-sda_answers : (c d : Chip) (l l' : Bool) → requests (next c (Pin 24 l)) ≡ requests (next d (Pin 24 l')) → answered c (Pin 24 l) ≡ answered d (Pin 24 l')
+sda_answers : (c d : Chip) (l l' : Bool) → requests (next c (Ok (Pin 24 l))) ≡ requests (next d (Ok (Pin 24 l'))) → answered c (Ok (Pin 24 l)) ≡ answered d (Ok (Pin 24 l'))
 unfolding answered number_given byte_given watchdog_reset
 sda_answers c d l l' q = rw q
 

@@ -11,7 +11,8 @@ use borrow.Author.Tests.{ltb-true, lt-ltb, eqb-true, eqb-false, not-true}
 use Rattle.bits.specs.Byte.{pick, bit}
 use Rattle.bits.proofs.Bitwise.{bit_or_lem}
 use Rattle.registers.specs.Names.{INTE}
-use Rattle.events.specs.declared.Decoded.TheVariants.{Pin}
+use Rattle.std.specs.Prelude.{Ok}
+use Rattle.events.specs.declared.Event.TheVariants.{Pin}
 use Rattle.bus.specs.declared.Edge.{Edge}
 use Rattle.bus.specs.declared.Edge.TheVariants.{Flat, Rise, Fall}
 use Rattle.bus.specs.declared.Phase.{Phase}
@@ -74,8 +75,8 @@ module _ (g : Core) (x x' : Bool) (y y' : ℕ) {n : ℕ} (o : KeptBy g n) where
   fall_related (ignoring ls ls') = related (raised g 0x20) true false x x' y y' (ignoring ls ls') (kept_raised 0x20 (omega arith) o)
   fall_related (address ls ls' e h) = related (raised g 0x20) true false x x' y y' (address ls ls' e h) (kept_raised 0x20 (omega arith) o)
 
-pub scl_related : {c d : Core} {o o' : Observer} → Related c d o o' → (l : Bool) → permitted o (Pin 25 l) ≡ true → permitted o' (Pin 25 l) ≡ true
-    → Related (scl_moved c l) (scl_moved d l) (observe o (Pin 25 l)) (observe o' (Pin 25 l))
+pub scl_related : {c d : Core} {o o' : Observer} → Related c d o o' → (l : Bool) → permitted o (Ok (Pin 25 l)) ≡ true → permitted o' (Ok (Pin 25 l)) ≡ true
+    → Related (scl_moved c l) (scl_moved d l) (observe o (Ok (Pin 25 l))) (observe o' (Ok (Pin 25 l)))
 unfolding scl_moved on_scl on_scl_ddc2b scl_pulled observe permitted
 scl_related (related g false s x x' y y' k o) l a a' = related g false l x x' y y' k o
 scl_related (related g true true x x' y y' k o) true a a' = rw (o.ddc2b, (left_released k).scl_free_lem, (right_released k).scl_free_lem) (related g true true x x' y y' k o)
@@ -102,7 +103,7 @@ unmoved_at_low Fall c = refl
 
 -- SDA put to any two levels while SCL is low
 pub sda_low_related : {c d : Core} {o o' : Observer} → Related c d o o' → (l l' : Bool) → o.scl ≡ false
-    → Related (sda_moved c l) (sda_moved d l') (observe o (Pin 24 l)) (observe o' (Pin 24 l'))
+    → Related (sda_moved c l) (sda_moved d l') (observe o (Ok (Pin 24 l))) (observe o' (Ok (Pin 24 l')))
 unfolding sda_moved on_sda sda_pulled scl_pulled observe
 sda_low_related (related g z true x x' y y' k o) l l' h = absurd (true≢false h)
 sda_low_related (related g false false x x' y y' k o) l l' h = related g false false l l' y y' k o
@@ -112,7 +113,7 @@ sda_low_related (related g true false x x' y y' k o) l l' h =
 
 -- SDA put to one level, its levels being equal before
 pub sda_equal_related : {c d : Core} {o o' : Observer} → Related c d o o' → (l : Bool) → o.sda ≡ o'.sda
-    → Related (sda_moved c l) (sda_moved d l) (observe o (Pin 24 l)) (observe o' (Pin 24 l))
+    → Related (sda_moved c l) (sda_moved d l) (observe o (Ok (Pin 24 l))) (observe o' (Ok (Pin 24 l)))
 unfolding sda_moved on_sda on_sda_ddc2b sda_pulled scl_pulled started stopped observe
 sda_equal_related (related g z false x x' y y' k o) l h = sda_low_related (related g z false x x' y y' k o) l l refl
 sda_equal_related (related g false true x x' y y' k o) l h = related g false true l l y y' k o
@@ -133,8 +134,8 @@ sda_equal_related (related g true true false false y y' k o) true h =
 
 -- ---- RESET, which does not go low
 
-pub reset_related : {c d : Core} {o o' : Observer} → Related c d o o' → (l : Bool) → permitted o (Pin 28 l) ≡ true
-    → Related (reset_moved c l) (reset_moved d l) (observe o (Pin 28 l)) (observe o' (Pin 28 l))
+pub reset_related : {c d : Core} {o o' : Observer} → Related c d o o' → (l : Bool) → permitted o (Ok (Pin 28 l)) ≡ true
+    → Related (reset_moved c l) (reset_moved d l) (observe o (Ok (Pin 28 l))) (observe o' (Ok (Pin 28 l)))
 unfolding reset_moved on_reset observe permitted
 reset_related (related g true s x x' y y' k o) true a = related g true s x x' y y' k o
 reset_related (related g true s x x' y y' k o) false a = absurd (true≢false (sym a))
@@ -152,13 +153,13 @@ vsync_related (related g z s x x' y y' k o) true l = rw o.ddc2b (related (with_s
 -- ---- all pins
 
 -- of the pins the observer sees SDA, SCL and RESET alone
-unobserved : {c d : Core} {o o' : Observer} → Related c d o o' → {p : ℕ} (l : Bool) → Unnamed p → Related c d (observe o (Pin p l)) (observe o' (Pin p l))
+unobserved : {c d : Core} {o o' : Observer} → Related c d o o' → {p : ℕ} (l : Bool) → Unnamed p → Related c d (observe o (Ok (Pin p l))) (observe o' (Ok (Pin p l)))
 unfolding observe
 unobserved r l u = rw (u.sda, u.scl, u.reset) r
 
 kind_related : {c d : Core} {o o' : Observer} → Related c d o o' → {kind : PinKind} {p : ℕ} → Numbered kind p → (l : Bool) → eqb p 24 ≡ false
-    → permitted o (Pin p l) ≡ true → permitted o' (Pin p l) ≡ true
-    → Related (pin_moved_as kind c p l) (pin_moved_as kind d p l) (observe o (Pin p l)) (observe o' (Pin p l))
+    → permitted o (Ok (Pin p l)) ≡ true → permitted o' (Ok (Pin p l)) ≡ true
+    → Related (pin_moved_as kind c p l) (pin_moved_as kind d p l) (observe o (Ok (Pin p l))) (observe o' (Ok (Pin p l)))
 unfolding pin_moved_as port0_moved port1_moved port2_moved p16_moved hsync_moved vsync_moved observe
 kind_related (related g z s x x' y y' k o) {p = p} (port0_pin u high) l e a a' = unobserved (related (port0_moved g p l) z s x x' y y' k o) l u
 kind_related (related g z s x x' y y' k o) {p = p} (port1_pin u low high) l e a a' = unobserved (related (port1_moved g p l) z s x x' y y' k o) l u
@@ -172,7 +173,7 @@ kind_related (related g z s x x' y y' k o) vsynci_pin l e a a' = vsync_related (
 kind_related r reset_pin l e a a' = reset_related r l a
 
 -- a pin event that does not touch SDA
-pub pin_related : {c d : Core} {o o' : Observer} → Related c d o o' → (p : ℕ) (l : Bool) → eqb p 24 ≡ false → permitted o (Pin p l) ≡ true → permitted o' (Pin p l) ≡ true
-    → Related (pin_moved c p l) (pin_moved d p l) (observe o (Pin p l)) (observe o' (Pin p l))
+pub pin_related : {c d : Core} {o o' : Observer} → Related c d o o' → (p : ℕ) (l : Bool) → eqb p 24 ≡ false → permitted o (Ok (Pin p l)) ≡ true → permitted o' (Ok (Pin p l)) ≡ true
+    → Related (pin_moved c p l) (pin_moved d p l) (observe o (Ok (Pin p l))) (observe o' (Ok (Pin p l)))
 unfolding pin_moved
 pin_related r p l e a a' = kind_related r (numbered p) l e a a'

@@ -8,7 +8,8 @@ use Rattle.bits.specs.Byte.{pick, bit}
 use Rattle.bits.proofs.Finite.{both}
 use Rattle.registers.specs.Names.{MDCON, HVCON, CLRWDT, IIADR, IIDAT, BT, INTR}
 use Rattle.registers.specs.Table.{is_writable}
-use Rattle.events.specs.declared.Decoded.TheVariants.{Write, Clock}
+use Rattle.std.specs.Prelude.{Ok}
+use Rattle.events.specs.declared.Event.TheVariants.{Write, Clock}
 use Rattle.bus.specs.declared.Phase.{Phase}
 use Rattle.bus.specs.Bus.{changes_mode}
 use Rattle.bus_ddc2b.specs.Ddc2b.{phase_at_period}
@@ -67,15 +68,15 @@ write_by_reset g true false s x x' y y' k o a b h = related g true s x x' y y' k
 write_by_reset g true true s x x' y y' k o a b h =
     written_related g s x x' y y' k o (addressed a) b (not-true _ (both (not (turns_off a b)) (not (asks_ddc1 a b)) h).0) (not-true _ (both (not (turns_off a b)) (not (asks_ddc1 a b)) h).1)
 
-pub write_related : {c d : Core} {o o' : Observer} → Related c d o o' → (a b : ℕ) → permitted o (Write a b) ≡ true
-    → Related (write_register c a b) (write_register d a b) (observe o (Write a b)) (observe o' (Write a b))
+pub write_related : {c d : Core} {o o' : Observer} → Related c d o o' → (a b : ℕ) → permitted o (Ok (Write a b)) ≡ true
+    → Related (write_register c a b) (write_register d a b) (observe o (Ok (Write a b))) (observe o' (Ok (Write a b)))
 unfolding write_register observe permitted
 write_related (related g z s x x' y y' k o) a b h = write_by_reset g z (is_writable a) s x x' y y' k o a b h
 
 -- ---- clocks, at one byte of BTCON
 
 -- the watchdog clock, short of the 64th
-watchdog_related : (btcon : ℕ) {c d : Core} {o o' : Observer} → Related c d o o' → permitted o (Clock 3) ≡ true → Related (clocked btcon c 3) (clocked btcon d 3) (observe o (Clock 3)) (observe o' (Clock 3))
+watchdog_related : (btcon : ℕ) {c d : Core} {o o' : Observer} → Related c d o o' → permitted o (Ok (Clock 3)) ≡ true → Related (clocked btcon c 3) (clocked btcon d 3) (observe o (Ok (Clock 3))) (observe o' (Ok (Clock 3)))
 unfolding clocked clocked_as watchdog_clock watchdog_fires watchdog_next cycle_next observe permitted
 watchdog_related btcon (related g false s x x' y y' k o) h = related g false s x x' y y' k o
 watchdog_related btcon (related g true s x x' y y' k o) h =
@@ -97,16 +98,16 @@ other_clock_related (related g z s x x' y y' k o) true runs = related (period_cl
 other_clock_related (related g z s x x' y y' k o) false true = related (timer_step g) z s x x' y y' k (kept_raised_if (timer_overflows g.bt) INTR o)
 other_clock_related (related g z s x x' y y' k o) false false = related g z s x x' y y' k o
 
-clock_by_number : (btcon : ℕ) {c d : Core} {o o' : Observer} → Related c d o o' → (clock : ℕ) (watchdog : Bool) → eqb clock 3 ≡ watchdog → permitted o (Clock clock) ≡ true
-    → Related (clocked btcon c clock) (clocked btcon d clock) (observe o (Clock clock)) (observe o' (Clock clock))
+clock_by_number : (btcon : ℕ) {c d : Core} {o o' : Observer} → Related c d o o' → (clock : ℕ) (watchdog : Bool) → eqb clock 3 ≡ watchdog → permitted o (Ok (Clock clock)) ≡ true
+    → Related (clocked btcon c clock) (clocked btcon d clock) (observe o (Ok (Clock clock))) (observe o' (Ok (Clock clock)))
 unfolding clocked clocked_as timer_clock observe
 clock_by_number btcon r clock true e h = rw (eqb-true clock 3 e) (watchdog_related btcon r (rw (eqb-true clock 3 e) at h))
 clock_by_number btcon (related g false s x x' y y' k o) clock false e h = related g false s x x' y y' k o
 clock_by_number btcon (related g true s x x' y y' k o) clock false e h =
     rw e (other_clock_related (related g true s x x' y y' k o) (eqb clock 0) (timer_runs btcon clock))
 
-pub clock_related : (btcon : ℕ) {c d : Core} {o o' : Observer} → Related c d o o' → (clock : ℕ) → permitted o (Clock clock) ≡ true
-    → Related (clocked btcon c clock) (clocked btcon d clock) (observe o (Clock clock)) (observe o' (Clock clock))
+pub clock_related : (btcon : ℕ) {c d : Core} {o o' : Observer} → Related c d o o' → (clock : ℕ) → permitted o (Ok (Clock clock)) ≡ true
+    → Related (clocked btcon c clock) (clocked btcon d clock) (observe o (Ok (Clock clock))) (observe o' (Ok (Clock clock)))
 clock_related btcon r clock h = clock_by_number btcon r clock (eqb clock 3) refl h
 
 -- ---- polarity

@@ -1,15 +1,15 @@
 -- Two runs through transfers that are not for this chip (document 01, "How tight each statement is"): what is presumed of
 -- the two lists of words, and what is then the same. The premises look at words, outside levels, II ADR and watchdog clocks.
-use Rattle.std.specs.Prelude.{ℕ, ◌+◌, ◌*◌, ◌/◌, ◌≡◌, List, [], ◌∷◌, Bool, true, false, not, ◌&&◌, ◌||◌, length, eqb, ltb}
+use Rattle.std.specs.Prelude.{ℕ, ◌+◌, ◌*◌, ◌/◌, ◌≡◌, List, [], ◌∷◌, Bool, true, false, not, ◌&&◌, ◌||◌, length, eqb, ltb, Ok, Err}
 use Rattle.std.specs.Bool.{beq}
 use Rattle.bits.specs.Byte.{pick, num, bit}
 use Rattle.registers.specs.Names.{MDCON, CLRWDT, IIADR, IIDAT, IISTS, MD12, ENDDC}
 use Rattle.events.specs.Pins as pin
 use Rattle.events.specs.Clocks as clock
 use Rattle.registers.specs.Table.{is_writable}
-use Rattle.events.specs.declared.Decoded.{Decoded}
+use Rattle.events.specs.Decoded.{Decoded}
 use Rattle.events.specs.Kinds.{on_read, on_pin}
-use Rattle.events.specs.declared.Decoded.TheVariants.{Read, Write, Pin, Clock, Polarity, Refused}
+use Rattle.events.specs.declared.Event.TheVariants.{Read, Write, Pin, Clock, Polarity}
 use Rattle.events.specs.Word.{decode}
 use Rattle.bus.specs.declared.Phase.{Phase}
 use Rattle.bus.specs.declared.Phase.TheVariants.{Idle, Address, Addressed, Ignoring, Receive, Transmit, Held}
@@ -120,12 +120,12 @@ observe_clock o k =
     }
 
 unfoldable pub observe : Observer → Decoded → Observer
-observe o (Read a) = o
-observe o (Write a b) = observe_write o a b
-observe o (Pin p level) = observe_pin o p level
-observe o (Clock k) = observe_clock o k
-observe o (Polarity vertical level) = o
-observe o (Refused n) = o
+observe o (Ok (Read a)) = o
+observe o (Ok (Write a b)) = observe_write o a b
+observe o (Ok (Pin p level)) = observe_pin o p level
+observe o (Ok (Clock k)) = observe_clock o k
+observe o (Ok (Polarity vertical level)) = o
+observe o (Err r) = o
 
 -- ---- what a run may not do
 
@@ -152,14 +152,14 @@ watchdog_expires o k = o.reset && (eqb k clock.watchdog && not (ltb o.watchdog 6
 
 -- what each event of a run must keep to: DDC2B stays selected, no address is the chip's, and nothing resets it
 unfoldable pub permitted : Observer → Decoded → Bool
-permitted o (Read a) = true
-permitted o (Write a b) = not (accepted o a && turns_off a b) && not (accepted o a && asks_ddc1 a b)
-permitted o (Pin p level) =
+permitted o (Ok (Read a)) = true
+permitted o (Ok (Write a b)) = not (accepted o a && turns_off a b) && not (accepted o a && asks_ddc1 a b)
+permitted o (Ok (Pin p level)) =
     pick (eqb p pin.SCL) (not (scl_rises o level && completes_match o.own o.sda o.trace))
     (pick (eqb p pin.RESET) (not (reset_falls o level)) true)
-permitted o (Clock k) = not (watchdog_expires o k)
-permitted o (Polarity vertical level) = true
-permitted o (Refused n) = true
+permitted o (Ok (Clock k)) = not (watchdog_expires o k)
+permitted o (Ok (Polarity vertical level)) = true
+permitted o (Err r) = true
 
 -- SDA is not touched while SCL is high, also with RESET low
 unfoldable pub untouched : Observer → Decoded → Bool

@@ -1,5 +1,5 @@
 -- Two chips of which one cannot be told from the other but by the bits of a foreign transfer.
-use Rattle.std.specs.Prelude.{ℕ, ◌<◌, ◌≡◌, List, Bool, true, false, length, ltb}
+use Rattle.std.specs.Prelude.{ℕ, ◌<◌, ◌≡◌, List, Bool, true, false, length, ltb, Ok}
 use Rattle.bus.specs.declared.Mode.TheVariants.{Ddc2b}
 use Rattle.bus.specs.declared.Phase.{Phase}
 use Rattle.bus.specs.declared.Phase.TheVariants.{Idle, Address, Ignoring}
@@ -9,8 +9,8 @@ use Rattle.chip.specs.declared.Core.{Core}
 use Rattle.chip.specs.declared.Chip.{Chip}
 use Rattle.chip.specs.State.{bus_of, chip_of}
 use Rattle.isolation_laws.specs.Foreign.{Trace, none, since, byte_of, Observer, touches_sda}
-use Rattle.events.specs.declared.Decoded.{Decoded}
-use Rattle.events.specs.declared.Decoded.TheVariants.{Pin}
+use Rattle.events.specs.Decoded.{Decoded}
+use Rattle.events.specs.declared.Event.TheVariants.{Pin}
 
 -- the core g but for RESET, SCL, SDA, the phase and II DAT
 abbrev pub frame : Core → Bool → Bool → Bool → Phase → ℕ → Core
@@ -61,5 +61,5 @@ pub data RelatedChips : Chip → Chip → Observer → Observer → Type 0 where
 -- the same event where SDA is not touched; SDA touched in both while SCL is low; SDA put to one level, equal before
 pub data Paired (o o' : Observer) : Decoded → Decoded → Type 0 where
   same : {e : Decoded} → touches_sda e ≡ false → Paired o o' e e
-  low : (l l' : Bool) → o.scl ≡ false → Paired o o' (Pin 24 l) (Pin 24 l')
-  equal : (l : Bool) → o.sda ≡ o'.sda → Paired o o' (Pin 24 l) (Pin 24 l)
+  low : (l l' : Bool) → o.scl ≡ false → Paired o o' (Ok (Pin 24 l)) (Ok (Pin 24 l'))
+  equal : (l : Bool) → o.sda ≡ o'.sda → Paired o o' (Ok (Pin 24 l)) (Ok (Pin 24 l))

@@ -11,8 +11,9 @@ use lib.Dec.{eqb, ltb}
 use borrow.Author.Tests.{ltb-false, eqb-true}
 use Rattle.bits.specs.Byte.{pick, num}
 use Rattle.bits.proofs.Level.{num_eqb}
-use Rattle.events.specs.declared.Decoded.{Decoded}
-use Rattle.events.specs.declared.Decoded.TheVariants.{Pin}
+use Rattle.std.specs.Prelude.{Ok}
+use Rattle.events.specs.Decoded.{Decoded}
+use Rattle.events.specs.declared.Event.TheVariants.{Pin}
 use Rattle.events.specs.Word.{decode, event, no_event, no_place, bad_byte, event_word}
 use Rattle.bus.specs.declared.Phase.{Phase}
 use Rattle.bus.specs.declared.Phase.TheVariants.{Idle}
@@ -64,21 +65,21 @@ all_good change cs e = let both = first_good (fault_of change) (first_fault cs) 
 
 -- ---- the step at a change
 
-decode_sda : (l : Bool) → decode (event_word 3 SDA (num l)) ≡ Pin SDA l
+decode_sda : (l : Bool) → decode (event_word 3 SDA (num l)) ≡ Ok (Pin SDA l)
 unfolding decode no_event no_place bad_byte event
 decode_sda true = refl
 decode_sda false = refl
 
-decode_scl : (l : Bool) → decode (event_word 3 SCL (num l)) ≡ Pin SCL l
+decode_scl : (l : Bool) → decode (event_word 3 SCL (num l)) ≡ Ok (Pin SCL l)
 unfolding decode no_event no_place bad_byte event
 decode_scl true = refl
 decode_scl false = refl
 
-next_sda : (c : Chip) (l : Bool) → (next c (Pin SDA l)).core ≡ sda_moved c.core l
+next_sda : (c : Chip) (l : Bool) → (next c (Ok (Pin SDA l))).core ≡ sda_moved c.core l
 unfolding next core_after pin_moved pin_moved_as pin_kind
 next_sda c l = refl
 
-next_scl : (c : Chip) (l : Bool) → (next c (Pin SCL l)).core ≡ scl_moved c.core l
+next_scl : (c : Chip) (l : Bool) → (next c (Ok (Pin SCL l))).core ≡ scl_moved c.core l
 unfolding next core_after pin_moved pin_moved_as pin_kind
 next_scl c l = refl
 
@@ -90,13 +91,13 @@ module _ (c : Chip) (w : well_formed c ≡ true) (change : ℕ) where
   step_sda : line_of change ≡ SDA → level_of change < 2 → (step c (event_of change)).chip.core ≡ sda_moved c.core (eqb (level_of change) 1)
   step_sda e h =
       let level : level_of change ≡ num (eqb (level_of change) 1) = sym (num_eqb (level_of change) h) in
-      ap (λ (d : Chip). d.core) (stepped (Pin SDA (eqb (level_of change) 1)) (ap₂ (λ a b. decode (event_word 3 a b)) e level ∙ decode_sda (eqb (level_of change) 1)))
+      ap (λ (d : Chip). d.core) (stepped (Ok (Pin SDA (eqb (level_of change) 1))) (ap₂ (λ a b. decode (event_word 3 a b)) e level ∙ decode_sda (eqb (level_of change) 1)))
       ∙ next_sda c (eqb (level_of change) 1)
 
   step_scl : line_of change ≡ SCL → level_of change < 2 → (step c (event_of change)).chip.core ≡ scl_moved c.core (eqb (level_of change) 1)
   step_scl e h =
       let level : level_of change ≡ num (eqb (level_of change) 1) = sym (num_eqb (level_of change) h) in
-      ap (λ (d : Chip). d.core) (stepped (Pin SCL (eqb (level_of change) 1)) (ap₂ (λ a b. decode (event_word 3 a b)) e level ∙ decode_scl (eqb (level_of change) 1)))
+      ap (λ (d : Chip). d.core) (stepped (Ok (Pin SCL (eqb (level_of change) 1))) (ap₂ (λ a b. decode (event_word 3 a b)) e level ∙ decode_scl (eqb (level_of change) 1)))
       ∙ next_scl c (eqb (level_of change) 1)
 
 -- ---- from place to place

@@ -7,7 +7,8 @@ use lib.Dec.{ltb}
 use lib.ListN.{get_or}
 use Rattle.bits.specs.Byte.{pick, bit}
 use Rattle.registers.specs.Names.{CLRWDT}
-use Rattle.events.specs.declared.Decoded.TheVariants.{Write, Clock}
+use Rattle.std.specs.Prelude.{Ok}
+use Rattle.events.specs.declared.Event.TheVariants.{Write, Clock}
 use Rattle.chip.specs.declared.Chip.{Chip}
 use Rattle.chip_events.specs.Outcome.{next}
 use Rattle.isolation_laws.specs.Foreign.{compared_state}
@@ -38,15 +39,15 @@ pub data InWait : Machine → Type 0 where
 instructs : (m : Machine) → InWait m → ((instruct rom m).number ≡ 0) × (is_uninterrupted (instruction_accesses rom m) ≡ true) × InWait (instruct rom m).machine
 unfolding image
 instructs _ (at_constant a x y s over n v d z c ram rs k q h g) =
-    (refl, refl, at_store x y s ((over + 2) % 32) false v d false c ram rs (pick (ltb (over + 2) 32) k (next k (Clock 0))) (quiet_after k q (ltb (over + 2) 32)) h g)
+    (refl, refl, at_store x y s ((over + 2) % 32) false v d false c ram rs (pick (ltb (over + 2) 32) k (next k (Ok (Clock 0)))) (quiet_after k q (ltb (over + 2) 32)) h g)
 instructs _ (at_store x y s over n v d z c ram rs k (quiet irqx mdcon polarity bt watchdog sync bus pins sda scl e) h g) =
-    let k' = next k (Write CLRWDT 0x55) in
+    let k' = next k (Ok (Write CLRWDT 0x55)) in
     let q = quiet_cleared k (quiet irqx mdcon polarity bt watchdog sync bus pins sda scl e) in
-    (refl, refl, at_load 0x55 x y s ((over + 3) % 32) n v d z c ram rs (pick (ltb (over + 3) 32) k' (next k' (Clock 0))) (quiet_after k' q (ltb (over + 3) 32)) h g)
+    (refl, refl, at_load 0x55 x y s ((over + 3) % 32) n v d z c ram rs (pick (ltb (over + 3) 32) k' (next k' (Ok (Clock 0)))) (quiet_after k' q (ltb (over + 3) 32)) h g)
 instructs _ (at_load a x y s over n v d z c ram rs k q h g) =
-    rw h (refl, refl, at_branch 0 x y s ((over + 3) % 32) false v d c ram rs (pick (ltb (over + 3) 32) k (next k (Clock 0))) (quiet_after k q (ltb (over + 3) 32)) h g)
+    rw h (refl, refl, at_branch 0 x y s ((over + 3) % 32) false v d c ram rs (pick (ltb (over + 3) 32) k (next k (Ok (Clock 0)))) (quiet_after k q (ltb (over + 3) 32)) h g)
 instructs _ (at_branch a x y s over n v d c ram rs k q h g) =
-    (refl, refl, at_constant a x y s ((over + 3) % 32) n v d true c ram rs (pick (ltb (over + 3) 32) k (next k (Clock 0))) (quiet_after k q (ltb (over + 3) 32)) h g)
+    (refl, refl, at_constant a x y s ((over + 3) % 32) n v d true c ram rs (pick (ltb (over + 3) 32) k (next k (Ok (Clock 0)))) (quiet_after k q (ltb (over + 3) 32)) h g)
 
 turn_by : (c : Cpu) (ram rs : List ℕ) (k : Chip) → Quiet rs k → InWait (machine c ram k) → TurnStays InWait rom (machine c ram k)
 turn_by c ram rs k q w =

@@ -6,7 +6,8 @@ use mathlib.Core.List.{List, [], ◌∷◌}
 use lib.Dec.{eqb}
 use Rattle.bits.specs.Byte.{pick}
 use Rattle.registers.specs.Names.{IEX, CLRWDT}
-use Rattle.events.specs.declared.Decoded.TheVariants.{Write, Clock}
+use Rattle.std.specs.Prelude.{Ok}
+use Rattle.events.specs.declared.Event.TheVariants.{Write, Clock}
 use Rattle.sync.specs.declared.Sync.{Sync}
 use Rattle.chip.specs.declared.Chip.{Chip}
 use Rattle.chip.specs.declared.Pins.{Pins}
@@ -37,17 +38,17 @@ module _ {rs : List ℕ} where
   pub quiet_registers : (k : Chip) → Quiet rs k → k.registers ≡ rs
   quiet_registers _ (quiet irqx mdcon polarity bt watchdog sync bus pins sda scl h) = refl
 
-  quiet_clock : (k : Chip) → Quiet rs k → Quiet rs (next k (Clock 0))
+  quiet_clock : (k : Chip) → Quiet rs k → Quiet rs (next k (Ok (Clock 0)))
   unfolding opened
   quiet_clock _ (quiet irqx mdcon polarity bt watchdog sync bus pins sda scl h) = quiet irqx mdcon polarity bt watchdog _ _ pins sda scl h
 
   -- an instruction whose cycles fill 32, or not
-  pub quiet_after : (k : Chip) → Quiet rs k → (b : Bool) → Quiet rs (pick b k (next k (Clock 0)))
+  pub quiet_after : (k : Chip) → Quiet rs k → (b : Bool) → Quiet rs (pick b k (next k (Ok (Clock 0))))
   quiet_after k q true = q
   quiet_after k q false = quiet_clock k q
 
   -- 55H to CLRWDT
-  pub quiet_cleared : (k : Chip) → Quiet rs k → Quiet rs (next k (Write CLRWDT 0x55))
+  pub quiet_cleared : (k : Chip) → Quiet rs k → Quiet rs (next k (Ok (Write CLRWDT 0x55)))
   unfolding opened
   quiet_cleared _ (quiet irqx mdcon polarity bt watchdog sync bus pins sda scl h) = quiet irqx mdcon polarity bt 0 sync bus pins sda scl h
 

@@ -6,9 +6,10 @@ use mathlib.Core.List.{List, [], ◌∷◌, ◌++◌}
 use lib.Dec.{eqb, ltb}
 use lib.ListN.{get_or}
 use Rattle.bits.specs.Byte.{pick, bit}
+use Rattle.std.specs.Prelude.{Ok}
 use Rattle.events.specs.Word as word
 use Rattle.events.specs.Word.{decode}
-use Rattle.events.specs.declared.Decoded.TheVariants.{Clock}
+use Rattle.events.specs.declared.Event.TheVariants.{Clock}
 use Rattle.bus_ddc2b.specs.Ddc2b.{matches}
 use Rattle.bus.specs.declared.Mode.TheVariants.{Ddc2b}
 use Rattle.chip.specs.declared.Chip.{Chip}
@@ -93,9 +94,9 @@ data InWait : Machine → Type 0 where
 instructs : (m : Machine) → InWait m → ((instruct rom m).number ≡ 0) × (is_uninterrupted (instruction_accesses rom m) ≡ true) × InWait (instruct rom m).machine
 unfolding image
 instructs _ (at_load a x y s over n v d z c ram rs k q h g) =
-    rw h (refl, refl, at_branch 0 x y s ((over + 3) % 32) false v d c ram rs (pick (ltb (over + 3) 32) k (next k (Clock 0))) (quiet_after k q (ltb (over + 3) 32)) h g)
+    rw h (refl, refl, at_branch 0 x y s ((over + 3) % 32) false v d c ram rs (pick (ltb (over + 3) 32) k (next k (Ok (Clock 0)))) (quiet_after k q (ltb (over + 3) 32)) h g)
 instructs _ (at_branch a x y s over n v d c ram rs k q h g) =
-    (refl, refl, at_load a x y s ((over + 3) % 32) n v d true c ram rs (pick (ltb (over + 3) 32) k (next k (Clock 0))) (quiet_after k q (ltb (over + 3) 32)) h g)
+    (refl, refl, at_load a x y s ((over + 3) % 32) n v d true c ram rs (pick (ltb (over + 3) 32) k (next k (Ok (Clock 0)))) (quiet_after k q (ltb (over + 3) 32)) h g)
 
 turn_by : (c : Cpu) (ram rs : List ℕ) (k : Chip) → Quiet rs k → InWait (machine c ram k) → TurnStays InWait rom (machine c ram k)
 turn_by c ram rs k q w =

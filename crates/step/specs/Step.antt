@@ -1,8 +1,8 @@
 -- The step: the next chip and the answer to each event word (document 01, "Event words" and "Numbers given back").
-use Rattle.std.specs.Prelude.{ℕ, List, false}
+use Rattle.std.specs.Prelude.{ℕ, List, false, Ok}
 use Rattle.bits.specs.Byte.{pick}
-use Rattle.events.specs.declared.Decoded.{Decoded}
-use Rattle.events.specs.declared.Decoded.TheVariants.{Pin, Clock}
+use Rattle.events.specs.Decoded.{Decoded}
+use Rattle.events.specs.declared.Event.TheVariants.{Pin, Clock}
 use Rattle.events.specs.Pins.{HSYNCI}
 use Rattle.events.specs.Clocks.{period}
 use Rattle.events.specs.Word.{decode}
@@ -36,8 +36,8 @@ core_moved registers c = record { core = c; answer = answer_word 0 false (reques
 
 -- the event that a common one is; any other is itself
 abbrev pub common_event : Common → Decoded → Decoded
-common_event (Hsynci level) e = Pin HSYNCI level
-common_event Period e = Clock period
+common_event (Hsynci level) e = Ok (Pin HSYNCI level)
+common_event Period e = Ok (Clock period)
 common_event Other e = e
 
 -- the step, for every state and word: an ill formed state is told before anything else about the word

@@ -8,7 +8,7 @@ ghost use Rattle.chip.specs.State.{chip_of, register_at};
 ghost use Rattle.step.specs.Step.{advance as advance_of, core_of, core_moved, common_event, step as step_of};
 
 use chip::{Chip, Core};
-use events::{Decoded, HSYNCI, PERIOD};
+use events::{Event, HSYNCI, PERIOD, Refusal};
 use registers::{BTCON, IEX};
 
 // The chip after a word, and the answer word.
@@ -35,7 +35,7 @@ fn enables(registers: &[u8; 38]) -> u8
 // The step over a decoded event, without the test of the state: the list call makes that once. The array of stored registers is
 // lent and changed in place, so that it is never copied.
 #[tactic(auto, unfolding(crate::specs::Step::advance, crate::specs::Step::answered, chip_events::specs::Outcome::outcome, chip_events::specs::Outcome::next))]
-pub fn advance_core(registers: &mut [u8; 38], c: Core, event: Decoded) -> CoreStepped
+pub fn advance_core(registers: &mut [u8; 38], c: Core, event: Result<Event, Refusal>) -> CoreStepped
     ensures { (result ≡ core_of (advance_of (chip_of registers.old c) event)) × (registers.new ≡ (advance_of (chip_of registers.old c) event).chip.registers) }
 {
     let done = chip_events::carry_out(registers, c, event);
@@ -59,12 +59,12 @@ enum Common {
     Other,
 }
 
-fn common_of(event: Decoded) -> Common
+fn common_of(event: Result<Event, Refusal>) -> Common
     ensures { common_event result event ≡ event }
 {
     match event {
-        Decoded::Pin(HSYNCI, level) => Common::Hsynci(level),
-        Decoded::Clock(PERIOD) => Common::Period,
+        Ok(Event::Pin(HSYNCI, level)) => Common::Hsynci(level),
+        Ok(Event::Clock(PERIOD)) => Common::Period,
         _ => Common::Other,
     }
 }
@@ -96,7 +96,7 @@ pub fn advance_word(registers: &mut [u8; 38], c: Core, word: u32) -> CoreStepped
 }
 
 // The step over a decoded event, over a chip by value.
-pub fn advance(c: Chip, event: Decoded) -> Stepped
+pub fn advance(c: Chip, event: Result<Event, Refusal>) -> Stepped
     ensures { result ≡ advance_of c event }
 {
     let mut registers = c.registers;

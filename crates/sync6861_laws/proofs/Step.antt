@@ -7,8 +7,9 @@ use Rattle.bits.specs.Byte.{pick, bit, with_bit}
 use Rattle.bits.proofs.Bitwise.{bit_with_bit}
 use Rattle.registers.specs.Names.{MDCON, CLRFLG, HSEL}
 use Rattle.registers.specs.Table.{table, row_of, is_writable, updated}
+use Rattle.std.specs.Prelude.{Ok}
 use Rattle.events.specs.Pins.{HSYNCI, VSYNCI}
-use Rattle.events.specs.declared.Decoded.TheVariants.{Write, Pin, Clock}
+use Rattle.events.specs.declared.Event.TheVariants.{Write, Pin, Clock}
 use Rattle.sync.specs.declared.Sync.{Sync}
 use Rattle.sync.specs.Sync.{on_hsync, on_vsync, on_period, hsel_cleared}
 use Rattle.chip.specs.declared.Chip.{Chip}
@@ -36,7 +37,7 @@ rise_order false true false r = refl
 rise_order level false old r = absurd (true≢false (sym r))
 
 module _ (c : Chip) (r : c.core.reset ≡ true) where
-  at_hsynci : (level : Bool) → counters_of (next c (Pin HSYNCI level)) ≡ base_step (counters_of c) (call.Hsynci level)
+  at_hsynci : (level : Bool) → counters_of (next c (Ok (Pin HSYNCI level))) ≡ base_step (counters_of c) (call.Hsynci level)
   unfolding next core_after pin_moved pin_moved_as pin_kind hsync_moved base_step
   at_hsynci level = same refl refl refl (ap (λ (t : Bool). pick t (on_hsync c.core.sync) c.core.sync) (rise_order level c.core.reset c.core.pins.hsynci r))
 
@@ -46,7 +47,7 @@ module _ (c : Chip) (r : c.core.reset ≡ true) where
   vsynci_by true level = refl
   vsynci_by false level = refl
 
-  at_vsynci : (level : Bool) → counters_of (next c (Pin VSYNCI level)) ≡ base_step (counters_of c) (call.Vsynci level)
+  at_vsynci : (level : Bool) → counters_of (next c (Ok (Pin VSYNCI level))) ≡ base_step (counters_of c) (call.Vsynci level)
   unfolding next core_after pin_moved pin_moved_as pin_kind vsync_moved base_step
   at_vsynci level =
       vsynci_by (rises c.core.reset c.core.pins.vsynci level) level
@@ -58,7 +59,7 @@ module _ (c : Chip) (r : c.core.reset ≡ true) where
   period_by true = refl
   period_by false = refl
 
-  at_clock : counters_of (next c (Clock 0)) ≡ base_step (counters_of c) call.Clock
+  at_clock : counters_of (next c (Ok (Clock 0))) ≡ base_step (counters_of c) call.Clock
   unfolding next core_after clocked clocked_as base_step
   at_clock = period_by c.core.reset ∙ same refl refl refl (ap (λ (t : Bool). pick t (on_period (hsel_of c.core) c.core.sync) c.core.sync) r)
 
@@ -71,7 +72,7 @@ module _ (c : Chip) (r : c.core.reset ≡ true) where
   hsel_by true false s = refl
   hsel_by false new s = refl
 
-  at_hsel : (new : Bool) → counters_of (next c (Write MDCON (with_bit c.core.mdcon HSEL new))) ≡ base_step (counters_of c) (call.Hsel new)
+  at_hsel : (new : Bool) → counters_of (next c (Ok (Write MDCON (with_bit c.core.mdcon HSEL new)))) ≡ base_step (counters_of c) (call.Hsel new)
   unfolding base_step is_writable row_of table
   at_hsel new =
       let b : ℕ = with_bit c.core.mdcon HSEL new in
@@ -80,11 +81,11 @@ module _ (c : Chip) (r : c.core.reset ≡ true) where
       (λ _ _. same refl refl put (hsel_by (hsel_of c.core) (bit HSEL (updated MDCON c.core.mdcon b)) c.core.sync ∙ ap (λ (t : Bool). pick (hsel_of c.core && not t) (hsel_cleared c.core.sync) c.core.sync) put))
       refuse
 
-  at_clear_h : counters_of (next c (Write CLRFLG 0x80)) ≡ base_step (counters_of c) call.ClearH
+  at_clear_h : counters_of (next c (Ok (Write CLRFLG 0x80))) ≡ base_step (counters_of c) call.ClearH
   unfolding base_step is_writable row_of table bit
   at_clear_h = by_write (λ (x : Chip). counters_of x ≡ base_step (counters_of c) call.ClearH) c CLRFLG 0x80 (λ _ _. refl) refuse
 
-  at_clear_v : counters_of (next c (Write CLRFLG 0x40)) ≡ base_step (counters_of c) call.ClearV
+  at_clear_v : counters_of (next c (Ok (Write CLRFLG 0x40))) ≡ base_step (counters_of c) call.ClearV
   unfolding base_step is_writable row_of table bit
   at_clear_v = by_write (λ (x : Chip). counters_of x ≡ base_step (counters_of c) call.ClearV) c CLRFLG 0x40 (λ _ _. refl) refuse
 

@@ -7,8 +7,9 @@ use borrow.Author.Tests.{eqb-true, not-true}
 use lib.Dec.{eqb, ltb}
 use Rattle.bits.specs.Byte.{pick, bit}
 use Rattle.bits.proofs.Finite.{both}
-use Rattle.events.specs.declared.Decoded.{Decoded}
-use Rattle.events.specs.declared.Decoded.TheVariants.{Read, Write, Pin, Clock, Polarity, Refused}
+use Rattle.std.specs.Prelude.{Ok, Err}
+use Rattle.events.specs.Decoded.{Decoded}
+use Rattle.events.specs.declared.Event.TheVariants.{Read, Write, Pin, Clock, Polarity}
 use Rattle.bus.specs.declared.Comparison.{Comparison}
 use Rattle.bus.specs.declared.Comparison.TheVariants.{None, Own}
 use Rattle.bus.specs.declared.Phase.{Phase}
@@ -64,7 +65,7 @@ not_held own sda (Held matched clocks) h = false_true h
 
 rise_phase : (c : Chip) → c.core.reset ≡ true → bit 3 c.core.bus.iists ≡ false → bit 0 c.core.mdcon ≡ false
     → pulls_scl c.core.bus.phase ≡ false → c.core.scl ≡ false
-    → (next c (Pin 25 true)).core.bus.phase ≡ phase_at_rise c.core.bus.iiadr (line (pulls_sda c.core.bus.phase) c.core.sda) c.core.bus.phase
+    → (next c (Ok (Pin 25 true))).core.bus.phase ≡ phase_at_rise c.core.bus.iiadr (line (pulls_sda c.core.bus.phase) c.core.sda) c.core.bus.phase
 unfolding next core_after pin_moved pin_moved_as pin_kind scl_moved on_scl on_scl_ddc2b mode scl_pulled scl_rise bus_at_rise
 rise_phase c r e m f s = rw (r, e, m, f, s)
 
@@ -72,9 +73,9 @@ rise_phase c r e m f s = rw (r, e, m, f, s)
 pub outcome_told : (c : Chip) (e : Decoded) → raises AddressMatch c e ≡ true
     → (compared_in (next c e).core.bus.phase ≡ address_outcome c) × (is_own (address_outcome c) ≡ true)
 unfolding raises
-outcome_told c (Read a) h = false_true h
-outcome_told c (Write a b) h = false_true h
-outcome_told c (Pin p level) h =
+outcome_told c (Ok (Read a)) h = false_true h
+outcome_told c (Ok (Write a b)) h = false_true h
+outcome_told c (Ok (Pin p level)) h =
     let scl = both ((eqb p 25 && level) && (c.core.reset && (not c.core.scl && _))) _ h in
     let put = both (eqb p 25 && level) (c.core.reset && (not c.core.scl && _)) scl.0 in
     let pin = both (eqb p 25) level put.0 in
@@ -86,6 +87,6 @@ outcome_told c (Pin p level) h =
     let done = at_phase_lem c.core.bus.iiadr (line (pulls_sda c.core.bus.phase) c.core.sda) c.core.bus.phase hit.1 in
     let phase = rise_phase c high.0 (not-true (bit 3 c.core.bus.iists) on.0) (not-true (bit 0 c.core.mdcon) on.1) free (not-true c.core.scl low.0) in
     (rw (eqb-true p 25 pin.0, pin.1, phase) done.0, done.1)
-outcome_told c (Clock k) h = false_true h
-outcome_told c (Polarity vertical level) h = false_true h
-outcome_told c (Refused n) h = false_true h
+outcome_told c (Ok (Clock k)) h = false_true h
+outcome_told c (Ok (Polarity vertical level)) h = false_true h
+outcome_told c (Err r) h = false_true h

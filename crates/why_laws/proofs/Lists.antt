@@ -8,7 +8,7 @@ use native.Mathlib.Nat.{not-suc-le-zero}
 use native.Mathlib.Omega.{arith}
 use lib.ListN.{length, take, get_or}
 use Rattle.events.specs.Word.{decode}
-use Rattle.events.proofs.Refusal.{decode_in_range}
+use Rattle.events.proofs.Refused.{decode_in_range}
 use Rattle.chip.specs.declared.Chip.{Chip}
 use Rattle.chip.specs.State.{mode_of}
 use Rattle.chip_events.specs.Outcome.{next}

@@ -14,7 +14,7 @@ use Rattle.bits.proofs.Bitwise.{bit_and_lem}
 use Rattle.bits.proofs.Finite.{both, lt_or_le}
 use Rattle.registers.specs.Names.{IEX}
 use Rattle.events.specs.Word.{decode}
-use Rattle.events.specs.declared.Decoded.{Decoded}
+use Rattle.events.specs.Decoded.{Decoded}
 use Rattle.bus.specs.declared.Comparison.{Comparison}
 use Rattle.bus.specs.declared.Comparison.TheVariants.{None, Own}
 use Rattle.bus.specs.Bus.{mode, mode_by}

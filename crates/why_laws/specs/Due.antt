@@ -2,7 +2,7 @@
 use Rattle.std.specs.Prelude.{ℕ, suc, ◌<◌, ◌≤◌, ◌≡◌, Bool, true, false, ◌&&◌, List, eqb, length, take, get_or}
 use Rattle.bits.specs.Byte.{bit}
 use Rattle.events.specs.Word.{decode}
-use Rattle.events.specs.declared.Decoded.{Decoded}
+use Rattle.events.specs.Decoded.{Decoded}
 use Rattle.bus.specs.declared.Comparison.{Comparison}
 use Rattle.bus.specs.declared.Comparison.TheVariants.{None, Own}
 use Rattle.bus.specs.declared.Phase.{Phase}

@@ -1,6 +1,6 @@
 -- What is found of a source: by a step, and by a list.
 use Rattle.std.specs.Prelude.{◌≡◌, true, false, ℕ, ◌+◌, List}
-use Rattle.events.specs.declared.Decoded.{Decoded}
+use Rattle.events.specs.Decoded.{Decoded}
 use Rattle.chip.specs.declared.Chip.{Chip}
 use Rattle.chip_events.specs.Outcome.{next}
 use Rattle.why_last_set.specs.declared.Sort.{Sort}

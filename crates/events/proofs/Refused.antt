@@ -7,14 +7,17 @@ use lib.Dec.{eqb, ltb}
 use borrow.Author.Tests.{ltb-true, ltb-false, not-false}
 use Rattle.bits.specs.Byte.{pick}
 use Rattle.bits.proofs.Level.{pick_by}
-use Rattle.events.specs.declared.Decoded.{Decoded}
-use Rattle.events.specs.declared.Decoded.TheVariants.{Read, Write, Pin, Clock, Polarity, Refused}
+use Rattle.std.specs.Prelude.{Ok, Err}
+use Rattle.events.specs.Decoded.{Decoded}
+use Rattle.events.specs.declared.Event.{Event}
+use Rattle.events.specs.declared.Event.TheVariants.{Read, Write, Pin, Clock, Polarity}
+use Rattle.events.specs.declared.Refusal.TheVariants.{NoEvent, NoPlace, BadByte}
 use Rattle.events.specs.Word.{kind, field_a, field_b, event, is_pin, no_event, no_place, bad_byte, decode, number_of, InRange}
 
-number_event : (w : ℕ) → number_of (event w) ≡ 0
+number_event : (w : ℕ) → number_of (Ok (event w)) ≡ 0
 unfolding event
 number_event w =
-    let P : Decoded → Type 0 = λ (e : Decoded). number_of e ≡ 0 in
+    let P : Event → Type 0 = λ (e : Event). number_of (Ok e) ≡ 0 in
     pick_by P (eqb (kind w) 1) (λ _. refl)
     (λ _. pick_by P (eqb (kind w) 2) (λ _. refl)
     (λ _. pick_by P (eqb (kind w) 3) (λ _. refl)
@@ -24,7 +27,7 @@ number_event w =
 abbrev first : Bool → Bool → Bool → ℕ
 first s t u = pick s 1 (pick t 2 (pick u 3 0))
 
-number_first : (s t u : Bool) (e : Decoded) → number_of e ≡ 0 → number_of (pick s (Refused 1) (pick t (Refused 2) (pick u (Refused 3) e))) ≡ first s t u
+number_first : (s t u : Bool) (e : Decoded) → number_of e ≡ 0 → number_of (pick s (Err NoEvent) (pick t (Err NoPlace) (pick u (Err BadByte) e))) ≡ first s t u
 number_first true t u e h = refl
 number_first false true u e h = refl
 number_first false false true e h = refl
@@ -44,7 +47,7 @@ first_is false false false = (refl, refl, refl, refl)
 module _ (w : ℕ) where
   pub number_is : number_of (decode w) ≡ first (no_event w) (no_place w) (bad_byte w)
   unfolding decode
-  number_is = number_first (no_event w) (no_place w) (bad_byte w) (event w) (number_event w)
+  number_is = number_first (no_event w) (no_place w) (bad_byte w) (Ok (event w)) (number_event w)
 
   pub refused_1 : eqb (number_of (decode w)) 1 ≡ no_event w
   refused_1 = rw number_is (first_is (no_event w) (no_place w) (bad_byte w)).0
@@ -62,7 +65,7 @@ module _ (w : ℕ) where
 -- the event of a kind, over the tests of its kind, where it has a place with this A
 in_range_by : (one two three four : Bool) (a b : ℕ) → b < 256 →
     pick one (ltb 0x25 a) (pick two (ltb 0x25 a) (pick three (not (is_pin a)) (pick four (ltb 3 a) (ltb 1 a)))) ≡ false →
-    InRange (pick one (Read a) (pick two (Write a b) (pick three (Pin a (eqb b 1)) (pick four (Clock a) (Polarity (eqb a 1) (eqb b 1))))))
+    InRange (Ok (pick one (Read a) (pick two (Write a b) (pick three (Pin a (eqb b 1)) (pick four (Clock a) (Polarity (eqb a 1) (eqb b 1)))))))
 in_range_by true _ _ _ a b hb h = omega (arith, ltb-false 0x25 a h)
 in_range_by false true _ _ a b hb h = (omega (arith, ltb-false 0x25 a h), hb)
 in_range_by false false true _ a b hb h = not-false (is_pin a) h
