@@ -149,3 +149,7 @@ pub fn well_formed(c: Chip) -> bool
         & (reserved_apart(core) & reserved(registers)))
         & bus_fits(chip::mode_of(core), phase, shifter)
 }
+
+// Why a report is refused on a state that is not well formed.
+#[derive(Clone, Copy, PartialEq, Eq, Debug)]
+pub struct IllFormed;
