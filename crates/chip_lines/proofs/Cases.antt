@@ -2,19 +2,18 @@
 -- Assumes nothing.
 use mathlib.Core.Path.{◌≡◌, refl}
 use mathlib.Core.Bool.{Bool, true, false}
+use Rattle.std.specs.Prelude.{Ok, Err}
 use Rattle.bits.specs.Byte.{pick}
 use Rattle.chip.specs.declared.Chip.{Chip}
 use Rattle.chip_well_formed.specs.WellFormed.{well_formed}
-use Rattle.chip_lines.specs.declared.Lines.{Lines}
-use Rattle.chip_lines.specs.declared.Lines.TheVariants.{IllFormed, Levels}
-use Rattle.chip_lines.specs.Lines.{sda_of, scl_of, pulls_sda_of, pulls_scl_of, lines_number, lines_report, LinesValues, number_at, LinesCase}
+use Rattle.chip_lines.specs.Lines.{Lines, levels_of, lines_number, lines_report, LinesValues, number_at, LinesCase}
 
-lines_by : (c : Chip) (formed : Bool) → well_formed c ≡ formed → LinesValues c (pick formed (Levels (sda_of c) (scl_of c) (pulls_sda_of c) (pulls_scl_of c)) IllFormed)
+lines_by : (c : Chip) (formed : Bool) → well_formed c ≡ formed → LinesValues c (pick formed (Ok (levels_of c)) (Err (record {})))
 unfolding LinesValues
 lines_by c true h = (h, refl, refl, refl, refl)
 lines_by c false h = h
 
-pub lines_case : (c : Chip) → LinesValues c (lines_report c)
+lines_case : (c : Chip) → LinesValues c (lines_report c)
 unfolding lines_report
 lines_case c = lines_by c (well_formed c) refl
 

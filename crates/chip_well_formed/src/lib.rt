@@ -106,3 +106,7 @@ pub fn well_formed(c: Chip) -> bool
         && reserved(c.registers)
         && bus_fits(chip::mode_of(core), core.bus.phase, core.bus.shifter)
 }
+
+// Why a report is refused on a state that is not well formed.
+#[derive(Clone, Copy, PartialEq, Eq, Debug)]
+pub struct IllFormed;

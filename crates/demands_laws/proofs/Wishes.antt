@@ -90,7 +90,7 @@ use Rattle.bus_address_laws.specs.Addressed as addressed
 use Rattle.bus_address_laws.proofs.Addressed as address
 use Rattle.state_bytes.specs.Layout.{bytes_of}
 use Rattle.state_bytes.proofs.Round as bytes
-use Rattle.state_area.specs.Area.{loaded, holds}
+use Rattle.state_area.specs.Area.{loaded, holds, number_in, state_in}
 use Rattle.state_calls.specs.Calls.{holds_state, step_area, step_answer}
 use Rattle.state_laws.specs.Bytes.{WrittenAsNone}
 use Rattle.state_laws.proofs.Stays as area
@@ -301,7 +301,7 @@ module _ (c : Chip) (ddc2b : mode_of c.core ≡ Ddc2b) {t : Trace} (begun : Begu
 -- ---- Wish 14: the state as bytes
 
 -- stepping the bytes is stepping the state that they hold
-pub bytes_stepped : (area : List ℕ) → holds_state area ≡ true → (word : ℕ) → loaded (step_area area word) ≡ holds (step (loaded area).state word).chip
+pub bytes_stepped : (area : List ℕ) → holds_state area ≡ true → (word : ℕ) → loaded (step_area area word) ≡ holds (step (state_in area) word).chip
 bytes_stepped = area.stepped_holds
 
 -- unequal states have unequal bytes
@@ -313,8 +313,8 @@ pub bytes_kept : (area : List ℕ) (word : ℕ) → (step_answer area word / 167
 bytes_kept = area.refused_untouched
 
 -- 15 for another length, then 8 for bytes that no well formed state is written as
-pub bytes_fifteen : (area : List ℕ) → (length area ≡ 128 → ⊥) → (loaded area).number ≡ 15
+pub bytes_fifteen : (area : List ℕ) → (length area ≡ 128 → ⊥) → number_in area ≡ 15
 bytes_fifteen = area-number.fifteen
 
-pub bytes_eight : (area : List ℕ) → length area ≡ 128 → WrittenAsNone area → (loaded area).number ≡ 8
+pub bytes_eight : (area : List ℕ) → length area ≡ 128 → WrittenAsNone area → number_in area ≡ 8
 bytes_eight = area-number.eight

@@ -14,8 +14,10 @@ use Rattle.firmware_machine.specs.Run.{Called, firmware}
 use Rattle.firmware_run.specs.declared.FirmwareResult.{FirmwareResult}
 use Rattle.firmware_run.specs.Firmware.{result_of}
 use Rattle.state_bytes.specs.Layout.{bytes_of}
-use Rattle.state_area.specs.declared.Loaded.{Loaded}
-use Rattle.state_area.specs.Area.{loaded, put_in}
+use Rattle.std.specs.Prelude.{Ok, Err}
+use Rattle.state_area.specs.declared.AreaFault.{AreaFault}
+use Rattle.state_area.specs.declared.AreaFault.TheVariants.{WrongLength, IllFormed}
+use Rattle.state_area.specs.Area.{fault_number, loaded, number_in, state_in, put_in}
 use Rattle.firmware_capi.specs.Call.{cpu_of, cpu_bytes, Left, left, has_begun, counts_of, left_by, run_in, are_sized, firmware_in}
 
 -- ---- lengths
@@ -75,21 +77,16 @@ module _ (cpu ram rom area es places counts : List ℕ) (chip : Chip) (n : ℕ) 
 -- ---- the call
 
 module _ (cpu ram rom area es places counts : List ℕ) (n : ℕ) (b : Bool) (e : b ≡ are_sized (length cpu) (length ram) (length area) (length counts)) where
-  pub ran : b ≡ true → (l : Loaded) → l ≡ loaded area → l.number ≡ 0 → (x : Left) → x ≡ run_in cpu ram rom l.state area es places n counts
+  pub ran : b ≡ true → (chip : Chip) → Ok chip ≡ loaded area → (x : Left) → x ≡ run_in cpu ram rom chip area es places n counts
       → x ≡ firmware_in cpu ram rom area es places n counts
   unfolding firmware_in
-  ran t l i z x p =
-      let s = sym e ∙ t in
-      let m = eq-eqb (loaded area).number 0 (rw i at z) in
-      let q : x ≡ run_in cpu ram rom (loaded area).state area es places n counts = rw i at p in
-      rw (s, m) q
+  ran t chip i x p = let s = sym e ∙ t in rw (s, ← i) p
 
-  pub refused : b ≡ true → (l : Loaded) → l ≡ loaded area → (l.number ≡ 0 → ⊥) → left l.number cpu ram area places counts ≡ firmware_in cpu ram rom area es places n counts
+  pub refused : b ≡ true → (fault : AreaFault) → Err fault ≡ loaded area
+      → left (fault_number fault) cpu ram area places counts ≡ firmware_in cpu ram rom area es places n counts
   unfolding firmware_in
-  refused t l i z =
-      let s = sym e ∙ t in
-      let m = ne_eqb (loaded area).number 0 (rw i at z) in
-      rw (i, s, m)
+  refused t WrongLength i = let s = sym e ∙ t in rw (s, ← i)
+  refused t IllFormed i = let s = sym e ∙ t in rw (s, ← i)
 
   pub wrong : b ≡ false → left 15 cpu ram area places counts ≡ firmware_in cpu ram rom area es places n counts
   unfolding firmware_in

@@ -7,7 +7,7 @@ use Rattle.cpu_operations.specs.declared.Cpu.{Cpu}
 use Rattle.cpu_operations.specs.Operations.{pulled_p}
 use Rattle.firmware_machine.specs.Run.{Called, firmware}
 use Rattle.state_bytes.specs.Layout.{bytes_of}
-use Rattle.state_area.specs.Area.{loaded}
+use Rattle.state_area.specs.Area.{number_in, state_in}
 
 -- ---- a CPU as eight bytes: A, X, Y, S, P, PC with its low byte first, cycles over. Of P bits 5 and 4 count for nothing and come back as 0
 
@@ -69,7 +69,7 @@ are_sized cpu ram area counts =
 unfoldable pub firmware_in : List ℕ → List ℕ → List ℕ → List ℕ → List ℕ → List ℕ → ℕ → List ℕ → Left
 firmware_in cpu ram rom area es places n counts =
     pick (are_sized (length cpu) (length ram) (length area) (length counts))
-    (pick (eqb (loaded area).number 0)
-    (run_in cpu ram rom (loaded area).state area es places n counts)
-    (left (loaded area).number cpu ram area places counts))
+    (pick (eqb (number_in area) 0)
+    (run_in cpu ram rom (state_in area) area es places n counts)
+    (left (number_in area) cpu ram area places counts))
     (left 15 cpu ram area places counts)

@@ -192,11 +192,8 @@ pub fn nt6861_firmware(
         ≡ firmware_in cpu.old ram.old rom.now area.old events.now answers.old instructions counts.old }
 {
     if are_sized(cpu.len(), ram.len(), area.len(), counts.len()) {
-        let read = state_area::load(area);
-        let number = read.number;
-        if number == 0 {
-            let c = read.state;
-            run_in(
+        match state_area::load(area) {
+            Ok(c) => run_in(
                 cpu,
                 ram,
                 rom,
@@ -206,9 +203,8 @@ pub fn nt6861_firmware(
                 answers,
                 instructions,
                 counts,
-            )
-        } else {
-            number
+            ),
+            Err(fault) => u8::from(fault),
         }
     } else {
         15

@@ -1,7 +1,7 @@
 -- Demand 3 read for the bytes that two firmware calls leave (document 02, Wishes 5 and 14).
 use Rattle.std.specs.Prelude.{ℕ, ◌≡◌, List}
 use Rattle.isolation_laws.specs.Foreign.{compared_answers, compared_state}
-use Rattle.state_area.specs.Area.{loaded}
+use Rattle.state_area.specs.Area.{state_in}
 use Rattle.firmware_isolation_laws.specs.Trace.{Entry, words_of, accesses_of}
 use Rattle.firmware_isolation_laws.specs.Transfers.{compared_trace}
 use Rattle.firmware_capi.specs.Call.{Left}
@@ -16,4 +16,4 @@ pub record BytesAgree (a b : Left) (s t : List Entry) : Type 0 where
   pub answers : compared_answers (words_of s) a.answers ≡ compared_answers (words_of t) b.answers
   pub accesses : accesses_of s ≡ accesses_of t
   pub order : compared_trace s ≡ compared_trace t
-  pub state : compared_state (loaded a.area).state ≡ compared_state (loaded b.area).state
+  pub state : compared_state (state_in a.area) ≡ compared_state (state_in b.area)

@@ -5,32 +5,37 @@ use mathlib.Core.Path.{◌≡◌}
 use mathlib.Core.Bool.{true}
 use mathlib.Core.List.{List, [], ◌∷◌}
 use lib.ListN.{get_or}
-use borrow.Author.Tests.{eq-eqb, ne_eqb}
+use Rattle.std.specs.Prelude.{Ok, Err}
 use Rattle.bits.specs.Byte.{pick}
 use Rattle.chip.specs.declared.Chip.{Chip}
 use Rattle.chip_well_formed.specs.WellFormed.{well_formed}
 use Rattle.step.specs.Step.{step}
 use Rattle.list_call.specs.Run.{run, run_answers, advance_all, advance_all_answers}
 use Rattle.state_bytes.specs.Layout.{bytes_of}
-use Rattle.state_area.specs.declared.Loaded.{Loaded}
-use Rattle.state_area.specs.Area.{loaded, put_in}
+use Rattle.state_area.specs.declared.AreaFault.{AreaFault}
+use Rattle.state_area.specs.declared.AreaFault.TheVariants.{WrongLength, IllFormed}
+use Rattle.state_area.specs.Area.{fault_number, loaded, number_in, state_in, put_in}
 use Rattle.state_area.proofs.Accepted.{put_loaded, loaded_well}
 use Rattle.state_calls.specs.Calls.{holds_state}
 
-module _ (s : List ℕ) (r : Loaded) (e : r ≡ loaded s) where
-  -- it holds a state: what the call makes of it
-  pub done : {A : Type 0} (f : Chip → A) (y : A) → r.number ≡ 0 → f r.state ≡ pick (holds_state s) (f (loaded s).state) y
-  done f y h = rw (e, eq-eqb (loaded s).number 0 (rw e at h))
+-- it holds a state: what the call makes of it
+module _ (s : List ℕ) (d : Chip) (e : Ok d ≡ loaded s) where
+  numbered : number_in s ≡ 0
+  numbered = rw (← e)
 
-  pub put_done : (f : Chip → Chip) → r.number ≡ 0 → put_in (f r.state) s ≡ pick (holds_state s) (bytes_of (f (loaded s).state)) s
-  put_done f h = rw (e, eq-eqb (loaded s).number 0 (rw e at h)) (put_loaded s (rw e at h) (f (loaded s).state))
+  pub done : {A : Type 0} (f : Chip → A) (y : A) → f d ≡ pick (holds_state s) (f (state_in s)) y
+  done f y = rw (← e)
 
-  pub well : r.number ≡ 0 → well_formed r.state ≡ true
-  well h = rw e (loaded_well s (rw e at h))
+  pub put_done : (f : Chip → Chip) → put_in (f d) s ≡ pick (holds_state s) (bytes_of (f (state_in s))) s
+  put_done f = rw (← e) (put_loaded s numbered (f d))
 
-  -- it is refused: what depends on the number alone
-  pub refused : {A : Type 0} (x : A) (g : ℕ → A) → (r.number ≡ 0 → ⊥) → g r.number ≡ pick (holds_state s) x (g (loaded s).number)
-  refused x g h = rw (e, ne_eqb (loaded s).number 0 (rw e at h))
+  pub well : well_formed d ≡ true
+  well = rw (← e) at (loaded_well s numbered)
+
+-- it is refused: what depends on the fault alone
+pub refused : {A : Type 0} (s : List ℕ) (fault : AreaFault) → Err fault ≡ loaded s → (x : A) (g : ℕ → A) → g (fault_number fault) ≡ pick (holds_state s) x (g (number_in s))
+refused s WrongLength e x g = rw (← e)
+refused s IllFormed e x g = rw (← e)
 
 -- at a well formed state the list call needs no test, and on one word it is the step
 module _ (c : Chip) (t : well_formed c ≡ true) where

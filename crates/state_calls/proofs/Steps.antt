@@ -1,14 +1,13 @@
 -- Stepping the bytes is stepping the state and writing it out, for the step and for the list call, for every area, length and word;
 -- on every refusal the area keeps its bytes.
 -- Assumes nothing.
-use Prim.Native.Nat.{ℕ, ◌*◌}
-use mathlib.Core.Path.{◌≡◌, refl, sym, ap, ◌∙◌}
-use mathlib.Core.Bool.{Bool, true, false}
+use Prim.Native.Nat.{ℕ}
+use mathlib.Core.Path.{◌≡◌, sym}
+use mathlib.Core.Bool.{true, false}
 use mathlib.Core.List.{List}
-use lib.Dec.{eqb, ltb}
+use lib.Dec.{ltb}
 use lib.ListN.{length}
-use borrow.Author.Tests.{eq-eqb, ne_eqb, eqb-true}
-use Rattle.bits.specs.Byte.{pick}
+use borrow.Author.Tests.{eqb-true}
 use Rattle.chip.specs.declared.Chip.{Chip}
 use Rattle.chip_well_formed.specs.WellFormed.{well_formed}
 use Rattle.step.specs.Step.{step}
@@ -17,7 +16,7 @@ use Rattle.chip_hold.specs.Hold.{hold_report, hold_word}
 use Rattle.chip_address_match.specs.AddressOutcome.{outcome_report, outcome_word}
 use Rattle.chip_lines.specs.Lines.{lines_report, lines_word}
 use Rattle.state_bytes.specs.Layout.{bytes_of}
-use Rattle.state_area.specs.Area.{holds, loaded}
+use Rattle.state_area.specs.Area.{holds, loaded, number_in, state_in}
 use Rattle.state_area.proofs.Accepted.{load_written, loaded_well, loaded_written}
 use Rattle.state_calls.specs.Calls.{holds_state, refusal_word, step_area, step_answer, run_number, run_area, run_places, hold_in, outcome_in, lines_in}
 
@@ -66,17 +65,17 @@ module _ (s : List ℕ) (refused : holds_state s ≡ false) where
   unfolding step_area step_answer
   step_refused w = (rw refused, rw refused)
 
-  pub run_refused : (ws ps : List ℕ) → (run_area s ws ps ≡ s) × (run_places s ws ps ≡ ps) × (run_number s ws ps ≡ (loaded s).number)
+  pub run_refused : (ws ps : List ℕ) → (run_area s ws ps ≡ s) × (run_places s ws ps ≡ ps) × (run_number s ws ps ≡ number_in s)
   unfolding run_area run_places run_number
   run_refused ws ps = (rw refused, rw refused, rw refused)
 
 -- ---- a call that leaves the state as it was leaves the area as it was: 7, and each word answered 1 to 6
 
 module _ (s : List ℕ) (held : holds_state s ≡ true) where
-  number : (loaded s).number ≡ 0
-  number = eqb-true (loaded s).number 0 held
+  number : number_in s ≡ 0
+  number = eqb-true (number_in s) 0 held
 
-  pub unmoved : (w : ℕ) → (step (loaded s).state w).chip ≡ (loaded s).state → step_area s w ≡ s
+  pub unmoved : (w : ℕ) → (step (state_in s) w).chip ≡ state_in s → step_area s w ≡ s
   unfolding step_area
   unmoved w e = rw (held, e) (sym (loaded_written s number))
 

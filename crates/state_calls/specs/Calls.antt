@@ -8,40 +8,40 @@ use Rattle.chip_hold.specs.Hold.{hold_report, hold_word}
 use Rattle.chip_address_match.specs.AddressOutcome.{outcome_report, outcome_word}
 use Rattle.chip_lines.specs.Lines.{lines_report, lines_word}
 use Rattle.state_bytes.specs.Layout.{bytes_of}
-use Rattle.state_area.specs.Area.{loaded}
+use Rattle.state_area.specs.Area.{number_in, state_in}
 
 -- the area holds a well formed state
 abbrev pub holds_state : List ℕ → Bool
-holds_state s = eqb (loaded s).number 0
+holds_state s = eqb (number_in s) 0
 
 -- the number of its refusal in bits 31..24 of an answer, with no requests and no byte
 abbrev pub refusal_word : List ℕ → ℕ
-refusal_word s = (loaded s).number * 0x01000000
+refusal_word s = number_in s * 0x01000000
 
 -- the step: the area after a word, and the answer
 unfoldable pub step_area : List ℕ → ℕ → List ℕ
-step_area s w = pick (holds_state s) (bytes_of (step (loaded s).state w).chip) s
+step_area s w = pick (holds_state s) (bytes_of (step (state_in s) w).chip) s
 
 unfoldable pub step_answer : List ℕ → ℕ → ℕ
-step_answer s w = pick (holds_state s) (step (loaded s).state w).answer (refusal_word s)
+step_answer s w = pick (holds_state s) (step (state_in s) w).answer (refusal_word s)
 
 -- the list call: the number, the area and the answer places after it
 unfoldable pub run_number : List ℕ → List ℕ → List ℕ → ℕ
-run_number s words places = pick (holds_state s) (run (loaded s).state words places).number (loaded s).number
+run_number s words places = pick (holds_state s) (run (state_in s) words places).number (number_in s)
 
 unfoldable pub run_area : List ℕ → List ℕ → List ℕ → List ℕ
-run_area s words places = pick (holds_state s) (bytes_of (run (loaded s).state words places).chip) s
+run_area s words places = pick (holds_state s) (bytes_of (run (state_in s) words places).chip) s
 
 unfoldable pub run_places : List ℕ → List ℕ → List ℕ → List ℕ
-run_places s words places = pick (holds_state s) (run_answers (loaded s).state words places) places
+run_places s words places = pick (holds_state s) (run_answers (state_in s) words places) places
 
 -- for how long SCL has been held, and by which address the transfer was called: the number in bits 31..24, below it the value
 unfoldable pub hold_in : List ℕ → ℕ
-hold_in s = pick (holds_state s) (hold_word (hold_report (loaded s).state)) (refusal_word s)
+hold_in s = pick (holds_state s) (hold_word (hold_report (state_in s))) (refusal_word s)
 
 unfoldable pub outcome_in : List ℕ → ℕ
-outcome_in s = pick (holds_state s) (outcome_word (outcome_report (loaded s).state)) (refusal_word s)
+outcome_in s = pick (holds_state s) (outcome_word (outcome_report (state_in s))) (refusal_word s)
 
 -- the levels of the lines and what the chip pulls: the number in bits 31..24, below it a bit each
 unfoldable pub lines_in : List ℕ → ℕ
-lines_in s = pick (holds_state s) (lines_word (lines_report (loaded s).state)) (refusal_word s)
+lines_in s = pick (holds_state s) (lines_word (lines_report (state_in s))) (refusal_word s)

@@ -5,24 +5,28 @@ ghost use Rattle.std.specs.Prelude.{◌≡◌, true, ◌*◌};
 ghost use Rattle.chip.specs.State.{fresh as fresh_of};
 ghost use Rattle.chip_well_formed.specs.WellFormed.{well_formed};
 ghost use Rattle.step.specs.Step.{step as step_of};
-ghost use Rattle.state_area.specs.Area.{store_number, store_left};
+ghost use Rattle.state_area.specs.Area.{fault_number, store_number, store_left};
 ghost use Rattle.state_calls.specs.Calls.{step_area, step_answer, run_number, run_area, run_places, hold_in, outcome_in, lines_in};
 
 use chip::Chip;
+use state_area::AreaFault;
 use step::Stepped;
 
-// A number in bits 31 to 24 of an answer.
-fn in_top_byte(number: u8) -> u32
-    ensures { result ≡ number * 16777216 }
+// The number of a refused area, in bits 31 to 24 of an answer.
+fn in_top_byte(fault: AreaFault) -> u32
+    ensures { result ≡ fault_number fault * 16777216 }
 {
-    (number as u32) * 16777216
+    u32::from(u8::from(fault)) * 16777216
 }
 
 // A fresh state into the area.
 pub fn fresh(area: &mut [u8]) -> u8
     ensures { (result ≡ store_number fresh_of area.old) × (area.new ≡ store_left fresh_of area.old) }
 {
-    state_area::store(chip::fresh(), area)
+    match state_area::store(chip::fresh(), area) {
+        Ok(()) => 0,
+        Err(fault) => u8::from(fault),
+    }
 }
 
 // The step of a well formed state, by the list call on one word: the code that carries out an event then stands at one place of a
@@ -34,9 +38,8 @@ fn stepped(c: Chip, word: u32) -> Stepped
     let words = [word];
     let mut places = [0];
     let done = list_call::advance_all(c, &words, &mut places);
-    let after = done.chip;
     Stepped {
-        chip: after,
+        chip: done.chip,
         answer: places[0],
     }
 }
@@ -45,16 +48,13 @@ fn stepped(c: Chip, word: u32) -> Stepped
 pub fn step(area: &mut [u8], word: u32) -> u32
     ensures { (result ≡ step_answer area.old word) × (area.new ≡ step_area area.old word) }
 {
-    let read = state_area::load(area);
-    let number = read.number;
-    if number == 0 {
-        let c = read.state;
-        let done = stepped(c, word);
-        let after = done.chip;
-        state_area::put(after, area);
-        done.answer
-    } else {
-        in_top_byte(number)
+    match state_area::load(area) {
+        Ok(c) => {
+            let done = stepped(c, word);
+            state_area::put(done.chip, area);
+            done.answer
+        },
+        Err(fault) => in_top_byte(fault),
     }
 }
 
@@ -62,16 +62,13 @@ pub fn step(area: &mut [u8], word: u32) -> u32
 pub fn run(area: &mut [u8], words: &[u32], answers: &mut [u32]) -> u8
     ensures { (result ≡ run_number area.old words.now answers.old) × (area.new ≡ run_area area.old words.now answers.old) × (answers.new ≡ run_places area.old words.now answers.old) }
 {
-    let read = state_area::load(area);
-    let number = read.number;
-    if number == 0 {
-        let c = read.state;
-        let done = list_call::advance_all(c, words, answers);
-        let after = done.chip;
-        state_area::put(after, area);
-        done.number
-    } else {
-        number
+    match state_area::load(area) {
+        Ok(c) => {
+            let done = list_call::advance_all(c, words, answers);
+            state_area::put(done.chip, area);
+            done.number
+        },
+        Err(fault) => u8::from(fault),
     }
 }
 
@@ -79,13 +76,9 @@ pub fn run(area: &mut [u8], words: &[u32], answers: &mut [u32]) -> u8
 pub fn hold(area: &[u8]) -> u32
     ensures { result ≡ hold_in area.now }
 {
-    let read = state_area::load(area);
-    let number = read.number;
-    if number == 0 {
-        let c = read.state;
-        chip_hold::hold_word(chip_hold::held_for(c))
-    } else {
-        in_top_byte(number)
+    match state_area::load(area) {
+        Ok(c) => chip_hold::hold_word(chip_hold::held_for(c)),
+        Err(fault) => in_top_byte(fault),
     }
 }
 
@@ -93,13 +86,9 @@ pub fn hold(area: &[u8]) -> u32
 pub fn called_by(area: &[u8]) -> u32
     ensures { result ≡ outcome_in area.now }
 {
-    let read = state_area::load(area);
-    let number = read.number;
-    if number == 0 {
-        let c = read.state;
-        chip_address_match::outcome_word(chip_address_match::called_by(c))
-    } else {
-        in_top_byte(number)
+    match state_area::load(area) {
+        Ok(c) => chip_address_match::outcome_word(chip_address_match::called_by(c)),
+        Err(fault) => in_top_byte(fault),
     }
 }
 
@@ -107,12 +96,8 @@ pub fn called_by(area: &[u8]) -> u32
 pub fn lines(area: &[u8]) -> u32
     ensures { result ≡ lines_in area.now }
 {
-    let read = state_area::load(area);
-    let number = read.number;
-    if number == 0 {
-        let c = read.state;
-        chip_lines::lines_word(chip_lines::line_levels(c))
-    } else {
-        in_top_byte(number)
+    match state_area::load(area) {
+        Ok(c) => chip_lines::lines_word(chip_lines::line_levels(c)),
+        Err(fault) => in_top_byte(fault),
     }
 }

@@ -13,7 +13,8 @@ use Rattle.bits.specs.Byte.{pick}
 use Rattle.chip.specs.declared.Chip.{Chip}
 use Rattle.chip_well_formed.specs.WellFormed.{well_formed}
 use Rattle.state_bytes.specs.Layout.{bytes_of, state_of}
-use Rattle.state_area.specs.Area.{accepted, holds, refused, loaded, store_number, store_left}
+use Rattle.state_area.specs.declared.AreaFault.TheVariants.{WrongLength, IllFormed}
+use Rattle.state_area.specs.Area.{accepted, holds, refused, loaded, number_of, number_in, store_number, store_left}
 use Rattle.state_area.proofs.Accepted.{accepted_written, exactly}
 use Rattle.state_calls.specs.Calls.{holds_state, step_area, step_answer, run_number, run_area, run_places}
 use Rattle.state_calls.proofs.Steps.{step_refused, run_refused}
@@ -21,23 +22,23 @@ use Rattle.state_laws.specs.Bytes.{WrittenAsNone}
 
 -- ---- the number, by the two tests
 
-number_15 : (a b : Bool) (c : Chip) → (pick a (pick b (holds c) (refused 8)) (refused 15)).number ≡ 15 → a ≡ false
+number_15 : (a b : Bool) (c : Chip) → number_of (pick a (pick b (holds c) (refused IllFormed)) (refused WrongLength)) ≡ 15 → a ≡ false
 number_15 true true c h = absurd (omega (arith, h))
 number_15 true false c h = absurd (omega (arith, h))
 number_15 false b c h = refl
 
-number_8 : (a b : Bool) (c : Chip) → (pick a (pick b (holds c) (refused 8)) (refused 15)).number ≡ 8 → (a ≡ true) × (b ≡ false)
+number_8 : (a b : Bool) (c : Chip) → number_of (pick a (pick b (holds c) (refused IllFormed)) (refused WrongLength)) ≡ 8 → (a ≡ true) × (b ≡ false)
 number_8 true true c h = absurd (omega (arith, h))
 number_8 true false c h = (refl, refl)
 number_8 false b c h = absurd (omega (arith, h))
 
 -- ---- reading an area
 
-pub fifteen : (s : List ℕ) → (length s ≡ 128 → ⊥) → (loaded s).number ≡ 15
+pub fifteen : (s : List ℕ) → (length s ≡ 128 → ⊥) → number_in s ≡ 15
 unfolding loaded
 fifteen s h = rw (ne_eqb (length s) 128 h)
 
-pub only_fifteen : (s : List ℕ) → (loaded s).number ≡ 15 → length s ≡ 128 → ⊥
+pub only_fifteen : (s : List ℕ) → number_in s ≡ 15 → length s ≡ 128 → ⊥
 unfolding loaded
 only_fifteen s h l = true≢false (sym (eq-eqb (length s) 128 l) ∙ number_15 (eqb (length s) 128) (accepted s) (state_of s) h)
 
@@ -45,11 +46,11 @@ not_accepted : (s : List ℕ) → WrittenAsNone s → (b : Bool) → accepted s 
 not_accepted s n true e = absurd (n (state_of s) (accepted_written s e).1 (accepted_written s e).0)
 not_accepted s n false e = e
 
-pub eight : (s : List ℕ) → length s ≡ 128 → WrittenAsNone s → (loaded s).number ≡ 8
+pub eight : (s : List ℕ) → length s ≡ 128 → WrittenAsNone s → number_in s ≡ 8
 unfolding loaded
 eight s l n = rw (eq-eqb (length s) 128 l, not_accepted s n (accepted s) refl)
 
-pub only_eight : (s : List ℕ) → (loaded s).number ≡ 8 → (length s ≡ 128) × WrittenAsNone s
+pub only_eight : (s : List ℕ) → number_in s ≡ 8 → (length s ≡ 128) × WrittenAsNone s
 unfolding loaded
 only_eight s h =
     let z = number_8 (eqb (length s) 128) (accepted s) (state_of s) h in
@@ -57,7 +58,7 @@ only_eight s h =
 
 -- ---- the step and the list call on such an area, whatever the words are
 
-refused_by_lem : (s : List ℕ) (n : ℕ) → (loaded s).number ≡ n → eqb n 0 ≡ false → holds_state s ≡ false
+refused_by_lem : (s : List ℕ) (n : ℕ) → number_in s ≡ n → eqb n 0 ≡ false → holds_state s ≡ false
 refused_by_lem s n h z = rw h z
 
 module _ (s : List ℕ) (h : length s ≡ 128 → ⊥) where

@@ -21,7 +21,7 @@ use Rattle.chip_laws.proofs.WellFormed.{fresh_well_formed, step_well_formed}
 use Rattle.chip_laws.proofs.Numbers.{refused_keeps}
 use Rattle.list_call_laws.proofs.Runs.{step_advances, after_advanced, answers_advanced, after_well_formed}
 use Rattle.state_bytes.specs.Layout.{bytes_of}
-use Rattle.state_area.specs.Area.{holds, loaded, store_number, store_left}
+use Rattle.state_area.specs.Area.{holds, loaded, number_in, state_in, store_number, store_left}
 use Rattle.state_area.proofs.Accepted.{load_written, loaded_well, loaded_written, loaded_registers}
 use Rattle.state_calls.specs.Calls.{holds_state, step_area, step_answer, run_number, run_area, run_places}
 use Rattle.state_calls.proofs.Steps.{step_area_lem, step_answer_lem, step_refused, unmoved}
@@ -71,69 +71,69 @@ bytes_answers_lem c (w ∷ ws) h t =
 -- ---- an area that holds a state
 
 module _ (s : List ℕ) (held : holds_state s ≡ true) where
-  number : (loaded s).number ≡ 0
-  number = eqb-true (loaded s).number 0 held
+  number : number_in s ≡ 0
+  number = eqb-true (number_in s) 0 held
 
-  pub well : well_formed (loaded s).state ≡ true
+  pub well : well_formed (state_in s) ≡ true
   well = loaded_well s number
 
-  size : length (loaded s).state.registers ≡ 38
+  size : length (state_in s).registers ≡ 38
   size = loaded_registers s number
 
-  bytes : s ≡ bytes_of (loaded s).state
+  bytes : s ≡ bytes_of (state_in s)
   bytes = loaded_written s number
 
   -- after a word it holds the state after that word
-  pub stepped_holds : (w : ℕ) → loaded (step_area s w) ≡ holds (step (loaded s).state w).chip
+  pub stepped_holds : (w : ℕ) → loaded (step_area s w) ≡ holds (step (state_in s) w).chip
   unfolding step_area
-  stepped_holds w = rw held (load_written (step (loaded s).state w).chip (step_length (loaded s).state w well size) (step_well_formed (loaded s).state w well))
+  stepped_holds w = rw held (load_written (step (state_in s) w).chip (step_length (state_in s) w well size) (step_well_formed (state_in s) w well))
 
   -- and after a list of words
-  pub after_holds : (ws : List ℕ) → loaded (bytes_after s ws) ≡ holds (after (loaded s).state ws)
+  pub after_holds : (ws : List ℕ) → loaded (bytes_after s ws) ≡ holds (after (state_in s) ws)
   after_holds ws =
-      let c = (loaded s).state in
+      let c = state_in s in
       ap (λ (l : List ℕ). loaded (bytes_after l ws)) bytes ∙ ap loaded (bytes_after_lem c ws size well) ∙ load_written (after c ws) (after_length c ws well size) (after_well_formed c ws well)
 
-  pub answers_given : (ws : List ℕ) → bytes_answers s ws ≡ answers (loaded s).state ws
-  answers_given ws = ap (λ (l : List ℕ). bytes_answers l ws) bytes ∙ bytes_answers_lem (loaded s).state ws size well
+  pub answers_given : (ws : List ℕ) → bytes_answers s ws ≡ answers (state_in s) ws
+  answers_given ws = ap (λ (l : List ℕ). bytes_answers l ws) bytes ∙ bytes_answers_lem (state_in s) ws size well
 
   -- a list call with places enough leaves what the words one by one leave
-  pub call_holds : (ws ps : List ℕ) → ltb (length ps) (length ws) ≡ false → loaded (run_area s ws ps) ≡ holds (after (loaded s).state ws)
+  pub call_holds : (ws ps : List ℕ) → ltb (length ps) (length ws) ≡ false → loaded (run_area s ws ps) ≡ holds (after (state_in s) ws)
   unfolding run_area run
   call_holds ws ps short =
-      let c = (loaded s).state in
+      let c = state_in s in
       rw (held, well, short, ← (after_advanced c ws well)) (load_written (after c ws) (after_length c ws well size) (after_well_formed c ws well))
 
   pub call_answers : (ws ps : List ℕ) → ltb (length ps) (length ws) ≡ false → run_places s ws ps ≡ bytes_answers s ws ++ drop (length ws) ps
   unfolding run_places run_answers
   call_answers ws ps short =
-      let c = (loaded s).state in
+      let c = state_in s in
       rw (held, well, short) (ap (λ (l : List ℕ). l ++ drop (length ws) ps) (sym (answers_advanced c ws well) ∙ sym (answers_given ws)))
 
   -- of every list call, 7 included, the number and the answer places are those of the state, and the area holds the state after it
-  pub call_number_lem : (ws ps : List ℕ) → run_number s ws ps ≡ (run (loaded s).state ws ps).number
+  pub call_number_lem : (ws ps : List ℕ) → run_number s ws ps ≡ (run (state_in s) ws ps).number
   unfolding run_number
   call_number_lem ws ps = rw held
 
-  pub call_places : (ws ps : List ℕ) → run_places s ws ps ≡ run_answers (loaded s).state ws ps
+  pub call_places : (ws ps : List ℕ) → run_places s ws ps ≡ run_answers (state_in s) ws ps
   unfolding run_places
   call_places ws ps = rw held
 
-  state_by : (ws ps : List ℕ) (b : Bool) → ltb (length ps) (length ws) ≡ b → loaded (run_area s ws ps) ≡ holds (run (loaded s).state ws ps).chip
+  state_by : (ws ps : List ℕ) (b : Bool) → ltb (length ps) (length ws) ≡ b → loaded (run_area s ws ps) ≡ holds (run (state_in s) ws ps).chip
   unfolding run_area run
-  state_by ws ps true short = rw (held, well, short) (load_written (loaded s).state size well)
+  state_by ws ps true short = rw (held, well, short) (load_written (state_in s) size well)
   state_by ws ps false short =
-      let c = (loaded s).state in
+      let c = state_in s in
       rw (held, well, short, ← (after_advanced c ws well)) (load_written (after c ws) (after_length c ws well size) (after_well_formed c ws well))
 
-  pub call_state : (ws ps : List ℕ) → loaded (run_area s ws ps) ≡ holds (run (loaded s).state ws ps).chip
+  pub call_state : (ws ps : List ℕ) → loaded (run_area s ws ps) ≡ holds (run (state_in s) ws ps).chip
   call_state ws ps = state_by ws ps (ltb (length ps) (length ws)) refl
 
 -- ---- every refusal, 1 to 6, 8 and 15: the number in bits 31..24 is not 0, and the area keeps its bytes
 
 refused_by_lem : (s : List ℕ) (w : ℕ) (b : Bool) → holds_state s ≡ b → (step_answer s w / 16777216 ≡ 0 → ⊥) → step_area s w ≡ s
 unfolding step_answer
-refused_by_lem s w true held h = unmoved s held w (refused_keeps (loaded s).state w (rw held at h))
+refused_by_lem s w true held h = unmoved s held w (refused_keeps (state_in s) w (rw held at h))
 refused_by_lem s w false held h = (step_refused s held w).0
 
 pub refused_untouched : (s : List ℕ) (w : ℕ) → (step_answer s w / 16777216 ≡ 0 → ⊥) → step_area s w ≡ s

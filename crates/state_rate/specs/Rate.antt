@@ -7,7 +7,7 @@ use Rattle.rates.specs.declared.Rate.{Rate}
 use Rattle.rates.specs.declared.Rate.TheVariants.{IllFormed, NothingLatched, Overflow, FieldRate, LineRate}
 use Rattle.chip_rate_report.specs.declared.Scan.TheVariants.{Field, Line}
 use Rattle.chip_rate_report.specs.Report.{rate_report}
-use Rattle.state_area.specs.Area.{loaded}
+use Rattle.state_area.specs.Area.{state_in}
 use Rattle.state_calls.specs.Calls.{holds_state, refusal_word}
 
 -- a report as a word: 0 where there is a rate, 1 nothing latched, 2 overflow; 8 in bits 31..24 for an ill formed state
@@ -35,7 +35,7 @@ rate_hertz c which old = pick (eqb which 0) (report_hertz (rate_report c Field) 
 
 -- on an area
 unfoldable pub rate_in : List ℕ → ℕ → ℕ
-rate_in s which = pick (holds_state s) (rate_word (loaded s).state which) (refusal_word s)
+rate_in s which = pick (holds_state s) (rate_word (state_in s) which) (refusal_word s)
 
 unfoldable pub hertz_in : List ℕ → ℕ → Float → Float
-hertz_in s which old = pick (holds_state s) (rate_hertz (loaded s).state which old) old
+hertz_in s which old = pick (holds_state s) (rate_hertz (state_in s) which old) old

@@ -43,12 +43,8 @@ fn asked(c: Chip, which: u32, hertz: &mut f64) -> u32
 pub fn rate(area: &[u8], which: u32, hertz: &mut f64) -> u32
     ensures { (result ≡ rate_in area.now which) × (hertz.new ≡ hertz_in area.now which hertz.old) }
 {
-    let read = state_area::load(area);
-    let number = read.number;
-    if number == 0 {
-        let c = read.state;
-        asked(c, which, hertz)
-    } else {
-        (number as u32) * 16777216
+    match state_area::load(area) {
+        Ok(c) => asked(c, which, hertz),
+        Err(fault) => u32::from(u8::from(fault)) * 16777216,
     }
 }

@@ -11,7 +11,7 @@ use Rattle.why_reasons.specs.declared.Reasons.{Reasons}
 use Rattle.why_reasons.specs.declared.Explanation.{Explanation}
 use Rattle.why_reasons.specs.declared.Explanation.TheVariants.{IllFormed, Told}
 use Rattle.why_reasons.specs.Explain.{why, why_number}
-use Rattle.state_area.specs.Area.{loaded}
+use Rattle.state_area.specs.Area.{number_in, state_in}
 
 -- the code of an answer: 0 not requested, 1 set at the start and never cleared, and the sorts from 2 on, a matched address by its outcome
 unfoldable pub own_code : OwnAddress → ℕ
@@ -56,8 +56,8 @@ told_by (Told reasons) places = numbers_of reasons
 
 -- the number given back: 15, then 8, for the area
 unfoldable pub why_number_in : List ℕ → List ℕ → ℕ
-why_number_in area words = pick (eqb (loaded area).number 0) (why_number (why (loaded area).state words)) (loaded area).number
+why_number_in area words = pick (eqb (number_in area) 0) (why_number (why (state_in area) words)) (number_in area)
 
 -- and what is left in the places
 unfoldable pub told_in : List ℕ → List ℕ → List ℕ → List ℕ
-told_in area words places = pick (eqb (loaded area).number 0) (told_by (why (loaded area).state words) places) places
+told_in area words places = pick (eqb (number_in area) 0) (told_by (why (state_in area) words) places) places

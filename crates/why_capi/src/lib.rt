@@ -84,18 +84,14 @@ fn numbers_of(reasons: Reasons) -> [u64; 12]
 pub extern "C" fn nt6861_why(area: &[u8], words: &[u32], told: &mut [u64; 12]) -> u8
     ensures { (result ≡ why_number_in area.now words.now) × (told.new ≡ told_in area.now words.now told.old) }
 {
-    let read = state_area::load(area);
-    let number = read.number;
-    if number == 0 {
-        let c = read.state;
-        match why_reasons::why(c, words) {
+    match state_area::load(area) {
+        Ok(c) => match why_reasons::why(c, words) {
             Explanation::IllFormed => 8,
             Explanation::Told(reasons) => {
                 *told = numbers_of(reasons);
                 0
-            }
-        }
-    } else {
-        number
+            },
+        },
+        Err(fault) => u8::from(fault),
     }
 }

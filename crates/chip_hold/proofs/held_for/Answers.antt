@@ -1,21 +1,12 @@
 -- `chip_hold::held_for` meets its contract.
 -- Assumes nothing.
 use Rattle.chip_hold.specs.Hold.{hold_report}
-use Rattle.chip_hold.proofs.Cases.{hold_says, number_of_lem}
-use borrow.Author.Rules.{rules}
+use Rattle.chip_hold.proofs.Cases.{hold_says, told_number}
 use Rattle.chip_hold.proofs.held_for.Goals as goal
-
-pub well_formed-requires : goal.well_formed-requires
-unfolding hold_report
-well_formed-requires c = search rules
-
-pub hold_of-requires : goal.hold_of-requires
-unfolding hold_report
-hold_of-requires c = search rules
 
 pub returns-then-well_formed : goal.returns-then-well_formed
 unfolding hold_report
-returns-then-well_formed c = hold_says _ _ (simp (c.hold_of.ensures, ← c.well_formed-2.ensures, c.if-well_formed.true)) (simp (number_of_lem _ _ c.hold_of.ensures, ← c.well_formed-2.ensures, c.if-well_formed.true))
+returns-then-well_formed c = hold_says _ _ (simp (c.hold_of.ensures, ← c.well_formed-2.ensures, c.if-well_formed.true)) (simp (told_number c.hold_of.result, ← c.well_formed-2.ensures, c.if-well_formed.true))
 
 pub returns-else-well_formed : goal.returns-else-well_formed
 unfolding hold_report

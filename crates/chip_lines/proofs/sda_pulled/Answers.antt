@@ -1,24 +1,7 @@
 -- `chip_lines::sda_pulled` meets its contract.
 -- Assumes nothing.
 use Rattle.chip_lines.specs.Lines.{sda_pulled_at}
-use borrow.Author.Rules.{rules}
 use Rattle.chip_lines.proofs.sda_pulled.Goals as goal
-
-pub bit-requires : goal.bit-requires
-unfolding sda_pulled_at
-bit-requires c = search rules
-
-pub bit-requires-then-bit : goal.bit-requires-then-bit
-unfolding sda_pulled_at
-bit-requires-then-bit c = search rules
-
-pub active_mode-requires : goal.active_mode-requires
-unfolding sda_pulled_at
-active_mode-requires c = search rules
-
-pub sda_pulled-requires : goal.sda_pulled-requires
-unfolding sda_pulled_at
-sda_pulled-requires c = search rules
 
 pub returns-then-bit : goal.returns-then-bit
 unfolding sda_pulled_at

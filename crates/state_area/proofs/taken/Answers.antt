@@ -1,9 +1,0 @@
--- `state_area::taken` meets its contract.
--- Assumes nothing.
-use mathlib.Core.Path.{◌∙◌}
-use native.Mathlib.Omega.{arith}
-use Rattle.state_area.proofs.Accepted.{copied_over}
-use Rattle.state_area.proofs.taken.Goals as goal
-
-pub returns : goal.returns
-returns c = c.copy.ensures.1 ∙ copied_over _ _ (omega arith)
