@@ -1,10 +1,10 @@
 -- A script: a line a call on the twelve numbers, with what is told after each. The first malformed line ends it.
-use Rattle.std.specs.Prelude.{ℕ, ◌+◌, ◌%◌, Float, true, false, List, [], ◌∷◌, eqb, ltb, set}
+use Rattle.std.specs.Prelude.{ℕ, ◌+◌, ◌%◌, Float, true, false, List, [], ◌∷◌, eqb, ltb, set, Result, Ok, Err}
 use Rattle.std.specs.Float.{binary64}
 use Rattle.std.specs.Float.Ieee.{of_bits, to_bits, lt}
 use Rattle.bits.specs.Byte.{pick}
-use Rattle.rates.specs.declared.Rate.{Rate}
-use Rattle.rates.specs.declared.Rate.TheVariants.{IllFormed, NothingLatched, Overflow, FieldRate, LineRate}
+use Rattle.rates.specs.declared.NoRate.{NoRate}
+use Rattle.rates.specs.declared.NoRate.TheVariants.{IllFormed, NothingLatched, Overflow}
 use Rattle.rates.specs.Report.{rate_number}
 use Rattle.numbers6862.specs.Numbers as numbers
 use Rattle.counters6862_orders.specs.declared.Reader.{Reader}
@@ -80,9 +80,6 @@ next p b = pick p.ended (record { progress = p; event = Nothing }) (found (line.
 unfoldable pub positive_bits : Float → ℕ
 positive_bits x = pick (lt (of_bits binary64 0) x) (to_bits binary64 x) 0
 
-unfoldable pub rate_bits : Rate → ℕ
-rate_bits IllFormed = 0
-rate_bits NothingLatched = 0
-rate_bits Overflow = 0
-rate_bits (FieldRate x) = positive_bits x
-rate_bits (LineRate x) = positive_bits x
+unfoldable pub rate_bits : Result Float NoRate → ℕ
+rate_bits (Err why) = 0
+rate_bits (Ok x) = positive_bits x

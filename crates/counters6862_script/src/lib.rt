@@ -6,7 +6,7 @@ ghost use Rattle.rates.specs.Report.{rate_number};
 ghost use Rattle.counters6862_script.specs.Script.{one_more, opened as opened_of, with_reader, next_line, stopped as stopped_of, put_at, called_with, reported as reported_of, obeyed as obeyed_of, within as within_of, found as found_of, next as next_of, positive_bits, rate_bits};
 
 use counters6862_orders::{Found, Order, Reader};
-use rates::Rate;
+use rates::NoRate;
 
 // What a byte of a script brings to print: nothing, the number of a line, that with the report on the field rate, or that the line is
 // malformed.
@@ -14,7 +14,7 @@ use rates::Rate;
 pub enum Event {
     Nothing,
     Answer(u8),
-    Report(u8, Rate),
+    Report(u8, Result<f64, NoRate>),
     Malformed,
 }
 
@@ -92,15 +92,13 @@ fn stopped(p: Progress) -> Step
 }
 
 // The number of a report.
-fn rate_number(rate: Rate) -> u8
+#[tactic(auto, unfolding(rates::specs::Report::rate_number))]
+fn rate_number(rate: Result<f64, NoRate>) -> u8
     ensures { result ≡ rate_number rate }
 {
     match rate {
-        Rate::IllFormed => 8,
-        Rate::NothingLatched => 0,
-        Rate::Overflow => 0,
-        Rate::FieldRate(_) => 0,
-        Rate::LineRate(_) => 0,
+        Err(NoRate::IllFormed) => 8,
+        _ => 0,
     }
 }
 
@@ -205,14 +203,12 @@ fn positive_bits(x: f64) -> u64
 }
 
 // The 64 bits of the rate that a report tells, or 0 where it tells none.
-pub fn rate_bits(rate: Rate) -> u64
+#[tactic(auto, unfolding(crate::specs::Script::rate_bits))]
+pub fn rate_bits(rate: Result<f64, NoRate>) -> u64
     ensures { result ≡ rate_bits rate }
 {
     match rate {
-        Rate::IllFormed => 0,
-        Rate::NothingLatched => 0,
-        Rate::Overflow => 0,
-        Rate::FieldRate(x) => positive_bits(x),
-        Rate::LineRate(x) => positive_bits(x),
+        Ok(x) => positive_bits(x),
+        Err(_) => 0,
     }
 }

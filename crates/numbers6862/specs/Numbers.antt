@@ -1,5 +1,5 @@
 -- A state of the counters as twelve numbers, and calls by number on them: what the C interface and the program go by.
-use Rattle.std.specs.Prelude.{ℕ, Bool, ◌&&◌, List, [], ◌∷◌, eqb, ltb, get_or}
+use Rattle.std.specs.Prelude.{ℕ, Bool, ◌&&◌, List, [], ◌∷◌, eqb, ltb, get_or, Float, Result, Err}
 use Rattle.bits.specs.Byte.{pick, num}
 use Rattle.sync6862.specs.declared.Part.{Part}
 use Rattle.sync6862.specs.declared.Part.TheVariants.{Nt6861, Nt6862}
@@ -10,8 +10,8 @@ use Rattle.sync6862.specs.declared.Start.{Start}
 use Rattle.sync6862.specs.declared.Start.TheVariants.{Made, NoSuchChip}
 use Rattle.sync6862.specs.Unit.{chip_number, well_formed, answer, fresh, fresh_number, number_of}
 use Rattle.sync6862_laws.specs.Counting.{run, clocks}
-use Rattle.rates.specs.declared.Rate.{Rate}
-use Rattle.rates.specs.declared.Rate.TheVariants as rate
+use Rattle.rates.specs.declared.NoRate.{NoRate}
+use Rattle.rates.specs.declared.NoRate.TheVariants as no-rate
 use Rattle.rates6862.specs.Report.{field_report}
 use Rattle.numbers6862.specs.declared.Named.{Named}
 use Rattle.numbers6862.specs.declared.Named.TheVariants.{Chip, Neither}
@@ -153,9 +153,9 @@ call_number n code value = pick (eqb code 0) (fresh_number (fresh value)) (offer
 
 -- ---- the field rate: numbers that are no well formed state are ill formed
 
-unfoldable pub field_offered : Offered → Rate
+unfoldable pub field_offered : Offered → Result Float NoRate
 field_offered (Well s) = field_report s
-field_offered IllFormed = rate.IllFormed
+field_offered IllFormed = Err no-rate.IllFormed
 
-unfoldable pub field : List ℕ → Rate
+unfoldable pub field : List ℕ → Result Float NoRate
 field n = field_offered (read n)

@@ -7,7 +7,7 @@ ghost use Rattle.sync6862_laws.specs.Counting.{run, clocks as clocks_of};
 ghost use Rattle.bits.specs.Byte.{num};
 ghost use Rattle.numbers6862.specs.Numbers.{enhsel_number, numbers_of, bits_fit, part_of, state_of, offered_as, read as read_of, with_bit, alone as alone_of, enhsel_asked, asked as asked_of, refused as refused_of, left_as, made_of, obeyed as obeyed_of, given as given_of, given_to, call as call_of, field_offered, field as field_of};
 
-use rates::Rate;
+use rates::NoRate;
 use sync::{LatchedLines, LatchedPeriods, LineCounter, Lines, PeriodCounter, Periods, Sync};
 use sync6862::{Call, Counters, Part, Start};
 
@@ -289,17 +289,17 @@ pub fn call(n: [u16; 12], code: u32, value: u32) -> Called
     }
 }
 
-fn field_of(state: Offered) -> Rate
+fn field_of(state: Offered) -> Result<f64, NoRate>
     ensures { result ≡ field_offered state }
 {
     match state {
         Offered::Well(s) => rates6862::field_rate(s),
-        Offered::IllFormed => Rate::IllFormed,
+        Offered::IllFormed => Err(NoRate::IllFormed),
     }
 }
 
 // The report on the field rate of the state that the numbers are.
-pub fn field(n: [u16; 12]) -> Rate
+pub fn field(n: [u16; 12]) -> Result<f64, NoRate>
     ensures { result ≡ field_of n }
 {
     field_of(read(n))

@@ -1,28 +1,16 @@
 -- `sync6862_capi::nt6862_counters` meets its contract.
--- Assumes nothing.
-use borrow.Author.Rules.{rules}
+use Rattle.std.proofs.Common.{rules, ◌≡◌, sym, length}
 use borrow.Author.Tests.{eq-eqb, ne_eqb}
 use Rattle.sync6862_capi.specs.Lent.{lent}
 use Rattle.sync6862_capi.proofs.nt6862_counters.Goals as goal
 
-pub taken-requires : goal.taken-requires
+pub returns-in-Some : goal.returns-in-Some
 unfolding lent
-taken-requires c = search rules
+returns-in-Some c =
+    let whole : c.in-Some.n.now ≡ c.args.state.now = search rules in
+    let twelve : length c.args.state.now ≡ 12 = search rules in
+    (simp (c.call-done.ensures, whole, eq-eqb _ _ twelve), simp (c.copy_from_slice.ensures.after, c.call-done.ensures, whole, eq-eqb _ _ twelve))
 
-pub call-done-requires : goal.call-done-requires
+pub returns-in-None : goal.returns-in-None
 unfolding lent
-call-done-requires c = search rules
-
-pub put-requires : goal.put-requires
-unfolding lent
-put-requires c = search rules
-
-pub returns-then-state-eq12 : goal.returns-then-state-eq12
-unfolding lent
-returns-then-state-eq12 c =
-    let size = eq-eqb _ _ c.if-state-eq12.true in
-    (simp (c.call-done.ensures, c.taken.ensures, size), simp (c.put.ensures, c.call-done.ensures, c.taken.ensures, size))
-
-pub returns-else-state-eq12 : goal.returns-else-state-eq12
-unfolding lent
-returns-else-state-eq12 c = (simp (ne_eqb _ _ c.if-state-eq12.false), simp (ne_eqb _ _ c.if-state-eq12.false))
+returns-in-None c = let other = ne_eqb _ _ c.in-None.ensures.cases in (simp other, simp other)
