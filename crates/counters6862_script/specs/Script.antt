@@ -4,7 +4,6 @@ use Rattle.std.specs.Float.{binary64}
 use Rattle.std.specs.Float.Ieee.{of_bits, to_bits, lt}
 use Rattle.bits.specs.Byte.{pick}
 use Rattle.rates.specs.declared.NoRate.{NoRate}
-use Rattle.rates.specs.declared.NoRate.TheVariants.{IllFormed, NothingLatched, Overflow}
 use Rattle.rates.specs.Report.{rate_number}
 use Rattle.numbers6862.specs.Numbers as numbers
 use Rattle.counters6862_orders.specs.declared.Reader.{Reader}
@@ -47,7 +46,8 @@ stopped p = record { progress = record { numbers = p.numbers; reader = p.reader;
 -- change neither
 abbrev pub called_with : Progress → ℕ → ℕ → Step
 called_with p code value =
-    record { progress = next_line p (numbers.call p.numbers code value).numbers; event = Answer (numbers.call p.numbers code value).number }
+    let done = numbers.told p.numbers (numbers.call p.numbers code value) in
+    record { progress = next_line p done.1; event = Answer done.0 }
 
 abbrev pub reported : Progress → Step
 reported p = record { progress = next_line p p.numbers; event = Report (rate_number (numbers.field p.numbers)) (numbers.field p.numbers) }

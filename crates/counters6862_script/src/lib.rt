@@ -105,12 +105,15 @@ fn rate_number(rate: Result<f64, NoRate>) -> u8
 fn called(p: Progress, code: u32, value: u32) -> Step
     ensures { result ≡ called_with p code value }
 {
-    let numbers = p.numbers;
-    let done = numbers6862::call(numbers, code, value);
-    let after = done.numbers;
-    Step {
-        progress: next_line(p, after),
-        event: Event::Answer(done.number),
+    match numbers6862::call(p.numbers, code, value) {
+        Ok(after) => Step {
+            progress: next_line(p, after),
+            event: Event::Answer(0),
+        },
+        Err(why) => Step {
+            progress: next_line(p, p.numbers),
+            event: Event::Answer(why.number()),
+        },
     }
 }
 

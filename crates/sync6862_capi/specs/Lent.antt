@@ -6,12 +6,11 @@ use Rattle.bits.specs.Byte.{pick}
 use Rattle.rates.specs.Hertz.{quotient}
 use Rattle.rates.specs.declared.NoRate.{NoRate}
 use Rattle.rates.specs.declared.NoRate.TheVariants.{IllFormed, NothingLatched, Overflow}
-use Rattle.numbers6862.specs.declared.Called.{Called}
-use Rattle.numbers6862.specs.Numbers.{refused, call, field}
+use Rattle.numbers6862.specs.Numbers.{call, told, field}
 
--- another length than twelve is told before all else, and nothing is written
-unfoldable pub lent : List ℕ → ℕ → ℕ → Called
-lent n code value = pick (eqb (length n) 12) (call n code value) (refused 15 n)
+-- the number given back and the numbers left: another length than twelve is told before all else, and nothing is written
+unfoldable pub lent : List ℕ → ℕ → ℕ → ℕ × List ℕ
+lent n code value = pick (eqb (length n) 12) (told n (call n code value)) (15, n)
 
 -- a whole number below zero
 abbrev pub minus : ℕ → Float

@@ -6,18 +6,23 @@ ghost use Rattle.sync6862_capi.specs.Lent.{lent, hertz as hertz_of, field_lent};
 
 use rates::NoRate;
 
+// The number for another length than twelve.
+const NOT_TWELVE: u8 = 15;
+
 // A call on twelve numbers, and what it leaves. Another length than twelve answers 15.
 #[unsafe(no_mangle)]
 pub extern "C" fn nt6862_counters(state: &mut [u16], call: u32, value: u32) -> u8
-    ensures { (result ≡ (lent state.old call value).number) × (state.new ≡ (lent state.old call value).numbers) }
+    ensures { (result ≡ (lent state.old call value).0) × (state.new ≡ (lent state.old call value).1) }
 {
     match state.as_array() {
-        Some(n) => {
-            let done = numbers6862::call(*n, call, value);
-            state.copy_from_slice(&done.numbers);
-            done.number
-        }
-        None => 15,
+        Some(n) => match numbers6862::call(*n, call, value) {
+            Ok(after) => {
+                state.copy_from_slice(&after);
+                0
+            }
+            Err(why) => why.number(),
+        },
+        None => NOT_TWELVE,
     }
 }
 

@@ -1,5 +1,5 @@
 -- `sync6862_capi::nt6862_field_rate` meets its contract.
-use Rattle.std.proofs.Common.{rules, ◌≡◌, sym, length}
+use Rattle.std.proofs.Common.{rules, ◌≡◌, length}
 use borrow.Author.Tests.{eq-eqb, ne_eqb}
 use lib.Ieee.{of_bits, round, neg}
 use Rattle.sync6862_capi.specs.Lent.{field_lent}
