@@ -33,6 +33,7 @@ pub struct Step {
     pub event: Event,
 }
 
+#[tactic(auto, unfolding(crate::specs::Script::one_more))]
 fn one_more(n: u64) -> u64
     ensures { result ≡ one_more n }
 {
@@ -40,6 +41,7 @@ fn one_more(n: u64) -> u64
 }
 
 // Before the first byte: twelve zeros, which are no state.
+#[tactic(auto, unfolding(crate::specs::Script::opened))]
 pub fn opened() -> Progress
     ensures { result ≡ opened_of }
 {
@@ -54,13 +56,7 @@ pub fn opened() -> Progress
 fn with_reader(p: Progress, r: Reader) -> Progress
     ensures { result ≡ with_reader p r }
 {
-    let numbers = p.numbers;
-    Progress {
-        numbers,
-        reader: r,
-        line: p.line,
-        ended: p.ended,
-    }
+    Progress { reader: r, ..p }
 }
 
 // The next line, with these numbers.
@@ -71,22 +67,15 @@ fn next_line(p: Progress, numbers: [u16; 12]) -> Progress
         numbers,
         reader: counters6862_orders::line_start(),
         line: one_more(p.line),
-        ended: p.ended,
+        ..p
     }
 }
 
 fn stopped(p: Progress) -> Step
     ensures { result ≡ stopped_of p }
 {
-    let numbers = p.numbers;
-    let reader = p.reader;
     Step {
-        progress: Progress {
-            numbers,
-            reader,
-            line: p.line,
-            ended: true,
-        },
+        progress: Progress { ended: true, ..p },
         event: Event::Malformed,
     }
 }
@@ -120,12 +109,10 @@ fn called(p: Progress, code: u32, value: u32) -> Step
 fn reported(p: Progress) -> Step
     ensures { result ≡ reported_of p }
 {
-    let numbers = p.numbers;
-    let rate = numbers6862::field(numbers);
-    let number = rate_number(rate);
+    let rate = numbers6862::field(p.numbers);
     Step {
-        progress: next_line(p, numbers),
-        event: Event::Report(number, rate),
+        progress: next_line(p, p.numbers),
+        event: Event::Report(rate_number(rate), rate),
     }
 }
 
@@ -142,25 +129,26 @@ fn put_at(p: Progress, place: u32, value: u32) -> Step
     }
 }
 
-fn obeyed(order: Order, p: Progress) -> Step
+#[tactic(auto, unfolding(crate::specs::Script::obeyed))]
+fn obeyed(order: Option<Order>, p: Progress) -> Step
     ensures { result ≡ obeyed_of order p }
 {
     match order {
-        Order::Call(code, value) => called(p, code, value),
-        Order::Field => reported(p),
-        Order::Put(place, value) => put_at(p, place, value),
-        Order::Malformed => stopped(p),
+        Some(Order::Call(code, value)) => called(p, code, value),
+        Some(Order::Field) => reported(p),
+        Some(Order::Put(place, value)) => put_at(p, place, value),
+        None => stopped(p),
     }
 }
 
 // A byte within a line, or the end of one that is passed over.
+#[tactic(auto, unfolding(crate::specs::Script::within))]
 fn within(p: Progress, b: u8, r: Reader) -> Step
     ensures { result ≡ within_of p b r }
 {
-    if b == 10 {
-        let numbers = p.numbers;
+    if b == b'\n' {
         Step {
-            progress: next_line(p, numbers),
+            progress: next_line(p, p.numbers),
             event: Event::Nothing,
         }
     } else {
@@ -171,19 +159,19 @@ fn within(p: Progress, b: u8, r: Reader) -> Step
     }
 }
 
-fn found(f: Found, p: Progress, b: u8) -> Step
+#[tactic(auto, unfolding(crate::specs::Script::found))]
+fn found(f: Option<Found>, p: Progress, b: u8) -> Step
     ensures { result ≡ found_of f p b }
 {
     match f {
-        Found::Within(r) => within(p, b, r),
-        Found::Refused => stopped(p),
-        Found::Line(word, count, first, value) => {
-            obeyed(counters6862_orders::order_of(word, count, first, value), p)
-        }
+        Some(Found::Within(r)) => within(p, b, r),
+        Some(Found::Ended(line)) => obeyed(counters6862_orders::order_of(line), p),
+        None => stopped(p),
     }
 }
 
 // A byte of the script. After a malformed line nothing is read.
+#[tactic(auto, unfolding(crate::specs::Script::next))]
 pub fn next(p: Progress, b: u8) -> Step
     ensures { result ≡ next_of p b }
 {
@@ -193,8 +181,7 @@ pub fn next(p: Progress, b: u8) -> Step
             event: Event::Nothing,
         }
     } else {
-        let reader = p.reader;
-        found(counters6862_orders::next(reader, b), p, b)
+        found(counters6862_orders::next(p.reader, b), p, b)
     }
 }
 
