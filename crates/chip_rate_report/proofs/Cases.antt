@@ -1,10 +1,12 @@
 -- What the case of a report says holds of the chip reported on.
 use mathlib.Core.Path.{◌≡◌, refl, sym, ◌∙◌}
 use mathlib.Core.Bool.{Bool, true, false, true≢false}
+use lib.Ieee.{Float}
+use Rattle.std.proofs.Common.{Result, Ok, Err}
 use Rattle.bits.specs.Byte.{pick}
 use Rattle.sync.specs.Sync.{well_sync}
-use Rattle.rates.specs.declared.Rate.{Rate}
-use Rattle.rates.specs.declared.Rate.TheVariants.{IllFormed, NothingLatched, Overflow, FieldRate, LineRate}
+use Rattle.rates.specs.declared.NoRate.{NoRate}
+use Rattle.rates.specs.declared.NoRate.TheVariants.{IllFormed, NothingLatched, Overflow}
 use Rattle.rates.specs.Report.{rate_number, FieldValues, LineValues}
 use Rattle.rates.proofs.Cases.{field_case, line_case}
 use Rattle.chip.specs.declared.Chip.{Chip}
@@ -31,21 +33,20 @@ scan_case : (c : Chip) (scan : Scan) → ScanValues c scan (scan_report c scan)
 scan_case c Field = field_scan c
 scan_case c Line = line_scan c
 
-scan_ill_formed : (c : Chip) (scan : Scan) → ScanValues c scan IllFormed → well_formed c ≡ false
+scan_ill_formed : (c : Chip) (scan : Scan) → ScanValues c scan (Err IllFormed) → well_formed c ≡ false
 unfolding ScanValues FieldValues LineValues
 scan_ill_formed c Field e = out_of_range c e
 scan_ill_formed c Line e = out_of_range c e
 
 -- at a well formed chip the rate's own case says it all
-formed_case : (c : Chip) (scan : Scan) (r : Rate) → well_formed c ≡ true → ScanValues c scan r → RateValues c scan r
+formed_case : (c : Chip) (scan : Scan) (r : Result Float NoRate) → well_formed c ≡ true → ScanValues c scan r → RateValues c scan r
 unfolding RateValues
-formed_case c scan IllFormed h e = scan_ill_formed c scan e
-formed_case c scan NothingLatched h e = (h, e)
-formed_case c scan Overflow h e = (h, e)
-formed_case c scan (FieldRate x) h e = (h, e)
-formed_case c scan (LineRate x) h e = (h, e)
+formed_case c scan (Err IllFormed) h e = scan_ill_formed c scan e
+formed_case c scan (Err NothingLatched) h e = (h, e)
+formed_case c scan (Err Overflow) h e = (h, e)
+formed_case c scan (Ok x) h e = (h, e)
 
-rate_by : (c : Chip) (scan : Scan) (formed : Bool) → well_formed c ≡ formed → RateValues c scan (pick formed (scan_report c scan) IllFormed)
+rate_by : (c : Chip) (scan : Scan) (formed : Bool) → well_formed c ≡ formed → RateValues c scan (pick formed (scan_report c scan) (Err IllFormed))
 unfolding RateValues
 rate_by c scan true h = formed_case c scan (scan_report c scan) h (scan_case c scan)
 rate_by c scan false h = h
@@ -60,18 +61,17 @@ in_range c true e h = e
 in_range c false e h = absurd (true≢false (sym h ∙ out_of_range c e))
 
 -- a rate that is the report, with its number and what its case says
-pub rate_says : (c : Chip) (scan : Scan) (r : Rate) → r ≡ rate_report c scan → rate_number r ≡ number_at c
+pub rate_says : (c : Chip) (scan : Scan) (r : Result Float NoRate) → r ≡ rate_report c scan → rate_number r ≡ number_at c
     → (r ≡ rate_report c scan) × RateCase c scan r
 rate_says c scan r e n = (e, record { number = n; values = rw e (rate_case c scan) })
 
 -- a report is told with 8 exactly at an ill formed chip, and with no number else
-number_by : (c : Chip) (scan : Scan) (r : Rate) → RateValues c scan r → rate_number r ≡ pick (well_formed c) 0 8
+number_by : (c : Chip) (scan : Scan) (r : Result Float NoRate) → RateValues c scan r → rate_number r ≡ pick (well_formed c) 0 8
 unfolding RateValues rate_number
-number_by c scan IllFormed e = rw e refl
-number_by c scan NothingLatched e = rw e.0 refl
-number_by c scan Overflow e = rw e.0 refl
-number_by c scan (FieldRate x) e = rw e.0 refl
-number_by c scan (LineRate x) e = rw e.0 refl
+number_by c scan (Err IllFormed) e = rw e refl
+number_by c scan (Err NothingLatched) e = rw e.0 refl
+number_by c scan (Err Overflow) e = rw e.0 refl
+number_by c scan (Ok x) e = rw e.0 refl
 
 pub rate_number_lem : (c : Chip) (scan : Scan) → rate_number (rate_report c scan) ≡ pick (well_formed c) 0 8
 rate_number_lem c scan = number_by c scan (rate_report c scan) (rate_case c scan)

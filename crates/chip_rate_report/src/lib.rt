@@ -5,17 +5,17 @@ ghost use Rattle.std.specs.Prelude.{◌≡◌};
 ghost use Rattle.chip_rate_report.specs.Report.{rate_report, RateCase};
 
 use chip::Chip;
-use rates::Rate;
+use rates::NoRate;
 
 // Which rate is asked for: fields in a second, or lines.
-#[derive(Clone, Copy)]
+#[derive(Clone, Copy, Debug, PartialEq, Eq)]
 pub enum Scan {
     Field,
     Line,
 }
 
 // The report. An ill formed state is told before all else.
-pub fn rate(c: Chip, scan: Scan) -> Rate
+pub fn rate(c: Chip, scan: Scan) -> Result<f64, NoRate>
     ensures { (result ≡ rate_report c scan) × RateCase c scan result }
 {
     if chip_well_formed::well_formed(c) {
@@ -29,6 +29,6 @@ pub fn rate(c: Chip, scan: Scan) -> Rate
             }
         }
     } else {
-        Rate::IllFormed
+        Err(NoRate::IllFormed)
     }
 }

@@ -4,7 +4,7 @@
 #![tactic(auto)]
 
 use counters6862_script::{Event, Progress};
-use rates::Rate;
+use rates::NoRate;
 use std::io;
 use std::io::{Print, Read};
 use std::process::ExitCode;
@@ -15,24 +15,16 @@ fn print_answer<P: Print>(out: &P, number: u8, n: [u16; 12]) -> io::Result<()> {
     out.write_all(&line.bytes[..line.count])
 }
 
-fn print_half<P: Print>(out: &P, w: u32) -> io::Result<()> {
-    let line = hex_digits::hex_line(w);
-    out.write_all(&line[..8])
-}
-
-// The rate's 64 bits as sixteen hex digits.
-fn print_bits<P: Print>(out: &P, bits: u64) -> io::Result<()> {
-    print_half(out, (bits / 4294967296) as u32)?;
-    print_half(out, (bits % 4294967296) as u32)
-}
-
-fn print_report<P: Print>(out: &P, rate: Rate) -> io::Result<()> {
+// The rate's 64 bits as sixteen hex digits, or why there is no rate.
+fn print_report<P: Print>(out: &P, rate: Result<f64, NoRate>) -> io::Result<()> {
     match rate {
-        Rate::IllFormed => out.write_all(b"ill-formed"),
-        Rate::NothingLatched => out.write_all(b"nothing-latched"),
-        Rate::Overflow => out.write_all(b"overflow"),
-        Rate::FieldRate(_) => print_bits(out, counters6862_script::rate_bits(rate)),
-        Rate::LineRate(_) => print_bits(out, counters6862_script::rate_bits(rate)),
+        Ok(_) => {
+            let bits = counters6862_script::rate_bits(rate);
+            print!(out; "{bits:016X}")
+        }
+        Err(NoRate::IllFormed) => out.write_all(b"ill-formed"),
+        Err(NoRate::NothingLatched) => out.write_all(b"nothing-latched"),
+        Err(NoRate::Overflow) => out.write_all(b"overflow"),
     }
 }
 
@@ -60,7 +52,12 @@ fn print_line<P: Print>(out: &P, number: u8, n: [u16; 12]) -> io::Result<()> {
     out.write_all(b"\n")
 }
 
-fn print_with_report<P: Print>(out: &P, number: u8, n: [u16; 12], rate: Rate) -> io::Result<()> {
+fn print_with_report<P: Print>(
+    out: &P,
+    number: u8,
+    n: [u16; 12],
+    rate: Result<f64, NoRate>,
+) -> io::Result<()> {
     print_answer(out, number, n)?;
     out.write_all(b" ")?;
     print_report(out, rate)?;

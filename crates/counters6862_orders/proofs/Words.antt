@@ -1,10 +1,10 @@
 -- The codes are those of the words, and a line of each is read as its order.
 -- Assumes nothing.
-use Prim.Native.Nat.{ℕ}
 use mathlib.Core.Path.{◌≡◌, refl}
-use mathlib.Core.List.{List, [], ◌∷◌}
-use Rattle.counters6862_orders.specs.declared.Order.TheVariants.{Call, Field, Put, Malformed}
-use Rattle.counters6862_orders.specs.Line.{letter_of, symbol_of, lettered, begun, grown, next}
+use mathlib.Core.List.{[], ◌∷◌}
+use Rattle.counters6862_orders.specs.declared.Order.TheVariants.{Call, Field, Put}
+use Rattle.std.proofs.Common.{Some, None}
+use Rattle.counters6862_orders.specs.Line.{letter_of, symbol_of, lettered, begun, grown}
 use Rattle.counters6862_orders.specs.Orders.{code_of, with_number, bare, report_order, put_order, order_of}
 use Rattle.counters6862_orders.specs.Words.{words, each, line_read, ordered, alone, one, two}
 
@@ -14,16 +14,16 @@ codes = refl
 
 -- each word takes its own number of numbers, and no other
 pub read_alone : each alone words
-    ≡ Malformed ∷ Malformed ∷ Malformed ∷ Malformed ∷ Malformed ∷ Malformed ∷ Call 6 0 ∷ Call 7 0 ∷ Field ∷ Malformed ∷ []
+    ≡ None ∷ None ∷ None ∷ None ∷ None ∷ None ∷ Some (Call 6 0) ∷ Some (Call 7 0) ∷ Some Field ∷ None ∷ []
 unfolding ordered line_read letter_of symbol_of lettered begun grown with_number bare report_order put_order order_of
 read_alone = refl
 
 pub read_one : each one words
-    ≡ Call 0 4096 ∷ Call 1 4096 ∷ Call 2 4096 ∷ Call 3 4096 ∷ Call 4 4096 ∷ Call 5 4096 ∷ Malformed ∷ Malformed ∷ Malformed ∷ Malformed ∷ []
+    ≡ Some (Call 0 4096) ∷ Some (Call 1 4096) ∷ Some (Call 2 4096) ∷ Some (Call 3 4096) ∷ Some (Call 4 4096) ∷ Some (Call 5 4096) ∷ None ∷ None ∷ None ∷ None ∷ []
 unfolding ordered line_read letter_of symbol_of lettered begun grown with_number bare report_order put_order order_of
 read_one = refl
 
 pub read_two : each two words
-    ≡ Malformed ∷ Malformed ∷ Malformed ∷ Malformed ∷ Malformed ∷ Malformed ∷ Malformed ∷ Malformed ∷ Malformed ∷ Put 3 65535 ∷ []
+    ≡ None ∷ None ∷ None ∷ None ∷ None ∷ None ∷ None ∷ None ∷ None ∷ Some (Put 3 65535) ∷ []
 unfolding ordered line_read letter_of symbol_of lettered begun grown with_number bare report_order put_order order_of
 read_two = refl

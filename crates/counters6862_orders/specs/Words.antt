@@ -1,9 +1,8 @@
 -- The words of an order, and a line of each of them.
-use Rattle.std.specs.Prelude.{ℕ, List, [], ◌∷◌, ◌++◌}
+use Rattle.std.specs.Prelude.{ℕ, List, [], ◌∷◌, ◌++◌, Option, Some, None}
 use Rattle.counters6862_orders.specs.declared.Found.{Found}
-use Rattle.counters6862_orders.specs.declared.Found.TheVariants.{Within, Refused, Line}
+use Rattle.counters6862_orders.specs.declared.Found.TheVariants.{Within, Ended}
 use Rattle.counters6862_orders.specs.declared.Order.{Order}
-use Rattle.counters6862_orders.specs.declared.Order.TheVariants.{Malformed}
 use Rattle.counters6862_orders.specs.Line.{line_start, next}
 use Rattle.counters6862_orders.specs.Orders.{order_of}
 
@@ -28,23 +27,23 @@ each f [] = []
 each f (x ∷ xs) = f x ∷ each f xs
 
 -- what the bytes of a line bring, and the order of a whole line
-unfoldable pub line_read : Found → List ℕ → Found
+unfoldable pub line_read : Option Found → List ℕ → Option Found
 line_read f [] = f
-line_read (Within r) (b ∷ rest) = line_read (next r b) rest
-line_read Refused (b ∷ rest) = Refused
-line_read (Line word count first value) (b ∷ rest) = Line word count first value
+line_read (Some (Within r)) (b ∷ rest) = line_read (next r b) rest
+line_read (Some (Ended line)) (b ∷ rest) = Some (Ended line)
+line_read None (b ∷ rest) = None
 
-unfoldable pub ordered : Found → Order
-ordered (Within r) = Malformed
-ordered Refused = Malformed
-ordered (Line word count first value) = order_of word count first value
+unfoldable pub ordered : Option Found → Option Order
+ordered (Some (Within r)) = None
+ordered (Some (Ended line)) = order_of line
+ordered None = None
 
 -- a word alone, with 4096, and with 3 and 65535
-abbrev pub alone : List ℕ → Order
-alone word = ordered (line_read (Within line_start) (word ++ (10 ∷ [])))
+abbrev pub alone : List ℕ → Option Order
+alone word = ordered (line_read (Some (Within line_start)) (word ++ (10 ∷ [])))
 
-abbrev pub one : List ℕ → Order
-one word = ordered (line_read (Within line_start) (word ++ (32 ∷ 52 ∷ 48 ∷ 57 ∷ 54 ∷ 10 ∷ [])))
+abbrev pub one : List ℕ → Option Order
+one word = ordered (line_read (Some (Within line_start)) (word ++ (32 ∷ 52 ∷ 48 ∷ 57 ∷ 54 ∷ 10 ∷ [])))
 
-abbrev pub two : List ℕ → Order
-two word = ordered (line_read (Within line_start) (word ++ (32 ∷ 51 ∷ 32 ∷ 54 ∷ 53 ∷ 53 ∷ 51 ∷ 53 ∷ 10 ∷ [])))
+abbrev pub two : List ℕ → Option Order
+two word = ordered (line_read (Some (Within line_start)) (word ++ (32 ∷ 51 ∷ 32 ∷ 54 ∷ 53 ∷ 53 ∷ 51 ∷ 53 ∷ 10 ∷ [])))

@@ -42,48 +42,49 @@ pub struct Reader {
     pub value: u32,
 }
 
-// What a byte brings: the reader goes on, the line is malformed, or it ends: its word, how many numbers it has, and its last two.
+// A line that has ended: its word, how many numbers it has, and the last two of them.
+#[derive(Clone, Copy)]
+pub struct Line {
+    pub word: u32,
+    pub count: u8,
+    pub first: u32,
+    pub value: u32,
+}
+
+// What a byte of a line that is not malformed brings: the reader goes on, or the line ends.
 #[derive(Clone, Copy)]
 pub enum Found {
     Within(Reader),
-    Refused,
-    Line(u32, u8, u32, u32),
+    Ended(Line),
 }
 
-// What a line asks for: a call and its value, the field rate, a number to be put at a place, or nothing that is known.
+// What a line asks for: a call and its value, the field rate, or a number to be put at a place.
 #[derive(Clone, Copy)]
 pub enum Order {
     Call(u32, u32),
     Field,
     Put(u32, u32),
-    Malformed,
 }
 
+#[tactic(auto, unfolding(crate::specs::Line::letter_of))]
 fn letter_of(b: u8) -> Symbol
     ensures { result ≡ letter_of b }
 {
-    if b < 48 {
-        return Symbol::Other;
+    match b {
+        b'0'..=b'9' => Symbol::Digit(b - b'0'),
+        b'a'..=b'z' => Symbol::Letter(b - b'a' + 1),
+        _ => Symbol::Other,
     }
-    if b < 58 {
-        return Symbol::Digit(b - 48);
-    }
-    if b < 97 {
-        return Symbol::Other;
-    }
-    if b < 123 {
-        return Symbol::Letter(b - 96);
-    }
-    Symbol::Other
 }
 
+#[tactic(auto, unfolding(crate::specs::Line::symbol_of))]
 fn symbol_of(b: u8) -> Symbol
     ensures { result ≡ symbol_of b }
 {
     match b {
-        10 => Symbol::Newline,
-        32 => Symbol::Blank,
-        35 => Symbol::Hash,
+        b'\n' => Symbol::Newline,
+        b' ' => Symbol::Blank,
+        b'#' => Symbol::Hash,
         _ => letter_of(b),
     }
 }
@@ -101,116 +102,113 @@ fn reader_at(place: Place, word: u32, count: u8, first: u32) -> Reader
 }
 
 // A letter more of a word, which has six at most.
-fn with_letter(word: u32, l: u8) -> Found
+#[tactic(auto, unfolding(crate::specs::Line::lettered))]
+fn with_letter(word: u32, l: u8) -> Option<Found>
     ensures { result ≡ lettered word l }
 {
     if word < 33554432 {
-        Found::Within(reader_at(Place::Word, word * 32 + (l % 32) as u32, 0, 0))
+        Some(Found::Within(reader_at(Place::Word, word * 32 + u32::from(l % 32), 0, 0)))
     } else {
-        Found::Refused
+        None
     }
 }
 
 // The first digit of a number, of which a line has two at most.
-fn begun(r: Reader, d: u8) -> Found
+#[tactic(auto, unfolding(crate::specs::Line::begun))]
+fn begun(r: Reader, d: u8) -> Option<Found>
     ensures { result ≡ begun_of r d }
 {
     if r.count < 2 {
-        Found::Within(Reader {
+        Some(Found::Within(Reader {
             place: Place::Number,
-            word: r.word,
             count: r.count + 1,
-            first: r.first,
-            value: d as u32,
-        })
+            value: u32::from(d),
+            ..r
+        }))
     } else {
-        Found::Refused
+        None
     }
 }
 
 // A digit more of a number, which is at most 999,999,999.
-fn grown(r: Reader, d: u8) -> Found
+#[tactic(auto, unfolding(crate::specs::Line::grown))]
+fn grown(r: Reader, d: u8) -> Option<Found>
     ensures { result ≡ grown_of r d }
 {
     if r.value < 100000000 {
-        Found::Within(Reader {
+        Some(Found::Within(Reader {
             place: Place::Number,
-            word: r.word,
-            count: r.count,
-            first: r.first,
-            value: r.value * 10 + (d % 10) as u32,
-        })
+            value: r.value * 10 + u32::from(d % 10),
+            ..r
+        }))
     } else {
-        Found::Refused
+        None
     }
 }
 
-fn at_start(s: Symbol) -> Found
+fn at_start(s: Symbol) -> Option<Found>
     ensures { result ≡ at_start s }
 {
     match s {
-        Symbol::Newline => Found::Within(reader_at(Place::Start, 0, 0, 0)),
-        Symbol::Blank => Found::Refused,
-        Symbol::Hash => Found::Within(reader_at(Place::Remark, 0, 0, 0)),
-        Symbol::Digit(_) => Found::Refused,
+        Symbol::Newline => Some(Found::Within(line_start())),
+        Symbol::Hash => Some(Found::Within(reader_at(Place::Remark, 0, 0, 0))),
         Symbol::Letter(l) => with_letter(0, l),
-        Symbol::Other => Found::Refused,
+        _ => None,
     }
 }
 
-fn at_remark(s: Symbol) -> Found
+fn at_remark(s: Symbol) -> Option<Found>
     ensures { result ≡ at_remark s }
 {
     match s {
-        Symbol::Newline => Found::Within(reader_at(Place::Start, 0, 0, 0)),
-        Symbol::Blank => Found::Within(reader_at(Place::Remark, 0, 0, 0)),
-        Symbol::Hash => Found::Within(reader_at(Place::Remark, 0, 0, 0)),
-        Symbol::Digit(_) => Found::Within(reader_at(Place::Remark, 0, 0, 0)),
-        Symbol::Letter(_) => Found::Within(reader_at(Place::Remark, 0, 0, 0)),
-        Symbol::Other => Found::Within(reader_at(Place::Remark, 0, 0, 0)),
+        Symbol::Newline => Some(Found::Within(line_start())),
+        _ => Some(Found::Within(reader_at(Place::Remark, 0, 0, 0))),
     }
 }
 
-fn at_word(r: Reader, s: Symbol) -> Found
+fn at_word(r: Reader, s: Symbol) -> Option<Found>
     ensures { result ≡ at_word r s }
 {
     match s {
-        Symbol::Newline => Found::Line(r.word, 0, 0, 0),
-        Symbol::Blank => Found::Within(reader_at(Place::Gap, r.word, 0, 0)),
-        Symbol::Hash => Found::Refused,
-        Symbol::Digit(_) => Found::Refused,
+        Symbol::Newline => Some(Found::Ended(Line {
+            word: r.word,
+            count: 0,
+            first: 0,
+            value: 0,
+        })),
+        Symbol::Blank => Some(Found::Within(reader_at(Place::Gap, r.word, 0, 0))),
         Symbol::Letter(l) => with_letter(r.word, l),
-        Symbol::Other => Found::Refused,
+        _ => None,
     }
 }
 
-fn at_gap(r: Reader, s: Symbol) -> Found
+fn at_gap(r: Reader, s: Symbol) -> Option<Found>
     ensures { result ≡ at_gap r s }
 {
     match s {
-        Symbol::Newline => Found::Refused,
-        Symbol::Blank => Found::Within(r),
-        Symbol::Hash => Found::Refused,
+        Symbol::Blank => Some(Found::Within(r)),
         Symbol::Digit(d) => begun(r, d),
-        Symbol::Letter(_) => Found::Refused,
-        Symbol::Other => Found::Refused,
+        _ => None,
     }
 }
 
-fn at_number(r: Reader, s: Symbol) -> Found
+fn at_number(r: Reader, s: Symbol) -> Option<Found>
     ensures { result ≡ at_number r s }
 {
     match s {
-        Symbol::Newline => Found::Line(r.word, r.count, r.first, r.value),
-        Symbol::Blank => Found::Within(reader_at(Place::Gap, r.word, r.count, r.value)),
-        Symbol::Hash => Found::Refused,
+        Symbol::Newline => Some(Found::Ended(Line {
+            word: r.word,
+            count: r.count,
+            first: r.first,
+            value: r.value,
+        })),
+        Symbol::Blank => Some(Found::Within(reader_at(Place::Gap, r.word, r.count, r.value))),
         Symbol::Digit(d) => grown(r, d),
-        Symbol::Letter(_) => Found::Refused,
-        Symbol::Other => Found::Refused,
+        _ => None,
     }
 }
 
-fn next_at(place: Place, r: Reader, s: Symbol) -> Found
+fn next_at(place: Place, r: Reader, s: Symbol) -> Option<Found>
     ensures { result ≡ next_at place r s }
 {
     match place {
@@ -229,75 +227,75 @@ pub fn line_start() -> Reader
     reader_at(Place::Start, 0, 0, 0)
 }
 
-// A byte of a line.
-pub fn next(r: Reader, b: u8) -> Found
+// A byte of a line. There is nothing where it makes the line malformed.
+pub fn next(r: Reader, b: u8) -> Option<Found>
     ensures { result ≡ next_of r b }
 {
-    let place = r.place;
-    next_at(place, r, symbol_of(b))
+    next_at(r.place, r, symbol_of(b))
 }
 
 // A call whose word comes with one number.
-fn with_number(code: u32, count: u8, value: u32) -> Order
+#[tactic(auto, unfolding(crate::specs::Orders::with_number))]
+fn with_number(code: u32, count: u8, value: u32) -> Option<Order>
     ensures { result ≡ with_number code count value }
 {
     if count == 1 {
-        Order::Call(code, value)
+        Some(Order::Call(code, value))
     } else {
-        Order::Malformed
+        None
     }
 }
 
 // A call whose word comes alone.
-fn bare(code: u32, count: u8) -> Order
+#[tactic(auto, unfolding(crate::specs::Orders::bare))]
+fn bare(code: u32, count: u8) -> Option<Order>
     ensures { result ≡ bare_of code count }
 {
     if count == 0 {
-        Order::Call(code, 0)
+        Some(Order::Call(code, 0))
     } else {
-        Order::Malformed
+        None
     }
 }
 
-fn report_order(count: u8) -> Order
+#[tactic(auto, unfolding(crate::specs::Orders::report_order))]
+fn report_order(count: u8) -> Option<Order>
     ensures { result ≡ report_order count }
 {
-    if count == 0 {
-        Order::Field
-    } else {
-        Order::Malformed
-    }
+    if count == 0 { Some(Order::Field) } else { None }
 }
 
 // A place below twelve and a number of 16 bits.
-fn put_order(count: u8, place: u32, value: u32) -> Order
+#[tactic(auto, unfolding(crate::specs::Orders::put_order))]
+fn put_order(count: u8, place: u32, value: u32) -> Option<Order>
     ensures { result ≡ put_order count place value }
 {
     if count == 2 {
         if place < 12 {
             if value < 65536 {
-                return Order::Put(place, value);
+                return Some(Order::Put(place, value));
             }
         }
     }
-    Order::Malformed
+    None
 }
 
-// What a line asks for, by its word.
-pub fn order_of(word: u32, count: u8, first: u32, value: u32) -> Order
-    ensures { result ≡ order_of word count first value }
+// What a line asks for, by its word, if it is an order.
+#[tactic(auto, unfolding(crate::specs::Orders::order_of))]
+pub fn order_of(line: Line) -> Option<Order>
+    ensures { result ≡ order_of line }
 {
-    match word {
-        6887016 => with_number(0, count, value),
-        8 => with_number(1, count, value),
-        22 => with_number(2, count, value),
-        3554411 => with_number(3, count, value),
-        182733996 => with_number(4, count, value),
-        281772 => with_number(5, count, value),
-        111176 => bare(6, count),
-        111190 => bare(7, count),
-        6591876 => report_order(count),
-        17076 => put_order(count, first, value),
-        _ => Order::Malformed,
+    match line.word {
+        6887016 => with_number(0, line.count, line.value),
+        8 => with_number(1, line.count, line.value),
+        22 => with_number(2, line.count, line.value),
+        3554411 => with_number(3, line.count, line.value),
+        182733996 => with_number(4, line.count, line.value),
+        281772 => with_number(5, line.count, line.value),
+        111176 => bare(6, line.count),
+        111190 => bare(7, line.count),
+        6591876 => report_order(line.count),
+        17076 => put_order(line.count, line.first, line.value),
+        _ => None,
     }
 }

@@ -1,15 +1,14 @@
 -- A script: a line a call on the twelve numbers, with what is told after each. The first malformed line ends it.
-use Rattle.std.specs.Prelude.{ℕ, ◌+◌, ◌%◌, Float, true, false, List, [], ◌∷◌, eqb, ltb, set}
+use Rattle.std.specs.Prelude.{ℕ, ◌+◌, ◌%◌, Float, true, false, List, [], ◌∷◌, eqb, ltb, set, Option, Some, None, Result, Ok, Err}
 use Rattle.std.specs.Float.{binary64}
 use Rattle.std.specs.Float.Ieee.{of_bits, to_bits, lt}
 use Rattle.bits.specs.Byte.{pick}
-use Rattle.rates.specs.declared.Rate.{Rate}
-use Rattle.rates.specs.declared.Rate.TheVariants.{IllFormed, NothingLatched, Overflow, FieldRate, LineRate}
+use Rattle.rates.specs.declared.NoRate.{NoRate}
 use Rattle.rates.specs.Report.{rate_number}
 use Rattle.numbers6862.specs.Numbers as numbers
 use Rattle.counters6862_orders.specs.declared.Reader.{Reader}
 use Rattle.counters6862_orders.specs.declared.Found.{Found}
-use Rattle.counters6862_orders.specs.declared.Found.TheVariants.{Within, Refused, Line}
+use Rattle.counters6862_orders.specs.declared.Found.TheVariants.{Within, Ended}
 use Rattle.counters6862_orders.specs.declared.Order.{Order}
 use Rattle.counters6862_orders.specs.declared.Order.TheVariants as order
 use Rattle.counters6862_orders.specs.Line as line
@@ -47,7 +46,8 @@ stopped p = record { progress = record { numbers = p.numbers; reader = p.reader;
 -- change neither
 abbrev pub called_with : Progress → ℕ → ℕ → Step
 called_with p code value =
-    record { progress = next_line p (numbers.call p.numbers code value).numbers; event = Answer (numbers.call p.numbers code value).number }
+    let done = numbers.told p.numbers (numbers.call p.numbers code value) in
+    record { progress = next_line p done.1; event = Answer done.0 }
 
 abbrev pub reported : Progress → Step
 reported p = record { progress = next_line p p.numbers; event = Report (rate_number (numbers.field p.numbers)) (numbers.field p.numbers) }
@@ -55,20 +55,20 @@ reported p = record { progress = next_line p p.numbers; event = Report (rate_num
 abbrev pub put_at : Progress → ℕ → ℕ → Step
 put_at p place value = record { progress = next_line p (set p.numbers (place % 12) (value % 65536)); event = Answer 0 }
 
-unfoldable pub obeyed : Order → Progress → Step
-obeyed (order.Call code value) p = called_with p code value
-obeyed order.Field p = reported p
-obeyed (order.Put place value) p = put_at p place value
-obeyed order.Malformed p = stopped p
+unfoldable pub obeyed : Option Order → Progress → Step
+obeyed (Some (order.Call code value)) p = called_with p code value
+obeyed (Some order.Field) p = reported p
+obeyed (Some (order.Put place value)) p = put_at p place value
+obeyed None p = stopped p
 
 -- a byte within a line, or the end of one that is passed over
 unfoldable pub within : Progress → ℕ → Reader → Step
 within p b r = pick (eqb b 10) (record { progress = next_line p p.numbers; event = Nothing }) (record { progress = with_reader p r; event = Nothing })
 
-unfoldable pub found : Found → Progress → ℕ → Step
-found (Within r) p b = within p b r
-found Refused p b = stopped p
-found (Line word count first value) p b = obeyed (order_of word count first value) p
+unfoldable pub found : Option Found → Progress → ℕ → Step
+found (Some (Within r)) p b = within p b r
+found (Some (Ended line)) p b = obeyed (order_of line) p
+found None p b = stopped p
 
 -- a byte of the script
 unfoldable pub next : Progress → ℕ → Step
@@ -80,9 +80,6 @@ next p b = pick p.ended (record { progress = p; event = Nothing }) (found (line.
 unfoldable pub positive_bits : Float → ℕ
 positive_bits x = pick (lt (of_bits binary64 0) x) (to_bits binary64 x) 0
 
-unfoldable pub rate_bits : Rate → ℕ
-rate_bits IllFormed = 0
-rate_bits NothingLatched = 0
-rate_bits Overflow = 0
-rate_bits (FieldRate x) = positive_bits x
-rate_bits (LineRate x) = positive_bits x
+unfoldable pub rate_bits : Result Float NoRate → ℕ
+rate_bits (Err why) = 0
+rate_bits (Ok x) = positive_bits x

@@ -6,7 +6,7 @@ ghost use Rattle.rates.specs.Report.{rate_number};
 ghost use Rattle.counters6862_script.specs.Script.{one_more, opened as opened_of, with_reader, next_line, stopped as stopped_of, put_at, called_with, reported as reported_of, obeyed as obeyed_of, within as within_of, found as found_of, next as next_of, positive_bits, rate_bits};
 
 use counters6862_orders::{Found, Order, Reader};
-use rates::Rate;
+use rates::NoRate;
 
 // What a byte of a script brings to print: nothing, the number of a line, that with the report on the field rate, or that the line is
 // malformed.
@@ -14,7 +14,7 @@ use rates::Rate;
 pub enum Event {
     Nothing,
     Answer(u8),
-    Report(u8, Rate),
+    Report(u8, Result<f64, NoRate>),
     Malformed,
 }
 
@@ -33,6 +33,7 @@ pub struct Step {
     pub event: Event,
 }
 
+#[tactic(auto, unfolding(crate::specs::Script::one_more))]
 fn one_more(n: u64) -> u64
     ensures { result ≡ one_more n }
 {
@@ -40,6 +41,7 @@ fn one_more(n: u64) -> u64
 }
 
 // Before the first byte: twelve zeros, which are no state.
+#[tactic(auto, unfolding(crate::specs::Script::opened))]
 pub fn opened() -> Progress
     ensures { result ≡ opened_of }
 {
@@ -54,13 +56,7 @@ pub fn opened() -> Progress
 fn with_reader(p: Progress, r: Reader) -> Progress
     ensures { result ≡ with_reader p r }
 {
-    let numbers = p.numbers;
-    Progress {
-        numbers,
-        reader: r,
-        line: p.line,
-        ended: p.ended,
-    }
+    Progress { reader: r, ..p }
 }
 
 // The next line, with these numbers.
@@ -71,60 +67,52 @@ fn next_line(p: Progress, numbers: [u16; 12]) -> Progress
         numbers,
         reader: counters6862_orders::line_start(),
         line: one_more(p.line),
-        ended: p.ended,
+        ..p
     }
 }
 
 fn stopped(p: Progress) -> Step
     ensures { result ≡ stopped_of p }
 {
-    let numbers = p.numbers;
-    let reader = p.reader;
     Step {
-        progress: Progress {
-            numbers,
-            reader,
-            line: p.line,
-            ended: true,
-        },
+        progress: Progress { ended: true, ..p },
         event: Event::Malformed,
     }
 }
 
 // The number of a report.
-fn rate_number(rate: Rate) -> u8
+#[tactic(auto, unfolding(rates::specs::Report::rate_number))]
+fn rate_number(rate: Result<f64, NoRate>) -> u8
     ensures { result ≡ rate_number rate }
 {
     match rate {
-        Rate::IllFormed => 8,
-        Rate::NothingLatched => 0,
-        Rate::Overflow => 0,
-        Rate::FieldRate(_) => 0,
-        Rate::LineRate(_) => 0,
+        Err(NoRate::IllFormed) => 8,
+        _ => 0,
     }
 }
 
 fn called(p: Progress, code: u32, value: u32) -> Step
     ensures { result ≡ called_with p code value }
 {
-    let numbers = p.numbers;
-    let done = numbers6862::call(numbers, code, value);
-    let after = done.numbers;
-    Step {
-        progress: next_line(p, after),
-        event: Event::Answer(done.number),
+    match numbers6862::call(p.numbers, code, value) {
+        Ok(after) => Step {
+            progress: next_line(p, after),
+            event: Event::Answer(0),
+        },
+        Err(why) => Step {
+            progress: next_line(p, p.numbers),
+            event: Event::Answer(why.number()),
+        },
     }
 }
 
 fn reported(p: Progress) -> Step
     ensures { result ≡ reported_of p }
 {
-    let numbers = p.numbers;
-    let rate = numbers6862::field(numbers);
-    let number = rate_number(rate);
+    let rate = numbers6862::field(p.numbers);
     Step {
-        progress: next_line(p, numbers),
-        event: Event::Report(number, rate),
+        progress: next_line(p, p.numbers),
+        event: Event::Report(rate_number(rate), rate),
     }
 }
 
@@ -141,25 +129,26 @@ fn put_at(p: Progress, place: u32, value: u32) -> Step
     }
 }
 
-fn obeyed(order: Order, p: Progress) -> Step
+#[tactic(auto, unfolding(crate::specs::Script::obeyed))]
+fn obeyed(order: Option<Order>, p: Progress) -> Step
     ensures { result ≡ obeyed_of order p }
 {
     match order {
-        Order::Call(code, value) => called(p, code, value),
-        Order::Field => reported(p),
-        Order::Put(place, value) => put_at(p, place, value),
-        Order::Malformed => stopped(p),
+        Some(Order::Call(code, value)) => called(p, code, value),
+        Some(Order::Field) => reported(p),
+        Some(Order::Put(place, value)) => put_at(p, place, value),
+        None => stopped(p),
     }
 }
 
 // A byte within a line, or the end of one that is passed over.
+#[tactic(auto, unfolding(crate::specs::Script::within))]
 fn within(p: Progress, b: u8, r: Reader) -> Step
     ensures { result ≡ within_of p b r }
 {
-    if b == 10 {
-        let numbers = p.numbers;
+    if b == b'\n' {
         Step {
-            progress: next_line(p, numbers),
+            progress: next_line(p, p.numbers),
             event: Event::Nothing,
         }
     } else {
@@ -170,19 +159,19 @@ fn within(p: Progress, b: u8, r: Reader) -> Step
     }
 }
 
-fn found(f: Found, p: Progress, b: u8) -> Step
+#[tactic(auto, unfolding(crate::specs::Script::found))]
+fn found(f: Option<Found>, p: Progress, b: u8) -> Step
     ensures { result ≡ found_of f p b }
 {
     match f {
-        Found::Within(r) => within(p, b, r),
-        Found::Refused => stopped(p),
-        Found::Line(word, count, first, value) => {
-            obeyed(counters6862_orders::order_of(word, count, first, value), p)
-        }
+        Some(Found::Within(r)) => within(p, b, r),
+        Some(Found::Ended(line)) => obeyed(counters6862_orders::order_of(line), p),
+        None => stopped(p),
     }
 }
 
 // A byte of the script. After a malformed line nothing is read.
+#[tactic(auto, unfolding(crate::specs::Script::next))]
 pub fn next(p: Progress, b: u8) -> Step
     ensures { result ≡ next_of p b }
 {
@@ -192,8 +181,7 @@ pub fn next(p: Progress, b: u8) -> Step
             event: Event::Nothing,
         }
     } else {
-        let reader = p.reader;
-        found(counters6862_orders::next(reader, b), p, b)
+        found(counters6862_orders::next(p.reader, b), p, b)
     }
 }
 
@@ -205,14 +193,12 @@ fn positive_bits(x: f64) -> u64
 }
 
 // The 64 bits of the rate that a report tells, or 0 where it tells none.
-pub fn rate_bits(rate: Rate) -> u64
+#[tactic(auto, unfolding(crate::specs::Script::rate_bits))]
+pub fn rate_bits(rate: Result<f64, NoRate>) -> u64
     ensures { result ≡ rate_bits rate }
 {
     match rate {
-        Rate::IllFormed => 0,
-        Rate::NothingLatched => 0,
-        Rate::Overflow => 0,
-        Rate::FieldRate(x) => positive_bits(x),
-        Rate::LineRate(x) => positive_bits(x),
+        Ok(x) => positive_bits(x),
+        Err(_) => 0,
     }
 }

@@ -61,7 +61,7 @@ use Rattle.sync6862.proofs.Numbers as unit-number
 use Rattle.sync6862_laws.specs.Counting as counting
 use Rattle.sync6862_laws.proofs.Since as since
 use Rattle.rates.specs.Hertz.{Between, field_hz}
-use Rattle.rates.specs.declared.Rate.TheVariants.{FieldRate}
+use Rattle.std.proofs.Common.{Ok}
 use Rattle.rates6862.specs.Report.{field_report, lowest}
 use Rattle.rates6862.proofs.Cases as rate
 use Rattle.edid_check.specs.Block.{header_fits, length_fits, sum_fits}
@@ -191,10 +191,10 @@ firmware_not_told_apart = firmware-words.firmware_runs_words
 -- ---- Wish 6: the counters of the NT6862
 
 -- the number of every call; a refused one moves nothing; 23 for a chip that there is not
-pub counters_number : (s : Counters) (call : Call) → (unit.answer s call).number ≡ unit.number_of s call
+pub counters_number : (s : Counters) (call : Call) → (unit.given_number (unit.answer s call)) ≡ unit.number_of s call
 counters_number = unit-number.number_exact
 
-pub counters_refused : (s : Counters) (call : Call) → ((unit.answer s call).number ≡ 0 → ⊥) → (unit.answer s call).state ≡ s
+pub counters_refused : (s : Counters) (call : Call) → ((unit.given_number (unit.answer s call)) ≡ 0 → ⊥) → (unit.left s (unit.answer s call)) ≡ s
 counters_refused = unit-number.refused_unmoved
 
 pub counters_fresh : (chip : ℕ) → unit.fresh_number (unit.fresh chip) ≡ pick (eqb chip 6861) 0 (pick (eqb chip 6862) 0 23)
@@ -202,20 +202,20 @@ counters_fresh = unit-number.fresh_exact
 
 -- VCNT is the number of clocks, and HCNT that of rises of HSYNCI, since it was last zeroed
 pub periods_counted : (s : Counters) (call : Call) (calls : List Call) → unit.well_formed s ≡ true → counting.zeroes_periods s call ≡ true
-    → (unit.answer s call).state.sync.periods.overflow ≡ false → counting.never counting.zeroes_periods (unit.answer s call).state calls ≡ true
-    → counting.period_clocks calls ≤ unit.periods_last (unit.answer s call).state.part
+    → (unit.left s (unit.answer s call)).sync.periods.overflow ≡ false → counting.never counting.zeroes_periods (unit.left s (unit.answer s call)) calls ≡ true
+    → counting.period_clocks calls ≤ unit.periods_last (unit.left s (unit.answer s call)).part
     → ((counting.run s (call ∷ calls)).sync.periods.count.0 ≡ counting.period_clocks calls) × ((counting.run s (call ∷ calls)).sync.periods.overflow ≡ false)
 periods_counted = since.periods_since
 
 pub lines_counted : (s : Counters) (call : Call) (calls : List Call) → unit.well_formed s ≡ true → counting.zeroes_lines s call ≡ true
-    → (unit.answer s call).state.sync.lines.overflow ≡ false → counting.never counting.breaks_lines (unit.answer s call).state calls ≡ true
-    → counting.hsync_rises (unit.answer s call).state.hsynci calls ≤ 4095
-    → ((counting.run s (call ∷ calls)).sync.lines.count.0 ≡ counting.hsync_rises (unit.answer s call).state.hsynci calls)
+    → (unit.left s (unit.answer s call)).sync.lines.overflow ≡ false → counting.never counting.breaks_lines (unit.left s (unit.answer s call)) calls ≡ true
+    → counting.hsync_rises (unit.left s (unit.answer s call)).hsynci calls ≤ 4095
+    → ((counting.run s (call ∷ calls)).sync.lines.count.0 ≡ counting.hsync_rises (unit.left s (unit.answer s call)).hsynci calls)
     × ((counting.run s (call ∷ calls)).sync.lines.overflow ≡ false)
 lines_counted = since.lines_since
 
 -- the field rate of 14 bits lies between 7 and 125,000 Hz: `lowest` of the NT6862 is 7
-pub field_rate_between : (s : Counters) (x : Float) → field_report s ≡ FieldRate x
+pub field_rate_between : (s : Counters) (x : Float) → field_report s ≡ Ok x
     → (x ≡ field_hz s.sync.periods.latch) × Between (lowest s.part) 125000 x
 field_rate_between = rate.rate_between
 

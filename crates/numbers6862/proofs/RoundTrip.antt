@@ -16,10 +16,7 @@ use Rattle.sync6862.specs.declared.Part.{Part}
 use Rattle.sync6862.specs.declared.Part.TheVariants.{Nt6861, Nt6862}
 use Rattle.sync6862.specs.declared.Counters.{Counters}
 use Rattle.sync6862.specs.Unit.{chip_number, well_formed}
-use Rattle.numbers6862.specs.declared.Named.{Named}
-use Rattle.numbers6862.specs.declared.Named.TheVariants.{Chip, Neither}
-use Rattle.numbers6862.specs.declared.Offered.{Offered}
-use Rattle.numbers6862.specs.declared.Offered.TheVariants.{Well, IllFormed}
+use Rattle.std.proofs.Common.{Option, Some, None}
 use Rattle.numbers6862.specs.Numbers.{enhsel_number, numbers_of, bits_fit, part_of, state_of, offered_as, read_as, read}
 
 -- ---- what is written is read back
@@ -32,7 +29,7 @@ bits_written : (s : Counters) → bits_fit (numbers_of s) ≡ true
 unfolding bits_fit numbers_of
 bits_written s = simp num_fits
 
-part_written : (part : Part) → part_of (chip_number part) (enhsel_number part) ≡ Chip part
+part_written : (part : Part) → part_of (chip_number part) (enhsel_number part) ≡ Some part
 unfolding part_of chip_number enhsel_number
 part_written Nt6861 = refl
 part_written (Nt6862 true) = refl
@@ -42,17 +39,17 @@ state_written : (s : Counters) → state_of s.part (numbers_of s) ≡ s
 unfolding state_of numbers_of
 state_written s = simp eqb_num
 
-named_written : (s : Counters) → part_of (get_or (numbers_of s) 0 0) (get_or (numbers_of s) 11 0) ≡ Chip s.part
+named_written : (s : Counters) → part_of (get_or (numbers_of s) 0 0) (get_or (numbers_of s) 11 0) ≡ Some s.part
 unfolding numbers_of
 named_written s = part_written s.part
 
-pub written_read : (s : Counters) → well_formed s ≡ true → read (numbers_of s) ≡ Well s
+pub written_read : (s : Counters) → well_formed s ≡ true → read (numbers_of s) ≡ Some s
 unfolding read read_as offered_as
 written_read s w = rw (bits_written s, named_written s, state_written s, w)
 
 -- ---- what is read as a state is that state's numbers
 
-picked : (t : Bool) (x : Offered) (s : Counters) → pick t x IllFormed ≡ Well s → (t ≡ true) × (x ≡ Well s)
+picked : (t : Bool) (x : Option Counters) (s : Counters) → pick t x None ≡ Some s → (t ≡ true) × (x ≡ Some s)
 picked true x s h = (refl, h)
 picked false x s h = (cc, cc)
 
@@ -60,30 +57,30 @@ record Names (m n : ℕ) (part : Part) : Type 0 where
   chip : chip_number part ≡ m
   enhsel : enhsel_number part ≡ n
 
-chosen : (t : Bool) (x : Named) (part : Part) → pick t x Neither ≡ Chip part → (t ≡ true) × (x ≡ Chip part)
+chosen : (t : Bool) (x : Option Part) (part : Part) → pick t x None ≡ Some part → (t ≡ true) × (x ≡ Some part)
 chosen true x part h = (refl, h)
 chosen false x part h = (cc, cc)
 
-old_named : (m n : ℕ) (part : Part) → m ≡ 6861 → pick (eqb n 0) (Chip Nt6861) Neither ≡ Chip part → Names m n part
+old_named : (m n : ℕ) (part : Part) → m ≡ 6861 → pick (eqb n 0) (Some Nt6861) None ≡ Some part → Names m n part
 unfolding chip_number enhsel_number
 old_named m n part e h =
-    let k = chosen (eqb n 0) (Chip Nt6861) part h in
+    let k = chosen (eqb n 0) (Some Nt6861) part h in
     let same : part ≡ Nt6861 = cc k.1 in
     record { chip = rw same (sym e); enhsel = rw same (sym (eqb-true n 0 k.0)) }
 
-new_named : (m n : ℕ) (part : Part) → m ≡ 6862 → pick (ltb n 2) (Chip (Nt6862 (eqb n 1))) Neither ≡ Chip part → Names m n part
+new_named : (m n : ℕ) (part : Part) → m ≡ 6862 → pick (ltb n 2) (Some (Nt6862 (eqb n 1))) None ≡ Some part → Names m n part
 unfolding chip_number enhsel_number
 new_named m n part e h =
-    let k = chosen (ltb n 2) (Chip (Nt6862 (eqb n 1))) part h in
+    let k = chosen (ltb n 2) (Some (Nt6862 (eqb n 1))) part h in
     let same : part ≡ Nt6862 (eqb n 1) = cc k.1 in
     record { chip = rw same (sym e); enhsel = rw same (num_eqb n (ltb-true n 2 k.0)) }
 
 named_by : (old : Bool) (m n : ℕ) (part : Part) → eqb m 6861 ≡ old
-    → pick old (pick (eqb n 0) (Chip Nt6861) Neither) (pick (eqb m 6862) (pick (ltb n 2) (Chip (Nt6862 (eqb n 1))) Neither) Neither) ≡ Chip part → Names m n part
+    → pick old (pick (eqb n 0) (Some Nt6861) None) (pick (eqb m 6862) (pick (ltb n 2) (Some (Nt6862 (eqb n 1))) None) None) ≡ Some part → Names m n part
 named_by true m n part e h = old_named m n part (eqb-true m 6861 e) h
 named_by false m n part e h = let k = chosen (eqb m 6862) _ part h in new_named m n part (eqb-true m 6862 k.0) k.1
 
-named : (m n : ℕ) (part : Part) → part_of m n ≡ Chip part → Names m n part
+named : (m n : ℕ) (part : Part) → part_of m n ≡ Some part → Names m n part
 unfolding part_of
 named m n part h = named_by (eqb m 6861) m n part refl h
 
@@ -94,27 +91,27 @@ record Found (n : List ℕ) (s : Counters) : Type 0 where
   state : state_of s.part n ≡ s
   well : well_formed s ≡ true
 
-found_state : (part : Part) (n : List ℕ) (s : Counters) → bits_fit n ≡ true → Names (get_or n 0 0) (get_or n 11 0) part → offered_as (state_of part n) ≡ Well s → Found n s
+found_state : (part : Part) (n : List ℕ) (s : Counters) → bits_fit n ≡ true → Names (get_or n 0 0) (get_or n 11 0) part → offered_as (state_of part n) ≡ Some s → Found n s
 unfolding offered_as state_of
 found_state part n s b k h =
-    let p = picked (well_formed (state_of part n)) (Well (state_of part n)) s h in
+    let p = picked (well_formed (state_of part n)) (Some (state_of part n)) s h in
     let same : state_of part n ≡ s = cc p.1 in
     let of_part : part ≡ s.part = ap (λ (x : Counters). x.part) same in
     record { bits = b; names = rw of_part at k; state = rw of_part at same; well = rw same at p.0 }
 
-found_as : (x : Named) (n : List ℕ) (s : Counters) → bits_fit n ≡ true → part_of (get_or n 0 0) (get_or n 11 0) ≡ x → read_as x n ≡ Well s → Found n s
+found_as : (x : Option Part) (n : List ℕ) (s : Counters) → bits_fit n ≡ true → part_of (get_or n 0 0) (get_or n 11 0) ≡ x → read_as x n ≡ Some s → Found n s
 unfolding read_as
-found_as (Chip part) n s b e h = found_state part n s b (named _ _ part e) h
-found_as Neither n s b e h = absurd (let z : ◌≡◌ {A = ℕ} 0 1 = cc in omega arith)
+found_as (Some part) n s b e h = found_state part n s b (named _ _ part e) h
+found_as None n s b e h = absurd (let z : ◌≡◌ {A = ℕ} 0 1 = cc in omega arith)
 
-found : (n : List ℕ) (s : Counters) → read n ≡ Well s → Found n s
+found : (n : List ℕ) (s : Counters) → read n ≡ Some s → Found n s
 unfolding read
 found n s h =
     let p = picked (bits_fit n) (read_as (part_of (get_or n 0 0) (get_or n 11 0)) n) s h in
     found_as (part_of (get_or n 0 0) (get_or n 11 0)) n s p.0 refl p.1
 
 -- a state that is read is well formed
-pub read_well : (n : List ℕ) (s : Counters) → read n ≡ Well s → well_formed s ≡ true
+pub read_well : (n : List ℕ) (s : Counters) → read n ≡ Some s → well_formed s ≡ true
 read_well n s h = (found n s h).well
 
 -- twelve numbers are their entries
@@ -171,14 +168,14 @@ entries n part b k h =
       num_eqb (get_or n 10 0) b.hsel,
     ) (twelve n h)
 
-pub read_written : (n : List ℕ) (s : Counters) → length n ≡ 12 → read n ≡ Well s → numbers_of s ≡ n
+pub read_written : (n : List ℕ) (s : Counters) → length n ≡ 12 → read n ≡ Some s → numbers_of s ≡ n
 read_written n s l h =
     let f = found n s h in
     ap numbers_of (sym f.state) ∙ entries n s.part (bits_of n f.bits) f.names l
 
 -- ill formed numbers are those of no well formed state
-pub ill_formed_none : (n : List ℕ) (s : Counters) → read n ≡ IllFormed → well_formed s ≡ true → numbers_of s ≡ n → ⊥
+pub ill_formed_none : (n : List ℕ) (s : Counters) → read n ≡ None → well_formed s ≡ true → numbers_of s ≡ n → ⊥
 ill_formed_none n s h w e =
-    let same : read n ≡ Well s = rw e at (written_read s w) in
+    let same : read n ≡ Some s = rw e at (written_read s w) in
     let z : ◌≡◌ {A = ℕ} 0 1 = cc in
     omega arith

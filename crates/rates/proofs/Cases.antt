@@ -2,17 +2,20 @@
 use Prim.Native.Nat.{ℕ, ◌≤◌}
 use mathlib.Core.Path.{◌≡◌, refl, ◌∙◌}
 use mathlib.Core.Bool.{Bool, true, false, ◌||◌}
+use Rattle.std.proofs.Common.{Result, Ok, Err}
 use native.Mathlib.Omega.{arith}
 use lib.Dec.{eqb}
+use lib.Ieee.{Float}
 use borrow.Author.Tests.{eqb-false}
 use Rattle.bits.specs.Byte.{pick}
 use Rattle.bits.proofs.Finite.{neither}
 use Rattle.sync.specs.Sync.{well_sync}
+use Rattle.sync.specs.declared.PeriodCounter.{PeriodCounter}
 use Rattle.sync.specs.declared.Sync.{Sync}
 use Rattle.sync.proofs.WellFormed.{fits}
-use Rattle.rates.specs.Report.{told, by_periods, by_interval, by_field, rate_number, field_report, line_report, FieldValues, FieldCase, LineValues, LineCase}
-use Rattle.rates.specs.declared.Rate.{Rate}
-use Rattle.rates.specs.declared.Rate.TheVariants.{IllFormed, NothingLatched, Overflow}
+use Rattle.rates.specs.Report.{told, by_periods, by_interval, by_field, rate_number, field_report, line_report, PeriodsValues, PeriodsCase, FieldValues, FieldCase, LineValues, LineCase}
+use Rattle.rates.specs.declared.NoRate.{NoRate}
+use Rattle.rates.specs.declared.NoRate.TheVariants.{IllFormed, NothingLatched, Overflow}
 use Rattle.rates.proofs.Hertz.{field_between, interval_exact}
 
 -- a latch that is not 0
@@ -27,12 +30,43 @@ or_false true = refl
 or_false false = refl
 
 -- what is told, by the tests in their order
-pub told_case : (Says : Rate → Type 0) (overflow unlatched : Bool) (rate : Rate)
-    → (overflow ≡ true → Says Overflow) → (overflow ≡ false → unlatched ≡ true → Says NothingLatched) → (overflow ≡ false → unlatched ≡ false → Says rate)
+pub told_case : (Says : Result Float NoRate → Type 0) (overflow unlatched : Bool) (rate : Float)
+    → (overflow ≡ true → Says (Err Overflow)) → (overflow ≡ false → unlatched ≡ true → Says (Err NothingLatched)) → (overflow ≡ false → unlatched ≡ false → Says (Ok rate))
     → Says (told overflow unlatched rate)
 told_case Says true unlatched rate over none good = over refl
 told_case Says false true rate over none good = none refl refl
 told_case Says false false rate over none good = good refl refl
+
+-- a refusal is the same whatever rate it stands for; without one, neither an overflow nor a latch of 0 was told
+pub told_err : {A B : Type 0} (overflow unlatched : Bool) (e : NoRate) (a : A) (b : B) → told overflow unlatched a ≡ Err e → told overflow unlatched b ≡ Err e
+told_err true unlatched e a b h = grind arith
+told_err false true e a b h = grind arith
+told_err false false e a b h = grind arith
+
+pub told_ok : {A : Type 0} (overflow unlatched : Bool) (a b : A) → told overflow unlatched a ≡ Ok b → (overflow ≡ false) × (unlatched ≡ false)
+told_ok true unlatched a b h = grind arith
+told_ok false true a b h = grind arith
+told_ok false false a b h = (refl, refl)
+
+-- no state is told ill formed by its latches
+pub told_number : (overflow unlatched : Bool) (x : Float) → rate_number (told overflow unlatched x) ≡ 0
+unfolding rate_number
+told_number true unlatched x = refl
+told_number false true x = refl
+told_number false false x = refl
+
+-- ---- the field rate from VCNT
+
+periods_case : (v : PeriodCounter) → PeriodsValues v (by_periods v)
+unfolding by_periods PeriodsValues
+periods_case v = told_case (PeriodsValues v) _ _ _ (λ o. o) (λ o k. (o, k)) (λ o k. (o, k, refl))
+
+periods_number : (v : PeriodCounter) → rate_number (by_periods v) ≡ 0
+unfolding by_periods
+periods_number v = told_number _ _ _
+
+pub periods_says : (v : PeriodCounter) (r : Result Float NoRate) → r ≡ by_periods v → (r ≡ by_periods v) × PeriodsCase v r
+periods_says v r e = (e, record { number = rw e (periods_number v); values = rw e (periods_case v) })
 
 -- ---- the field report
 
@@ -45,7 +79,7 @@ field_told s w =
     let most = (fits s w).periods.latch in
     ((w, o, k), refl, field_between _ s.periods.latch least (omega arith)))
 
-field_by : (s : Sync) (formed : Bool) → well_sync s ≡ formed → FieldValues s (pick formed (by_periods s.periods) IllFormed)
+field_by : (s : Sync) (formed : Bool) → well_sync s ≡ formed → FieldValues s (pick formed (by_periods s.periods) (Err IllFormed))
 unfolding FieldValues
 field_by s true e = field_told s e
 field_by s false e = e
@@ -68,7 +102,7 @@ line_told : (s : Sync) → well_sync s ≡ true → LineValues s true (by_field 
 unfolding LineValues by_field
 line_told s w = told_case (LineValues s true) _ _ _ (λ e. (w, e)) (λ o k. (w, o, k)) (λ o k. ((w, o, k), refl))
 
-line_by : (s : Sync) (hsel formed : Bool) → well_sync s ≡ formed → LineValues s hsel (pick formed (pick hsel (by_field s.lines s.periods) (by_interval s.lines)) IllFormed)
+line_by : (s : Sync) (hsel formed : Bool) → well_sync s ≡ formed → LineValues s hsel (pick formed (pick hsel (by_field s.lines s.periods) (by_interval s.lines)) (Err IllFormed))
 unfolding LineValues
 line_by s true true e = line_told s e
 line_by s false true e = interval_told s e
@@ -80,9 +114,9 @@ line_case s hsel = line_by s hsel (well_sync s) refl
 
 -- ---- a rate that is the report, with its number and what its case says
 
-pub field_says : (s : Sync) (r : Rate) → r ≡ field_report s → rate_number r ≡ pick (well_sync s) 0 8 → (r ≡ field_report s) × FieldCase s r
+pub field_says : (s : Sync) (r : Result Float NoRate) → r ≡ field_report s → rate_number r ≡ pick (well_sync s) 0 8 → (r ≡ field_report s) × FieldCase s r
 field_says s r e n = (e, record { number = n; values = rw e (field_case s) })
 
-pub line_says : (s : Sync) (hsel : Bool) (r : Rate) → r ≡ line_report s hsel → rate_number r ≡ pick (well_sync s) 0 8
+pub line_says : (s : Sync) (hsel : Bool) (r : Result Float NoRate) → r ≡ line_report s hsel → rate_number r ≡ pick (well_sync s) 0 8
     → (r ≡ line_report s hsel) × LineCase s hsel r
 line_says s hsel r e n = (e, record { number = n; values = rw e (line_case s hsel) })

@@ -3,17 +3,16 @@
 
 ghost use Rattle.std.specs.Prelude.{◌≡◌, ◌≤◌, ◌<◌, ◌*◌};
 ghost use Rattle.rates.specs.Hertz.{Exactly, field_hz, interval_hz, line_hz};
-ghost use Rattle.rates.specs.Report.{rate_number, by_periods, by_interval, by_field, field_report, line_report, PeriodsCase, FieldCase, LineCase};
+ghost use Rattle.rates.specs.Report.{told, rate_number, by_periods, by_interval, by_field, field_report, line_report, PeriodsCase, FieldCase, LineCase};
 
 use sync::{LatchedLines, LatchedPeriods, LineCounter, PeriodCounter, Sync};
 
-#[derive(Clone, Copy)]
-pub enum Rate {
+// Why no rate is told.
+#[derive(Clone, Copy, Debug, PartialEq, Eq)]
+pub enum NoRate {
     IllFormed,
     NothingLatched,
     Overflow,
-    FieldRate(f64),
-    LineRate(f64),
 }
 
 // The field rate of a VCNT latch: one division, so one rounding.
@@ -48,65 +47,63 @@ fn line_hz(h: LatchedLines, v: LatchedPeriods) -> f64
     lines_product(h) / (v.0 as f64)
 }
 
+// Whether a rate can be told. An overflow is told before a latch of 0.
+fn latched(overflow: bool, unlatched: bool) -> Result<(), NoRate>
+    ensures { result ≡ told overflow unlatched tt }
+{
+    if overflow {
+        return Err(NoRate::Overflow);
+    }
+    if unlatched {
+        return Err(NoRate::NothingLatched);
+    }
+    Ok(())
+}
+
 // The field rate from VCNT of any width, or why there is none.
-pub fn by_periods(v: PeriodCounter) -> Rate
+pub fn by_periods(v: PeriodCounter) -> Result<f64, NoRate>
     ensures { (result ≡ by_periods v) × PeriodsCase v result }
 {
-    if v.overflow {
-        return Rate::Overflow;
-    }
-    if v.latch.0 == 0 {
-        return Rate::NothingLatched;
-    }
+    latched(v.overflow, v.latch.0 == 0)?;
     let latch = v.latch;
-    Rate::FieldRate(field_hz(latch))
+    Ok(field_hz(latch))
 }
 
 // The line rate from HCNT over the interval, or why there is none.
-fn by_interval(h: LineCounter) -> Rate
+fn by_interval(h: LineCounter) -> Result<f64, NoRate>
     requires { h.latch.0 < 4096 }
     ensures { (result ≡ by_interval h) × (rate_number result ≡ 0) }
 {
-    if h.overflow {
-        return Rate::Overflow;
-    }
-    if h.latch.0 == 0 {
-        return Rate::NothingLatched;
-    }
+    latched(h.overflow, h.latch.0 == 0)?;
     let latch = h.latch;
-    Rate::LineRate(interval_hz(latch))
+    Ok(interval_hz(latch))
 }
 
 // The line rate from both counters over a field, or why there is none.
-fn by_field(h: LineCounter, v: PeriodCounter) -> Rate
+fn by_field(h: LineCounter, v: PeriodCounter) -> Result<f64, NoRate>
     requires { (h.latch.0 < 4096) × (v.latch.0 < 4096) }
     ensures { (result ≡ by_field h v) × (rate_number result ≡ 0) }
 {
-    if h.overflow | v.overflow {
-        return Rate::Overflow;
-    }
-    if (h.latch.0 == 0) | (v.latch.0 == 0) {
-        return Rate::NothingLatched;
-    }
+    latched(h.overflow | v.overflow, (h.latch.0 == 0) | (v.latch.0 == 0))?;
     let lines = h.latch;
     let periods = v.latch;
-    Rate::LineRate(line_hz(lines, periods))
+    Ok(line_hz(lines, periods))
 }
 
 // The report on the field rate.
-pub fn field_rate(s: Sync) -> Rate
+pub fn field_rate(s: Sync) -> Result<f64, NoRate>
     ensures { (result ≡ field_report s) × FieldCase s result }
 {
     if sync::well_sync(s) {
         let v = s.periods;
         by_periods(v)
     } else {
-        Rate::IllFormed
+        Err(NoRate::IllFormed)
     }
 }
 
 // The report on the line rate, HSEL being this.
-pub fn line_rate(s: Sync, hsel: bool) -> Rate
+pub fn line_rate(s: Sync, hsel: bool) -> Result<f64, NoRate>
     ensures { (result ≡ line_report s hsel) × LineCase s hsel result }
 {
     if sync::well_sync(s) {
@@ -114,6 +111,6 @@ pub fn line_rate(s: Sync, hsel: bool) -> Rate
         let v = s.periods;
         if hsel { by_field(h, v) } else { by_interval(h) }
     } else {
-        Rate::IllFormed
+        Err(NoRate::IllFormed)
     }
 }

@@ -3,6 +3,7 @@
 use Prim.Native.Nat.{ℕ, ◌*◌, ◌≤◌}
 use mathlib.Core.Path.{◌≡◌, refl}
 use mathlib.Core.Bool.{Bool, true, false}
+use Rattle.std.proofs.Common.{Result, Ok, Err}
 use native.Mathlib.Omega.{arith}
 use Rattle.bits.specs.Byte.{pick}
 use Rattle.sync6862.specs.declared.Part.{Part}
@@ -13,8 +14,8 @@ use Rattle.sync6862.proofs.WellFormed.{within}
 use lib.Ieee.{Float}
 use Rattle.rates.specs.Hertz.{Between, field_hz}
 use Rattle.rates.specs.Report.{by_periods, rate_number}
-use Rattle.rates.specs.declared.Rate.{Rate}
-use Rattle.rates.specs.declared.Rate.TheVariants.{IllFormed, FieldRate}
+use Rattle.rates.specs.declared.NoRate.{NoRate}
+use Rattle.rates.specs.declared.NoRate.TheVariants.{IllFormed}
 use Rattle.rates.proofs.Hertz.{field_between}
 use Rattle.rates.proofs.Cases.{positive, told_case}
 use Rattle.rates6862.specs.Report.{field_report, lowest, FieldValues, number_at, FieldCase}
@@ -36,7 +37,7 @@ field_told s w =
     (λ o k.
     ((w, o, k), refl, field_between (lowest s.part) s.sync.periods.latch (positive _ k) (lowest_reached s.part _ (latch_within s w))))
 
-field_by : (s : Counters) (formed : Bool) → well_formed s ≡ formed → FieldValues s (pick formed (by_periods s.sync.periods) IllFormed)
+field_by : (s : Counters) (formed : Bool) → well_formed s ≡ formed → FieldValues s (pick formed (by_periods s.sync.periods) (Err IllFormed))
 unfolding FieldValues
 field_by s true e = field_told s e
 field_by s false e = e
@@ -46,10 +47,10 @@ unfolding field_report
 field_case s = field_by s (well_formed s) refl
 
 -- a rate that is the report, with its number and what its case says
-pub field_says : (s : Counters) (r : Rate) → r ≡ field_report s → rate_number r ≡ number_at s → (r ≡ field_report s) × FieldCase s r
+pub field_says : (s : Counters) (r : Result Float NoRate) → r ≡ field_report s → rate_number r ≡ number_at s → (r ≡ field_report s) × FieldCase s r
 field_says s r e n = (e, record { number = n; values = rw e (field_case s) })
 
 -- a rate that is reported is 125,000 divided by the latch, rounded once, and lies between the chip's lowest and 125,000
-pub rate_between : (s : Counters) (x : Float) → field_report s ≡ FieldRate x → (x ≡ field_hz s.sync.periods.latch) × Between (lowest s.part) 125000 x
+pub rate_between : (s : Counters) (x : Float) → field_report s ≡ Ok x → (x ≡ field_hz s.sync.periods.latch) × Between (lowest s.part) 125000 x
 unfolding FieldValues
-rate_between s x e = let c : FieldValues s (FieldRate x) = rw e at (field_case s) in (c.1, c.2)
+rate_between s x e = let c : FieldValues s (Ok x) = rw e at (field_case s) in (c.1, c.2)

@@ -4,17 +4,17 @@
 ghost use Rattle.std.specs.Prelude.{◌≡◌};
 ghost use Rattle.rates6862.specs.Report.{field_report, FieldCase};
 
-use rates::Rate;
+use rates::NoRate;
 use sync6862::Counters;
 
 // The report on the field rate. An ill formed state is told before all else.
-pub fn field_rate(s: Counters) -> Rate
+pub fn field_rate(s: Counters) -> Result<f64, NoRate>
     ensures { (result ≡ field_report s) × FieldCase s result }
 {
     if sync6862::well_formed(s) {
         let v = s.sync.periods;
         rates::by_periods(v)
     } else {
-        Rate::IllFormed
+        Err(NoRate::IllFormed)
     }
 }

@@ -1,9 +1,9 @@
 -- What the calls for C and Rust give: the rate that is reported (document 01, "Counting sync") on counters with these latches.
-use Rattle.std.specs.Prelude.{ℕ, false, Float}
+use Rattle.std.specs.Prelude.{ℕ, false, Float, Result, Ok, Err}
 use Rattle.sync.specs.declared.Sync.{Sync}
 use Rattle.rates.specs.Hertz.{quotient}
-use Rattle.rates.specs.declared.Rate.{Rate}
-use Rattle.rates.specs.declared.Rate.TheVariants.{IllFormed, NothingLatched, Overflow, FieldRate, LineRate}
+use Rattle.rates.specs.declared.NoRate.{NoRate}
+use Rattle.rates.specs.declared.NoRate.TheVariants.{IllFormed, NothingLatched, Overflow}
 
 -- counts of 0 and no overflow, with these latches of HCNT and VCNT
 abbrev pub latches : ℕ → ℕ → Sync
@@ -15,9 +15,8 @@ latches h v =
     }
 
 -- the rate of a report; 0, which is no rate, where it tells none
-unfoldable pub hertz : Rate → Float
-hertz IllFormed = quotient 0 1
-hertz NothingLatched = quotient 0 1
-hertz Overflow = quotient 0 1
-hertz (FieldRate x) = x
-hertz (LineRate x) = x
+unfoldable pub hertz : Result Float NoRate → Float
+hertz (Err IllFormed) = quotient 0 1
+hertz (Err NothingLatched) = quotient 0 1
+hertz (Err Overflow) = quotient 0 1
+hertz (Ok x) = x

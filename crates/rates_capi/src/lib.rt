@@ -5,7 +5,7 @@ ghost use Rattle.std.specs.Prelude.{◌≡◌, true, false};
 ghost use Rattle.rates.specs.Report.{field_report, line_report};
 ghost use Rattle.rates_capi.specs.Latches.{latches as latches_of, hertz as hertz_of};
 
-use rates::Rate;
+use rates::NoRate;
 use sync::{LatchedLines, LatchedPeriods, LineCounter, Lines, PeriodCounter, Periods, Sync};
 
 // Counters with these latches.
@@ -28,16 +28,10 @@ fn latches(h: u16, v: u16) -> Sync
 }
 
 // The rate of a report, or 0 where it tells none.
-fn hertz(rate: Rate) -> f64
+fn hertz(rate: Result<f64, NoRate>) -> f64
     ensures { result ≡ hertz_of rate }
 {
-    match rate {
-        Rate::IllFormed => 0.0,
-        Rate::NothingLatched => 0.0,
-        Rate::Overflow => 0.0,
-        Rate::FieldRate(x) => x,
-        Rate::LineRate(x) => x,
-    }
+    rate.unwrap_or(0.0)
 }
 
 // The field rate, v being the VCNT latch; 0 where there is none.

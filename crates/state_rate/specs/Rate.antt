@@ -1,30 +1,26 @@
 -- The rate report on a state in a lent area (document 02, Wish 14): a word with the number in bits 31..24 and below it the case, and
 -- the rate in a lent place.
-use Rattle.std.specs.Prelude.{ℕ, List, eqb, Float}
+use Rattle.std.specs.Prelude.{ℕ, List, eqb, Float, Result, Ok, Err}
 use Rattle.bits.specs.Byte.{pick}
 use Rattle.chip.specs.declared.Chip.{Chip}
-use Rattle.rates.specs.declared.Rate.{Rate}
-use Rattle.rates.specs.declared.Rate.TheVariants.{IllFormed, NothingLatched, Overflow, FieldRate, LineRate}
+use Rattle.rates.specs.declared.NoRate.{NoRate}
+use Rattle.rates.specs.declared.NoRate.TheVariants.{IllFormed, NothingLatched, Overflow}
 use Rattle.chip_rate_report.specs.declared.Scan.TheVariants.{Field, Line}
 use Rattle.chip_rate_report.specs.Report.{rate_report}
 use Rattle.state_area.specs.Area.{state_in}
 use Rattle.state_calls.specs.Calls.{holds_state, refusal_word}
 
 -- a report as a word: 0 where there is a rate, 1 nothing latched, 2 overflow; 8 in bits 31..24 for an ill formed state
-unfoldable pub report_word : Rate → ℕ
-report_word IllFormed = 0x08000000
-report_word NothingLatched = 1
-report_word Overflow = 2
-report_word (FieldRate hertz) = 0
-report_word (LineRate hertz) = 0
+unfoldable pub report_word : Result Float NoRate → ℕ
+report_word (Err IllFormed) = 0x08000000
+report_word (Err NothingLatched) = 1
+report_word (Err Overflow) = 2
+report_word (Ok hertz) = 0
 
 -- the lent place after it: the rate, or what was there
-unfoldable pub report_hertz : Rate → Float → Float
-report_hertz IllFormed old = old
-report_hertz NothingLatched old = old
-report_hertz Overflow old = old
-report_hertz (FieldRate hertz) old = hertz
-report_hertz (LineRate hertz) old = hertz
+unfoldable pub report_hertz : Result Float NoRate → Float → Float
+report_hertz (Err why) old = old
+report_hertz (Ok hertz) old = hertz
 
 -- which rate: 0 of fields, 1 of lines; there is no other, which is 2
 unfoldable pub rate_word : Chip → ℕ → ℕ

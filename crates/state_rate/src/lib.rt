@@ -1,30 +1,37 @@
 // The rate report on a state in a lent area of 128 bytes.
 #![tactic(auto)]
 
-ghost use Rattle.std.specs.Prelude.{◌≡◌};
+ghost use Rattle.std.specs.Prelude.{◌≡◌, Err};
 ghost use Rattle.chip_rate_report.specs.Report.{rate_report};
 ghost use Rattle.state_rate.specs.Rate.{report_word, report_hertz, rate_word, rate_hertz, rate_in, hertz_in};
 
 use chip::Chip;
 use chip_rate_report::Scan;
-use rates::Rate;
+use rates::NoRate;
 
+// The word of a report that tells no rate.
+#[tactic(auto, unfolding(crate::specs::Rate::report_word))]
+fn no_rate_word(why: NoRate) -> u32
+    ensures { result ≡ report_word (Err why) }
+{
+    match why {
+        NoRate::NothingLatched => 1,
+        NoRate::Overflow => 2,
+        NoRate::IllFormed => 0x0800_0000,
+    }
+}
+
+// The report as a word, and its rate to `hertz`, which stays where there is none.
 fn reported(c: Chip, scan: Scan, hertz: &mut f64) -> u32
     ensures { (result ≡ report_word (rate_report c scan)) × (hertz.new ≡ report_hertz (rate_report c scan) hertz.old) }
 {
     let rate = chip_rate_report::rate(c, scan);
     match rate {
-        Rate::IllFormed => 0x0800_0000,
-        Rate::NothingLatched => 1,
-        Rate::Overflow => 2,
-        Rate::FieldRate(x) => {
+        Ok(x) => {
             *hertz = x;
             0
         }
-        Rate::LineRate(x) => {
-            *hertz = x;
-            0
-        }
+        Err(why) => no_rate_word(why),
     }
 }
 

@@ -21,8 +21,9 @@ use Rattle.sync6862.specs.declared.Part.TheVariants.{Nt6861, Nt6862}
 use Rattle.sync6862.specs.declared.Counters.{Counters}
 use Rattle.sync6862.specs.declared.Call.{Call}
 use Rattle.sync6862.specs.declared.Call.TheVariants.{Hsynci, Vsynci, Clock, Enhsel, Hsel, ClearH, ClearV}
-use Rattle.sync6862.specs.declared.Outcome.{Outcome}
-use Rattle.sync6862.specs.Unit.{periods_last, interval_last, per_field, differs, restarts, step_periods_to, interval_next_to, lines_on_period_to, on_period_to, well_to, well_formed, clear_lines_of, restarted_if, on_hsync_if, on_vsync_if, hsync_moved, vsync_moved, clocked, hsel_set, enhsel_set, cleared_h, cleared_v, on_enhsel, answered, answer, fresh_as}
+use Rattle.sync6862.specs.declared.Refusal.{Refusal}
+use Rattle.std.proofs.Common.{Result}
+use Rattle.sync6862.specs.Unit.{periods_last, interval_last, per_field, differs, restarts, step_periods_to, interval_next_to, lines_on_period_to, on_period_to, well_to, well_formed, clear_lines_of, restarted_if, on_hsync_if, on_vsync_if, hsync_moved, vsync_moved, clocked, hsel_set, enhsel_set, cleared_h, cleared_v, on_enhsel, answered, answer, fresh_as, left}
 
 -- ---- the ranges as facts on the numbers
 
@@ -154,12 +155,12 @@ fits : (s : Counters) → well_formed s ≡ true → Within (periods_last s.part
 unfolding well_formed
 fits s w = within _ _ s.sync w
 
-on_enhsel_well : (part : Part) (s : Counters) (new : Bool) → s.part ≡ part → well_formed s ≡ true → well_formed (on_enhsel part s new).state ≡ true
+on_enhsel_well : (part : Part) (s : Counters) (new : Bool) → s.part ≡ part → well_formed s ≡ true → well_formed (left s (on_enhsel part s new)) ≡ true
 unfolding on_enhsel enhsel_set well_formed
 on_enhsel_well Nt6861 s new e w = w
 on_enhsel_well (Nt6862 old) s new e w = well_to_lem _ _ _ (enhsel_within old new s.hsel (differs old new) s.sync (rw e at (fits s w)))
 
-answered_well : (s : Counters) (call : Call) → well_formed s ≡ true → well_formed (answered s call).state ≡ true
+answered_well : (s : Counters) (call : Call) → well_formed s ≡ true → well_formed (left s (answered s call)) ≡ true
 unfolding answered well_formed hsync_moved vsync_moved clocked hsel_set cleared_h cleared_v
 answered_well s (Hsynci level) w = well_to_lem _ _ _ (hsync_within _ _ s.sync (fits s w) (level && not s.hsynci))
 answered_well s (Vsynci level) w = well_to_lem _ _ _ (vsync_within _ _ s.sync (fits s w) (level && not s.vsynci) (per_field s.part s.hsel))
@@ -170,9 +171,9 @@ answered_well s ClearH w = well_to_lem _ _ _ (clear_h_within _ _ s.sync (fits s 
 answered_well s ClearV w = well_to_lem _ _ _ (clear_v_within _ _ s.sync (fits s w))
 
 -- a well formed state stays so
-pub well_kept : (s : Counters) (call : Call) → well_formed s ≡ true → well_formed (answer s call).state ≡ true
+pub well_kept : (s : Counters) (call : Call) → well_formed s ≡ true → well_formed (left s (answer s call)) ≡ true
 unfolding answer
-well_kept s call w = pick_by (λ (o : Outcome). well_formed o.state ≡ true) (well_formed s) (λ _. answered_well s call w) (λ _. w)
+well_kept s call w = pick_by (λ (o : Result Counters Refusal). well_formed (left s o) ≡ true) (well_formed s) (λ _. answered_well s call w) (λ _. w)
 
 -- a fresh state is well formed
 pub fresh_well : (part : Part) → well_formed (fresh_as part) ≡ true

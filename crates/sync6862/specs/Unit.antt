@@ -1,5 +1,5 @@
 -- The counters of either chip as a unit (document 02, Wish 6, by document 001, 13.1; document 01, "Counting sync").
-use Rattle.std.specs.Prelude.{ℕ, ◌+◌, Bool, true, false, not, ◌&&◌, ◌||◌, eqb, ltb}
+use Rattle.std.specs.Prelude.{ℕ, ◌+◌, Bool, true, false, not, ◌&&◌, ◌||◌, eqb, ltb, Result, Ok, Err}
 use Rattle.bits.specs.Byte.{pick}
 use Rattle.counters.specs.Count.{counted, overflowed, cycle_next}
 use Rattle.sync.specs.declared.LineCounter.{LineCounter}
@@ -11,11 +11,9 @@ use Rattle.sync6862.specs.declared.Part.TheVariants.{Nt6861, Nt6862}
 use Rattle.sync6862.specs.declared.Counters.{Counters}
 use Rattle.sync6862.specs.declared.Call.{Call}
 use Rattle.sync6862.specs.declared.Call.TheVariants.{Hsynci, Vsynci, Clock, Enhsel, Hsel, ClearH, ClearV}
-use Rattle.sync6862.specs.declared.Outcome.{Outcome}
-use Rattle.sync6862.specs.declared.Start.{Start}
-use Rattle.sync6862.specs.declared.Start.TheVariants.{Made, NoSuchChip}
 use Rattle.sync6862.specs.declared.LatchReport.{LatchReport}
-use Rattle.sync6862.specs.declared.LatchReport.TheVariants.{IllFormed, Shown}
+use Rattle.sync6862.specs.declared.Refusal.{Refusal}
+use Rattle.sync6862.specs.declared.Refusal.TheVariants.{NoSuchCall, NoEnhsel, OutOfRange, IllFormed, NoSuchChip}
 
 -- ---- what the chips differ in
 
@@ -165,26 +163,40 @@ cleared_v s = with_sync s (clear_overflow false true s.sync)
 
 -- ---- answers
 
-abbrev pub done_with : Counters → Outcome
-done_with s = record { number = 0; state = s }
+-- the numbers of the refusals, and 0 where nothing is refused
+unfoldable pub refusal_number : Refusal → ℕ
+refusal_number NoSuchCall = 1
+refusal_number NoEnhsel = 2
+refusal_number OutOfRange = 3
+refusal_number IllFormed = 8
+refusal_number NoSuchChip = 23
+
+abbrev pub given_number : {A : Type 0} → Result A Refusal → ℕ
+given_number (Ok x) = 0
+given_number (Err why) = refusal_number why
+
+-- the state that a call leaves: a refused one leaves it as it was
+abbrev pub left : Counters → Result Counters Refusal → Counters
+left s (Ok next) = next
+left s (Err why) = s
 
 -- the NT6861 has no ENHSEL
-unfoldable pub on_enhsel : Part → Counters → Bool → Outcome
-on_enhsel Nt6861 s new = record { number = 2; state = s }
-on_enhsel (Nt6862 old) s new = done_with (enhsel_set s old new)
+unfoldable pub on_enhsel : Part → Counters → Bool → Result Counters Refusal
+on_enhsel Nt6861 s new = Err NoEnhsel
+on_enhsel (Nt6862 old) s new = Ok (enhsel_set s old new)
 
-unfoldable pub answered : Counters → Call → Outcome
-answered s (Hsynci level) = done_with (hsync_moved s level)
-answered s (Vsynci level) = done_with (vsync_moved s level)
-answered s Clock = done_with (clocked s)
+unfoldable pub answered : Counters → Call → Result Counters Refusal
+answered s (Hsynci level) = Ok (hsync_moved s level)
+answered s (Vsynci level) = Ok (vsync_moved s level)
+answered s Clock = Ok (clocked s)
 answered s (Enhsel new) = on_enhsel s.part s new
-answered s (Hsel new) = done_with (hsel_set s new)
-answered s ClearH = done_with (cleared_h s)
-answered s ClearV = done_with (cleared_v s)
+answered s (Hsel new) = Ok (hsel_set s new)
+answered s ClearH = Ok (cleared_h s)
+answered s ClearV = Ok (cleared_v s)
 
--- number 8 before all else
-unfoldable pub answer : Counters → Call → Outcome
-answer s call = pick (well_formed s) (answered s call) (record { number = 8; state = s })
+-- an ill formed state before all else
+unfoldable pub answer : Counters → Call → Result Counters Refusal
+answer s call = pick (well_formed s) (answered s call) (Err IllFormed)
 
 -- ---- a fresh state, and what is shown of one
 
@@ -193,24 +205,22 @@ unfoldable pub fresh_as : Part → Counters
 fresh_as part = record { part = part; hsynci = true; vsynci = true; hsel = true; sync = zero_sync }
 
 -- by the chip's number; ENHSEL of the NT6862 is 1
-unfoldable pub fresh : ℕ → Start
-fresh number = pick (eqb number 6861) (Made (fresh_as Nt6861)) (pick (eqb number 6862) (Made (fresh_as (Nt6862 true))) NoSuchChip)
+unfoldable pub fresh : ℕ → Result Counters Refusal
+fresh number = pick (eqb number 6861) (Ok (fresh_as Nt6861)) (pick (eqb number 6862) (Ok (fresh_as (Nt6862 true))) (Err NoSuchChip))
 
 -- the numbers of a fresh state and of the latches
-abbrev pub fresh_number : Start → ℕ
-fresh_number (Made s) = 0
-fresh_number NoSuchChip = 23
+abbrev pub fresh_number : Result Counters Refusal → ℕ
+fresh_number start = given_number start
 
-abbrev pub latches_number : LatchReport → ℕ
-latches_number IllFormed = 8
-latches_number (Shown lines linesOverflow periods periodsOverflow) = 0
+abbrev pub latches_number : Result LatchReport Refusal → ℕ
+latches_number shown = given_number shown
 
 -- the latches with the overflow bits
-unfoldable pub latches : Counters → LatchReport
+unfoldable pub latches : Counters → Result LatchReport Refusal
 latches s =
     pick (well_formed s)
-    (Shown s.sync.lines.latch s.sync.lines.overflow s.sync.periods.latch s.sync.periods.overflow)
-    IllFormed
+    (Ok (record { lines = s.sync.lines.latch; lines_overflow = s.sync.lines.overflow; periods = s.sync.periods.latch; periods_overflow = s.sync.periods.overflow }))
+    (Err IllFormed)
 
 -- ---- the numbers, exactly when each is given
 

@@ -2,7 +2,7 @@
 #![tactic(auto)]
 
 ghost use Rattle.std.specs.Prelude.{◌≡◌};
-ghost use Rattle.sync6862.specs.Unit.{periods_last, interval_last, per_field, differs as differs_of, restarts as restarts_of, step_periods_to, interval_next_to, lines_on_period_to, on_period_to, well_to, well_formed, release_lines, clear_lines_of, restarted_if, on_hsync_if, on_vsync_if, with_sync, hsync_moved, vsync_moved, clocked as clocked_of, hsel_set, enhsel_set, cleared_h, cleared_v, done_with, on_enhsel, answered as answered_of, answer as answer_of, fresh_as, fresh as fresh_of, latches as latches_of};
+ghost use Rattle.sync6862.specs.Unit.{periods_last, interval_last, per_field, differs as differs_of, restarts as restarts_of, step_periods_to, interval_next_to, lines_on_period_to, on_period_to, well_to, well_formed, release_lines, clear_lines_of, restarted_if, on_hsync_if, on_vsync_if, with_sync, hsync_moved, vsync_moved, clocked as clocked_of, hsel_set, enhsel_set, cleared_h, cleared_v, refusal_number, on_enhsel, answered as answered_of, answer as answer_of, fresh_as, fresh as fresh_of, latches as latches_of};
 
 use sync::{LatchedLines, LatchedPeriods, LineCounter, PeriodCounter, Periods, Sync};
 
@@ -35,33 +35,44 @@ pub enum Call {
     ClearV,
 }
 
-// The number given back and the state left.
-#[derive(Clone, Copy)]
-pub struct Outcome {
-    pub number: u8,
-    pub state: Counters,
-}
-
-// A fresh state, or number 23.
-#[derive(Clone, Copy)]
-pub enum Start {
-    Made(Counters),
+// Why a call, a fresh state or the latches are refused. The unit itself refuses an ENHSEL that the chip has not, an ill formed state
+// and a chip that there is not; calls by number come with the others too.
+#[derive(Clone, Copy, Debug, PartialEq, Eq)]
+pub enum Refusal {
+    NoSuchCall,
+    NoEnhsel,
+    OutOfRange,
+    IllFormed,
     NoSuchChip,
 }
 
-// Both latches and both overflow bits, or number 8.
+impl Refusal {
+    // The number that it is told with.
+    #[tactic(auto, unfolding(crate::specs::Unit::refusal_number))]
+    pub fn number(self) -> u8
+        ensures { result ≡ refusal_number self }
+    {
+        match self {
+            Refusal::NoSuchCall => 1,
+            Refusal::NoEnhsel => 2,
+            Refusal::OutOfRange => 3,
+            Refusal::IllFormed => 8,
+            Refusal::NoSuchChip => 23,
+        }
+    }
+}
+
+// Both latches and both overflow bits.
 #[derive(Clone, Copy)]
-pub enum LatchReport {
-    IllFormed,
-    Shown {
-        lines: LatchedLines,
-        lines_overflow: bool,
-        periods: LatchedPeriods,
-        periods_overflow: bool,
-    },
+pub struct LatchReport {
+    pub lines: LatchedLines,
+    pub lines_overflow: bool,
+    pub periods: LatchedPeriods,
+    pub periods_overflow: bool,
 }
 
 // The last value of VCNT: 12 bits, or 14.
+#[tactic(auto, unfolding(crate::specs::Unit::periods_last))]
 fn periods_last(part: Part) -> u16
     ensures { result ≡ periods_last part }
 {
@@ -72,6 +83,7 @@ fn periods_last(part: Part) -> u16
 }
 
 // The last value of the interval.
+#[tactic(auto, unfolding(crate::specs::Unit::interval_last))]
 fn interval_last(part: Part, hsel: bool) -> u16
     ensures { result ≡ interval_last part hsel }
 {
@@ -82,6 +94,7 @@ fn interval_last(part: Part, hsel: bool) -> u16
 }
 
 // HCNT is latched by VSYNCI, and not by the interval.
+#[tactic(auto, unfolding(crate::specs::Unit::per_field))]
 fn per_field(part: Part, hsel: bool) -> bool
     ensures { result ≡ per_field part hsel }
 {
@@ -94,10 +107,11 @@ fn per_field(part: Part, hsel: bool) -> bool
 fn differs(old: bool, new: bool) -> bool
     ensures { result ≡ differs_of old new }
 {
-    (old & !new) | (!old & new)
+    old != new
 }
 
 // HSEL put from one value to another starts HCNT and the interval anew.
+#[tactic(auto, unfolding(crate::specs::Unit::restarts))]
 fn restarts(part: Part, old: bool, new: bool) -> bool
     ensures { result ≡ restarts_of part old new }
 {
@@ -108,18 +122,19 @@ fn restarts(part: Part, old: bool, new: bool) -> bool
 }
 
 // VCNT steps.
+#[tactic(auto, unfolding(crate::specs::Unit::step_periods_to))]
 fn step_periods(last: u16, c: PeriodCounter) -> PeriodCounter
     ensures { result ≡ step_periods_to last c }
 {
-    let latch = c.latch;
     PeriodCounter {
         count: Periods(counters::counted(last, c.overflow, c.count.0)),
-        latch,
         overflow: counters::overflowed(last, c.overflow, c.count.0),
+        ..c
     }
 }
 
 // The interval after an 8 µs clock.
+#[tactic(auto, unfolding(crate::specs::Unit::interval_next_to))]
 fn interval_next(field: bool, last: u16, n: u16) -> u16
     ensures { result ≡ interval_next_to field last n }
 {
@@ -131,6 +146,7 @@ fn interval_next(field: bool, last: u16, n: u16) -> u16
 }
 
 // HCNT at an 8 µs clock.
+#[tactic(auto, unfolding(crate::specs::Unit::lines_on_period_to))]
 fn lines_on_period(field: bool, last: u16, n: u16, c: LineCounter) -> LineCounter
     ensures { result ≡ lines_on_period_to field last n c }
 {
@@ -141,19 +157,19 @@ fn lines_on_period(field: bool, last: u16, n: u16, c: LineCounter) -> LineCounte
 }
 
 // An 8 µs clock.
+#[tactic(auto, unfolding(crate::specs::Unit::on_period_to))]
 fn on_period(field: bool, periods: u16, interval: u16, s: Sync) -> Sync
     ensures { result ≡ on_period_to field periods interval s }
 {
-    let h = s.lines;
-    let v = s.periods;
     Sync {
-        lines: lines_on_period(field, interval, s.interval, h),
-        periods: step_periods(periods, v),
+        lines: lines_on_period(field, interval, s.interval, s.lines),
+        periods: step_periods(periods, s.periods),
         interval: interval_next(field, interval, s.interval),
     }
 }
 
 // Counts, latches and interval are within their last values.
+#[tactic(auto, unfolding(crate::specs::Unit::well_to))]
 fn well(periods: u16, interval: u16, s: Sync) -> bool
     ensures { result ≡ well_to periods interval s }
 {
@@ -165,28 +181,25 @@ fn well(periods: u16, interval: u16, s: Sync) -> bool
 }
 
 // The state's numbers are in their chip's ranges.
+#[tactic(auto, unfolding(crate::specs::Unit::well_formed))]
 pub fn well_formed(s: Counters) -> bool
     ensures { result ≡ well_formed s }
 {
-    let part = s.part;
-    let counts = s.sync;
-    well(periods_last(part), interval_last(part, s.hsel), counts)
+    well(periods_last(s.part), interval_last(s.part, s.hsel), s.sync)
 }
 
 // The NT6862's clearing of HCNTOV: the bit alone.
 fn release_lines(c: LineCounter) -> LineCounter
     ensures { result ≡ release_lines c }
 {
-    let count = c.count;
-    let latch = c.latch;
     LineCounter {
-        count,
-        latch,
         overflow: false,
+        ..c
     }
 }
 
 // HCNTOV is cleared.
+#[tactic(auto, unfolding(crate::specs::Unit::clear_lines_of))]
 fn clear_lines(part: Part, c: LineCounter) -> LineCounter
     ensures { result ≡ clear_lines_of part c }
 {
@@ -220,155 +233,122 @@ fn on_vsync(rise: bool, field: bool, s: Sync) -> Sync
 fn with_sync(s: Counters, counts: Sync) -> Counters
     ensures { result ≡ with_sync s counts }
 {
-    let part = s.part;
-    Counters {
-        part,
-        hsynci: s.hsynci,
-        vsynci: s.vsynci,
-        hsel: s.hsel,
-        sync: counts,
-    }
+    Counters { sync: counts, ..s }
 }
 
+#[tactic(auto, unfolding(crate::specs::Unit::hsync_moved))]
 fn hsync_moved(s: Counters, level: bool) -> Counters
     ensures { result ≡ hsync_moved s level }
 {
-    let part = s.part;
-    let counts = s.sync;
     Counters {
-        part,
         hsynci: level,
-        vsynci: s.vsynci,
-        hsel: s.hsel,
-        sync: on_hsync(level & !s.hsynci, counts),
+        sync: on_hsync(level & !s.hsynci, s.sync),
+        ..s
     }
 }
 
+#[tactic(auto, unfolding(crate::specs::Unit::vsync_moved))]
 fn vsync_moved(s: Counters, level: bool) -> Counters
     ensures { result ≡ vsync_moved s level }
 {
-    let part = s.part;
-    let counts = s.sync;
     Counters {
-        part,
-        hsynci: s.hsynci,
         vsynci: level,
-        hsel: s.hsel,
-        sync: on_vsync(level & !s.vsynci, per_field(part, s.hsel), counts),
+        sync: on_vsync(level & !s.vsynci, per_field(s.part, s.hsel), s.sync),
+        ..s
     }
 }
 
+#[tactic(auto, unfolding(crate::specs::Unit::clocked))]
 fn clocked(s: Counters) -> Counters
     ensures { result ≡ clocked_of s }
 {
-    let part = s.part;
-    let counts = s.sync;
-    let field = per_field(part, s.hsel);
-    let periods = periods_last(part);
-    let interval = interval_last(part, s.hsel);
-    with_sync(s, on_period(field, periods, interval, counts))
+    let field = per_field(s.part, s.hsel);
+    let periods = periods_last(s.part);
+    let interval = interval_last(s.part, s.hsel);
+    with_sync(s, on_period(field, periods, interval, s.sync))
 }
 
+#[tactic(auto, unfolding(crate::specs::Unit::hsel_set))]
 fn hsel_set(s: Counters, new: bool) -> Counters
     ensures { result ≡ hsel_set s new }
 {
-    let part = s.part;
-    let counts = s.sync;
-    let changed = restarts(part, s.hsel, new);
+    let changed = restarts(s.part, s.hsel, new);
     Counters {
-        part,
-        hsynci: s.hsynci,
-        vsynci: s.vsynci,
         hsel: new,
-        sync: restarted(changed, counts),
+        sync: restarted(changed, s.sync),
+        ..s
     }
 }
 
+#[tactic(auto, unfolding(crate::specs::Unit::enhsel_set))]
 fn enhsel_set(s: Counters, old: bool, new: bool) -> Counters
     ensures { result ≡ enhsel_set s old new }
 {
-    let counts = s.sync;
     Counters {
         part: Part::Nt6862(new),
-        hsynci: s.hsynci,
-        vsynci: s.vsynci,
-        hsel: s.hsel,
-        sync: restarted(differs(old, new), counts),
+        sync: restarted(differs(old, new), s.sync),
+        ..s
     }
 }
 
+#[tactic(auto, unfolding(crate::specs::Unit::cleared_h))]
 fn cleared_h(s: Counters) -> Counters
     ensures { result ≡ cleared_h s }
 {
-    let part = s.part;
-    let h = s.sync.lines;
-    let v = s.sync.periods;
     let counts = Sync {
-        lines: clear_lines(part, h),
-        periods: v,
-        interval: s.sync.interval,
+        lines: clear_lines(s.part, s.sync.lines),
+        ..s.sync
     };
     with_sync(s, counts)
 }
 
+#[tactic(auto, unfolding(crate::specs::Unit::cleared_v))]
 fn cleared_v(s: Counters) -> Counters
     ensures { result ≡ cleared_v s }
 {
-    let counts = s.sync;
-    with_sync(s, sync::clear_overflow(false, true, counts))
+    with_sync(s, sync::clear_overflow(false, true, s.sync))
 }
 
-fn done(state: Counters) -> Outcome
-    ensures { result ≡ done_with state }
-{
-    Outcome { number: 0, state }
-}
-
-// ENHSEL: number 2 where the chip has none.
-fn on_enhsel(part: Part, s: Counters, new: bool) -> Outcome
+// ENHSEL, which the NT6861 has not.
+#[tactic(auto, unfolding(crate::specs::Unit::on_enhsel))]
+fn on_enhsel(part: Part, s: Counters, new: bool) -> Result<Counters, Refusal>
     ensures { result ≡ on_enhsel part s new }
 {
     match part {
-        Part::Nt6861 => Outcome {
-            number: 2,
-            state: s,
-        },
-        Part::Nt6862(old) => done(enhsel_set(s, old, new)),
+        Part::Nt6861 => Err(Refusal::NoEnhsel),
+        Part::Nt6862(old) => Ok(enhsel_set(s, old, new)),
     }
 }
 
 // A call on a well formed state.
-fn answered(s: Counters, call: Call) -> Outcome
+#[tactic(auto, unfolding(crate::specs::Unit::answered))]
+fn answered(s: Counters, call: Call) -> Result<Counters, Refusal>
     ensures { result ≡ answered_of s call }
 {
     match call {
-        Call::Hsynci(level) => done(hsync_moved(s, level)),
-        Call::Vsynci(level) => done(vsync_moved(s, level)),
-        Call::Clock => done(clocked(s)),
-        Call::Enhsel(new) => {
-            let part = s.part;
-            on_enhsel(part, s, new)
-        }
-        Call::Hsel(new) => done(hsel_set(s, new)),
-        Call::ClearH => done(cleared_h(s)),
-        Call::ClearV => done(cleared_v(s)),
+        Call::Hsynci(level) => Ok(hsync_moved(s, level)),
+        Call::Vsynci(level) => Ok(vsync_moved(s, level)),
+        Call::Clock => Ok(clocked(s)),
+        Call::Enhsel(new) => on_enhsel(s.part, s, new),
+        Call::Hsel(new) => Ok(hsel_set(s, new)),
+        Call::ClearH => Ok(cleared_h(s)),
+        Call::ClearV => Ok(cleared_v(s)),
     }
 }
 
-// A call: number 8 for an ill formed state, then 2 for ENHSEL on the NT6861; a refusal moves nothing.
-pub fn answer(s: Counters, call: Call) -> Outcome
+// A call, and the state after it. An ill formed state is refused before all else.
+#[tactic(auto, unfolding(crate::specs::Unit::answer))]
+pub fn answer(s: Counters, call: Call) -> Result<Counters, Refusal>
     ensures { result ≡ answer_of s call }
 {
     if well_formed(s) {
         answered(s, call)
     } else {
-        Outcome {
-            number: 8,
-            state: s,
-        }
+        Err(Refusal::IllFormed)
     }
 }
 
+#[tactic(auto, unfolding(crate::specs::Unit::fresh_as))]
 fn fresh_as(part: Part) -> Counters
     ensures { result ≡ fresh_as part }
 {
@@ -382,30 +362,29 @@ fn fresh_as(part: Part) -> Counters
 }
 
 // A fresh state for the chip of this number.
-pub fn fresh(number: u32) -> Start
+#[tactic(auto, unfolding(crate::specs::Unit::fresh))]
+pub fn fresh(number: u32) -> Result<Counters, Refusal>
     ensures { result ≡ fresh_of number }
 {
     match number {
-        6861 => Start::Made(fresh_as(Part::Nt6861)),
-        6862 => Start::Made(fresh_as(Part::Nt6862(true))),
-        _ => Start::NoSuchChip,
+        6861 => Ok(fresh_as(Part::Nt6861)),
+        6862 => Ok(fresh_as(Part::Nt6862(true))),
+        _ => Err(Refusal::NoSuchChip),
     }
 }
 
 // The latches with the overflow bits.
-pub fn latches(s: Counters) -> LatchReport
+#[tactic(auto, unfolding(crate::specs::Unit::latches))]
+pub fn latches(s: Counters) -> Result<LatchReport, Refusal>
     ensures { result ≡ latches_of s }
 {
-    if well_formed(s) {
-        let lines = s.sync.lines.latch;
-        let periods = s.sync.periods.latch;
-        LatchReport::Shown {
-            lines,
-            lines_overflow: s.sync.lines.overflow,
-            periods,
-            periods_overflow: s.sync.periods.overflow,
-        }
-    } else {
-        LatchReport::IllFormed
+    if !well_formed(s) {
+        return Err(Refusal::IllFormed);
     }
+    Ok(LatchReport {
+        lines: s.sync.lines.latch,
+        lines_overflow: s.sync.lines.overflow,
+        periods: s.sync.periods.latch,
+        periods_overflow: s.sync.periods.overflow,
+    })
 }

@@ -1,1 +1,1 @@
-pub mod Copy
+pub mod Answered

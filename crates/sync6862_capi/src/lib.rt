@@ -1,59 +1,50 @@
 // The counters of either chip for programs in C or Rust, in twelve numbers that the caller lends.
 #![tactic(auto)]
 
-ghost use Rattle.std.specs.Prelude.{◌≡◌, length};
+ghost use Rattle.std.specs.Prelude.{◌≡◌, Err};
 ghost use Rattle.sync6862_capi.specs.Lent.{lent, hertz as hertz_of, field_lent};
 
-use rates::Rate;
+use rates::NoRate;
 
-// The numbers of a slice of twelve.
-fn taken(state: &[u16]) -> [u16; 12]
-    requires { length state.now ≡ 12 }
-    ensures { result ≡ state.now }
-{
-    [
-        state[0], state[1], state[2], state[3], state[4], state[5], state[6], state[7], state[8],
-        state[9], state[10], state[11],
-    ]
-}
-
-// Twelve numbers to a slice of twelve.
-fn put(state: &mut [u16], n: [u16; 12])
-    requires { (length state.old ≡ 12) × (length n ≡ 12) }
-    ensures { state.new ≡ n }
-{
-    let mut i = 0;
-    while i < 12 {
-        state[i] = n[i];
-        i += 1;
-    }
-}
+// The number for another length than twelve.
+const NOT_TWELVE: u8 = 15;
 
 // A call on twelve numbers, and what it leaves. Another length than twelve answers 15.
 #[unsafe(no_mangle)]
 pub extern "C" fn nt6862_counters(state: &mut [u16], call: u32, value: u32) -> u8
-    ensures { (result ≡ (lent state.old call value).number) × (state.new ≡ (lent state.old call value).numbers) }
+    ensures { (result ≡ (lent state.old call value).0) × (state.new ≡ (lent state.old call value).1) }
 {
-    if state.len() == 12 {
-        let done = numbers6862::call(taken(state), call, value);
-        let after = done.numbers;
-        put(state, after);
-        done.number
-    } else {
-        15
+    match state.as_array() {
+        Some(n) => match numbers6862::call(*n, call, value) {
+            Ok(after) => {
+                state.copy_from_slice(&after);
+                0
+            }
+            Err(why) => why.number(),
+        },
+        None => NOT_TWELVE,
     }
 }
 
-// The field rate in Hz, or why there is none: 0 nothing latched, -1 overflow, -8 ill formed.
-fn hertz(rate: Rate) -> f64
+// Why there is no rate, as a double that no rate is: 0 nothing latched, -1 overflow, -8 ill formed.
+fn no_rate(why: NoRate) -> f64
+    ensures { result ≡ hertz_of (Err why) }
+{
+    match why {
+        NoRate::NothingLatched => 0.0,
+        NoRate::Overflow => -1.0,
+        NoRate::IllFormed => -8.0,
+    }
+}
+
+// The field rate in Hz, or why there is none.
+#[tactic(auto, unfolding(crate::specs::Lent::hertz))]
+fn hertz(rate: Result<f64, NoRate>) -> f64
     ensures { result ≡ hertz_of rate }
 {
     match rate {
-        Rate::IllFormed => -8.0,
-        Rate::NothingLatched => 0.0,
-        Rate::Overflow => -1.0,
-        Rate::FieldRate(x) => x,
-        Rate::LineRate(x) => x,
+        Ok(x) => x,
+        Err(why) => no_rate(why),
     }
 }
 
@@ -62,9 +53,8 @@ fn hertz(rate: Rate) -> f64
 pub extern "C" fn nt6862_field_rate(state: &[u16]) -> f64
     ensures { result ≡ field_lent state.now }
 {
-    if state.len() == 12 {
-        hertz(numbers6862::field(taken(state)))
-    } else {
-        -15.0
+    match state.as_array() {
+        Some(n) => hertz(numbers6862::field(*n)),
+        None => -15.0,
     }
 }

@@ -6,8 +6,7 @@ use Rattle.sync6862.specs.declared.Part.TheVariants.{Nt6861, Nt6862}
 use Rattle.sync6862.specs.declared.Counters.{Counters}
 use Rattle.sync6862.specs.declared.Call.{Call}
 use Rattle.sync6862.specs.declared.Call.TheVariants.{Hsynci, Vsynci, Clock, Enhsel, Hsel, ClearH, ClearV}
-use Rattle.sync6862.specs.declared.Outcome.{Outcome}
-use Rattle.sync6862.specs.Unit.{answer}
+use Rattle.sync6862.specs.Unit.{answer, given_number, left}
 
 -- ---- states
 
@@ -64,13 +63,14 @@ pub record Row : Type 0 where
 abbrev pub row : Counters → Call → ℕ → Counters → Row
 row state call number next = record { state = state; call = call; number = number; next = next }
 
-abbrev pub expected : List Row → List Outcome
+-- the number given back and the state left
+abbrev pub expected : List Row → List (ℕ × Counters)
 expected [] = []
-expected (r ∷ rs) = record { number = r.number; state = r.next } ∷ expected rs
+expected (r ∷ rs) = (r.number, r.next) ∷ expected rs
 
-abbrev pub given : List Row → List Outcome
+abbrev pub given : List Row → List (ℕ × Counters)
 given [] = []
-given (r ∷ rs) = answer r.state r.call ∷ given rs
+given (r ∷ rs) = (given_number (answer r.state r.call), left r.state (answer r.state r.call)) ∷ given rs
 
 -- an ill formed state, unmoved; and one at the last value that is not
 abbrev pub ill : Counters → Row

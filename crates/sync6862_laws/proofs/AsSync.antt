@@ -5,10 +5,10 @@ use mathlib.Core.Bool.{Bool, true}
 use mathlib.Core.List.{List, [], ◌∷◌}
 use Rattle.sync.specs.Sync.{clear_lines, clear_periods, step_periods, interval_next, lines_on_period, on_period, clear_overflow, well_sync}
 use Rattle.sync6862.specs.declared.Part.TheVariants.{Nt6861}
-use Rattle.sync6862.specs.declared.Start.TheVariants.{Made}
+use Rattle.std.proofs.Common.{Ok}
 use Rattle.sync6862.specs.declared.Call.{Call}
 use Rattle.sync6862.specs.declared.Call.TheVariants.{Hsynci, Vsynci, Clock, Enhsel, Hsel, ClearH, ClearV}
-use Rattle.sync6862.specs.Unit.{periods_last, interval_last, per_field, restarts, step_periods_to, interval_next_to, lines_on_period_to, on_period_to, well_to, well_formed, clear_lines_of, hsync_moved, vsync_moved, clocked, hsel_set, cleared_h, cleared_v, on_enhsel, answered, answer, fresh_as, fresh}
+use Rattle.sync6862.specs.Unit.{periods_last, interval_last, per_field, restarts, step_periods_to, interval_next_to, lines_on_period_to, on_period_to, well_to, well_formed, clear_lines_of, hsync_moved, vsync_moved, clocked, hsel_set, cleared_h, cleared_v, on_enhsel, answered, answer, fresh_as, fresh, left}
 use Rattle.sync.proofs.WellFormed.{zero_well}
 use Rattle.sync6862.proofs.WellFormed.{well_kept}
 use Rattle.sync6862_laws.specs.Counting.{run}
@@ -19,15 +19,15 @@ pub well_same : (b : Base) → well_formed (unit_of b) ≡ well_sync b.sync
 unfolding well_formed well_to periods_last interval_last well_sync
 well_same b = refl
 
-hsel_same : (b : Base) (new : Bool) → (answered (unit_of b) (Hsel new)).state ≡ unit_of (base_step b (Hsel new))
+hsel_same : (b : Base) (new : Bool) → left (unit_of b) (answered (unit_of b) (Hsel new)) ≡ unit_of (base_step b (Hsel new))
 unfolding answered hsel_set base_step restarts
 hsel_same b new = refl
 
-clear_h_same : (b : Base) → (answered (unit_of b) ClearH).state ≡ unit_of (base_step b ClearH)
+clear_h_same : (b : Base) → left (unit_of b) (answered (unit_of b) ClearH) ≡ unit_of (base_step b ClearH)
 unfolding answered cleared_h base_step clear_lines_of clear_overflow clear_lines clear_periods
 clear_h_same b = refl
 
-answered_same : (b : Base) (call : Call) → (answered (unit_of b) call).state ≡ unit_of (base_step b call)
+answered_same : (b : Base) (call : Call) → left (unit_of b) (answered (unit_of b) call) ≡ unit_of (base_step b call)
 unfolding answered hsync_moved vsync_moved clocked hsel_set cleared_h cleared_v on_enhsel base_step per_field periods_last interval_last restarts clear_lines_of on_period_to lines_on_period_to interval_next_to step_periods_to on_period lines_on_period interval_next step_periods clear_overflow clear_lines clear_periods
 answered_same b (Hsynci level) = refl
 answered_same b (Vsynci level) = refl
@@ -38,7 +38,7 @@ answered_same b ClearH = clear_h_same b
 answered_same b ClearV = refl
 
 -- one call
-pub call_same : (b : Base) (call : Call) → well_sync b.sync ≡ true → (answer (unit_of b) call).state ≡ unit_of (base_step b call)
+pub call_same : (b : Base) (call : Call) → well_sync b.sync ≡ true → left (unit_of b) (answer (unit_of b) call) ≡ unit_of (base_step b call)
 unfolding answer
 call_same b call w = rw (well_same b, w) (answered_same b call)
 
@@ -52,7 +52,7 @@ runs_same b (call ∷ calls) w =
     rw same (runs_same (base_step b call) calls (sym (well_same (base_step b call)) ∙ rw same at kept))
 
 -- from fresh
-pub fresh_same : fresh 6861 ≡ Made (unit_of base_fresh)
+pub fresh_same : fresh 6861 ≡ Ok (unit_of base_fresh)
 unfolding fresh fresh_as
 fresh_same = refl
 

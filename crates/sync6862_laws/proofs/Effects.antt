@@ -14,7 +14,7 @@ use Rattle.sync6862.specs.declared.Part.TheVariants.{Nt6861, Nt6862}
 use Rattle.sync6862.specs.declared.Counters.{Counters}
 use Rattle.sync6862.specs.declared.Call.{Call}
 use Rattle.sync6862.specs.declared.Call.TheVariants.{Hsynci, Vsynci, Clock, Enhsel, Hsel, ClearH, ClearV}
-use Rattle.sync6862.specs.Unit.{periods_last, interval_last, per_field, differs, restarts, has_enhsel, step_periods_to, lines_on_period_to, on_period_to, well_formed, clear_lines_of, release_lines, restarted_if, on_hsync_if, on_vsync_if, hsync_moved, vsync_moved, clocked, hsel_set, enhsel_set, cleared_h, cleared_v, on_enhsel, answered, answer}
+use Rattle.sync6862.specs.Unit.{periods_last, interval_last, per_field, differs, restarts, has_enhsel, step_periods_to, lines_on_period_to, on_period_to, well_formed, clear_lines_of, release_lines, restarted_if, on_hsync_if, on_vsync_if, hsync_moved, vsync_moved, clocked, hsel_set, enhsel_set, cleared_h, cleared_v, on_enhsel, answered, answer, left}
 use Rattle.sync6862_laws.specs.Counting.{rises_hsynci, hsynci_after, is_clock, changes_enhsel, zeroes_lines, releases_lines, zeroes_periods}
 
 -- a call on a well formed state is carried out
@@ -48,7 +48,7 @@ period_lines false false c h = latch_kept c (overflows true c.overflow h refl)
 restarted_lines : (changed : Bool) (s : Sync) → changed ≡ false → (restarted_if changed s).lines ≡ s.lines
 restarted_lines changed s h = rw h
 
-enhsel_lines : (part : Part) (s : Counters) (new : Bool) → changes_enhsel part new ≡ false → (on_enhsel part s new).state.sync.lines ≡ s.sync.lines
+enhsel_lines : (part : Part) (s : Counters) (new : Bool) → changes_enhsel part new ≡ false → (left s (on_enhsel part s new)).sync.lines ≡ s.sync.lines
 unfolding on_enhsel enhsel_set
 enhsel_lines Nt6861 s new h = refl
 enhsel_lines (Nt6862 old) s new h = restarted_lines (differs old new) s.sync h
@@ -66,17 +66,17 @@ unfolding on_hsync
 rising true s = refl
 rising false s = refl
 
-rise_effect : (s : Counters) (level : Bool) → (answered s (Hsynci level)).state.sync.lines ≡ pick (rises_hsynci s.hsynci (Hsynci level)) (step_lines s.sync.lines) s.sync.lines
+rise_effect : (s : Counters) (level : Bool) → (left s (answered s (Hsynci level))).sync.lines ≡ pick (rises_hsynci s.hsynci (Hsynci level)) (step_lines s.sync.lines) s.sync.lines
 unfolding answered hsync_moved
 rise_effect s level = rising (level && not s.hsynci) s.sync
 
-clear_effect : (s : Counters) → zeroes_lines s ClearH ≡ false → releases_lines s ClearH ≡ false → (answered s ClearH).state.sync.lines ≡ s.sync.lines
+clear_effect : (s : Counters) → zeroes_lines s ClearH ≡ false → releases_lines s ClearH ≡ false → (left s (answered s ClearH)).sync.lines ≡ s.sync.lines
 unfolding answered cleared_h zeroes_lines releases_lines
 clear_effect s h k = clear_lines_lem s.part s.sync.lines h k
 
 -- HCNT steps at a rise of HSYNCI and at no other call
 pub lines_effect : (s : Counters) (call : Call) → zeroes_lines s call ≡ false → releases_lines s call ≡ false
-    → (answered s call).state.sync.lines ≡ pick (rises_hsynci s.hsynci call) (step_lines s.sync.lines) s.sync.lines
+    → (left s (answered s call)).sync.lines ≡ pick (rises_hsynci s.hsynci call) (step_lines s.sync.lines) s.sync.lines
 unfolding answered hsync_moved vsync_moved clocked hsel_set cleared_h cleared_v on_period_to lines_on_period_to clear_overflow clear_lines zeroes_lines releases_lines
 lines_effect s (Hsynci level) h k = rise_effect s level
 lines_effect s (Vsynci level) h k = rise_lines (level && not s.vsynci) (per_field s.part s.hsel) s.sync h
@@ -86,12 +86,12 @@ lines_effect s (Hsel new) h k = restarted_lines (restarts s.part s.hsel new) s.s
 lines_effect s ClearH h k = clear_effect s h k
 lines_effect s ClearV h k = refl
 
-enhsel_hsynci : (part : Part) (s : Counters) (new : Bool) → (on_enhsel part s new).state.hsynci ≡ s.hsynci
+enhsel_hsynci : (part : Part) (s : Counters) (new : Bool) → (left s (on_enhsel part s new)).hsynci ≡ s.hsynci
 unfolding on_enhsel enhsel_set
 enhsel_hsynci Nt6861 s new = refl
 enhsel_hsynci (Nt6862 old) s new = refl
 
-pub hsynci_effect : (s : Counters) (call : Call) → (answered s call).state.hsynci ≡ hsynci_after s.hsynci call
+pub hsynci_effect : (s : Counters) (call : Call) → (left s (answered s call)).hsynci ≡ hsynci_after s.hsynci call
 unfolding answered hsync_moved vsync_moved clocked hsel_set cleared_h cleared_v
 hsynci_effect s (Hsynci level) = refl
 hsynci_effect s (Vsynci level) = refl
@@ -122,14 +122,14 @@ unfolding hsel_cleared
 restarted_periods true s = refl
 restarted_periods false s = refl
 
-enhsel_periods : (part : Part) (s : Counters) (new : Bool) → (on_enhsel part s new).state.sync.periods ≡ s.sync.periods
+enhsel_periods : (part : Part) (s : Counters) (new : Bool) → (left s (on_enhsel part s new)).sync.periods ≡ s.sync.periods
 unfolding on_enhsel enhsel_set
 enhsel_periods Nt6861 s new = refl
 enhsel_periods (Nt6862 old) s new = restarted_periods (differs old new) s.sync
 
 -- VCNT steps at an 8 µs clock and at no other call
 pub periods_effect : (s : Counters) (call : Call) → zeroes_periods s call ≡ false
-    → (answered s call).state.sync.periods ≡ pick (is_clock call) (step_periods_to (periods_last s.part) s.sync.periods) s.sync.periods
+    → (left s (answered s call)).sync.periods ≡ pick (is_clock call) (step_periods_to (periods_last s.part) s.sync.periods) s.sync.periods
 unfolding answered hsync_moved vsync_moved clocked hsel_set cleared_h cleared_v on_period_to zeroes_periods
 periods_effect s (Hsynci level) h = rise_of_hsynci (level && not s.hsynci) s.sync
 periods_effect s (Vsynci level) h = rise_periods (level && not s.vsynci) (per_field s.part s.hsel) s.sync h

@@ -11,7 +11,7 @@ use Rattle.counters.specs.Count.{cycle_next, cycles}
 use Rattle.counters.proofs.Counting.{cycles_remainder, cycle_due}
 use Rattle.sync6862.specs.declared.Counters.{Counters}
 use Rattle.sync6862.specs.declared.Call.TheVariants.{Clock}
-use Rattle.sync6862.specs.Unit.{interval_last, per_field, interval_next_to, on_period_to, clocked, well_formed, answered, answer}
+use Rattle.sync6862.specs.Unit.{interval_last, per_field, interval_next_to, on_period_to, clocked, well_formed, answered, answer, left}
 use Rattle.sync6862.proofs.WellFormed.{well_kept}
 use Rattle.sync6862_laws.specs.Counting.{run, clocks, zeroes_lines}
 use Rattle.sync6862_laws.proofs.Effects.{done}
@@ -22,11 +22,11 @@ record Clocked (s after : Counters) : Type 0 where
   hsel : after.hsel ≡ s.hsel
   interval : after.sync.interval ≡ interval_next_to (per_field s.part s.hsel) (interval_last s.part s.hsel) s.sync.interval
 
-clocked_as_lem : (s : Counters) → Clocked s (answered s Clock).state
+clocked_as_lem : (s : Counters) → Clocked s (left s (answered s Clock))
 unfolding answered clocked on_period_to
 clocked_as_lem s = record { part = refl; hsel = refl; interval = refl }
 
-one_clock : (s : Counters) → well_formed s ≡ true → Clocked s (answer s Clock).state
+one_clock : (s : Counters) → well_formed s ≡ true → Clocked s (left s (answer s Clock))
 one_clock s w = rw (done s Clock w) (clocked_as_lem s)
 
 runs_on : (field : Bool) (last n : ℕ) → field ≡ false → interval_next_to field last n ≡ cycle_next last n
@@ -45,7 +45,7 @@ unfolding run cycles
 after_clocks zero k s w f e = record { part = refl; hsel = refl; interval = rw (zero-add k) e }
 after_clocks (suc n) k s w f e =
     let c = one_clock s w in
-    let next : Counters = (answer s Clock).state in
+    let next : Counters = left s (answer s Clock) in
     let field : per_field next.part next.hsel ≡ false = rw (c.part, c.hsel) f in
     let last : interval_last s.part s.hsel ≡ interval_last next.part next.hsel = rw (c.part, c.hsel) refl in
     let count : next.sync.interval ≡ cycles (interval_last next.part next.hsel) (suc k) =

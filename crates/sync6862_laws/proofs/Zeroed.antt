@@ -14,7 +14,7 @@ use Rattle.sync6862.specs.declared.Part.TheVariants.{Nt6861, Nt6862}
 use Rattle.sync6862.specs.declared.Counters.{Counters}
 use Rattle.sync6862.specs.declared.Call.{Call}
 use Rattle.sync6862.specs.declared.Call.TheVariants.{Hsynci, Vsynci, Clock, Enhsel, Hsel, ClearH, ClearV}
-use Rattle.sync6862.specs.Unit.{interval_last, per_field, differs, restarts, has_enhsel, lines_on_period_to, on_period_to, clear_lines_of, restarted_if, on_vsync_if, vsync_moved, clocked, hsel_set, enhsel_set, cleared_h, cleared_v, on_enhsel, answered}
+use Rattle.sync6862.specs.Unit.{interval_last, per_field, differs, restarts, has_enhsel, lines_on_period_to, on_period_to, clear_lines_of, restarted_if, on_vsync_if, vsync_moved, clocked, hsel_set, enhsel_set, cleared_h, cleared_v, on_enhsel, answered, left}
 use Rattle.sync6862_laws.specs.Counting.{changes_enhsel, zeroes_lines, zeroes_periods}
 
 at_zero : (overflow : Bool) (count : ℕ) → not overflow ≡ true → zeroed overflow count ≡ 0
@@ -40,7 +40,7 @@ restarted_lines : (changed : Bool) (s : Sync) → changed ≡ true → (restarte
 unfolding hsel_cleared zero_lines
 restarted_lines changed s h = rw h
 
-enhsel_lines : (part : Part) (s : Counters) (new : Bool) → changes_enhsel part new ≡ true → (on_enhsel part s new).state.sync.lines.count.0 ≡ 0
+enhsel_lines : (part : Part) (s : Counters) (new : Bool) → changes_enhsel part new ≡ true → (left s (on_enhsel part s new)).sync.lines.count.0 ≡ 0
 unfolding on_enhsel enhsel_set
 enhsel_lines Nt6861 s new h = cc
 enhsel_lines (Nt6862 old) s new h = restarted_lines (differs old new) s.sync h
@@ -50,11 +50,11 @@ unfolding clear_lines_of clear_lines has_enhsel
 clear_lines_lem Nt6861 c h = refl
 clear_lines_lem (Nt6862 enhsel) c h = cc
 
-clear_zeroed : (s : Counters) → zeroes_lines s ClearH ≡ true → (answered s ClearH).state.sync.lines.count.0 ≡ 0
+clear_zeroed : (s : Counters) → zeroes_lines s ClearH ≡ true → (left s (answered s ClearH)).sync.lines.count.0 ≡ 0
 unfolding answered cleared_h zeroes_lines
 clear_zeroed s h = clear_lines_lem s.part s.sync.lines h
 
-pub lines_zeroed : (s : Counters) (call : Call) → zeroes_lines s call ≡ true → (answered s call).state.sync.lines.count.0 ≡ 0
+pub lines_zeroed : (s : Counters) (call : Call) → zeroes_lines s call ≡ true → (left s (answered s call)).sync.lines.count.0 ≡ 0
 unfolding answered vsync_moved clocked hsel_set cleared_h on_period_to lines_on_period_to zeroes_lines
 lines_zeroed s (Hsynci level) h = cc
 lines_zeroed s (Vsynci level) h = rise_lines (level && not s.vsynci) (per_field s.part s.hsel) s.sync h
@@ -71,7 +71,7 @@ unfolding on_vsync latch_periods
 rise_periods true field s h = at_zero s.periods.overflow s.periods.count.0 h
 rise_periods false field s h = cc
 
-pub periods_zeroed : (s : Counters) (call : Call) → zeroes_periods s call ≡ true → (answered s call).state.sync.periods.count.0 ≡ 0
+pub periods_zeroed : (s : Counters) (call : Call) → zeroes_periods s call ≡ true → (left s (answered s call)).sync.periods.count.0 ≡ 0
 unfolding answered vsync_moved cleared_v clear_overflow clear_periods zeroes_periods
 periods_zeroed s (Hsynci level) h = cc
 periods_zeroed s (Vsynci level) h = rise_periods (level && not s.vsynci) (per_field s.part s.hsel) s.sync h
@@ -84,6 +84,6 @@ periods_zeroed s ClearV h = refl
 -- ---- clear H of the NT6862 lets the count stand
 
 pub release_keeps : (s : Counters) (enhsel : Bool) → s.part ≡ Nt6862 enhsel
-    → ((answered s ClearH).state.sync.lines.count ≡ s.sync.lines.count) × ((answered s ClearH).state.sync.lines.overflow ≡ false)
+    → ((left s (answered s ClearH)).sync.lines.count ≡ s.sync.lines.count) × ((left s (answered s ClearH)).sync.lines.overflow ≡ false)
 unfolding answered cleared_h clear_lines_of
 release_keeps s enhsel e = (rw e, rw e)

@@ -8,12 +8,12 @@ use Rattle.sync6862.specs.declared.Part.TheVariants.{Nt6861, Nt6862}
 use Rattle.sync6862.specs.declared.Counters.{Counters}
 use Rattle.sync6862.specs.declared.Call.{Call}
 use Rattle.sync6862.specs.declared.Call.TheVariants.{Hsynci, Vsynci, Clock, Enhsel, Hsel, ClearH, ClearV}
-use Rattle.sync6862.specs.Unit.{interval_last, per_field, differs, restarts, has_enhsel, step_periods_to, answer}
+use Rattle.sync6862.specs.Unit.{interval_last, per_field, differs, restarts, has_enhsel, step_periods_to, answer, left}
 
 -- the state after a list of calls
 unfoldable pub run : Counters → List Call → Counters
 run s [] = s
-run s (call ∷ calls) = run (answer s call).state calls
+run s (call ∷ calls) = run (left s (answer s call)) calls
 
 -- n clocks of 8 µs
 abbrev pub clocks : ℕ → List Call
@@ -110,4 +110,4 @@ breaks_lines s call = zeroes_lines s call || releases_lines s call
 -- no call of the list does so
 unfoldable pub never : (Counters → Call → Bool) → Counters → List Call → Bool
 never breaks s [] = true
-never breaks s (call ∷ calls) = not (breaks s call) && never breaks (answer s call).state calls
+never breaks s (call ∷ calls) = not (breaks s call) && never breaks (left s (answer s call)) calls

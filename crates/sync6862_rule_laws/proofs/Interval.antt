@@ -18,7 +18,7 @@ use Rattle.sync6862.specs.declared.Part.TheVariants.{Nt6861, Nt6862}
 use Rattle.sync6862.specs.declared.Counters.{Counters}
 use Rattle.sync6862.specs.declared.Call.{Call}
 use Rattle.sync6862.specs.declared.Call.TheVariants.{Hsynci, Vsynci, Clock, Enhsel, Hsel, ClearH, ClearV}
-use Rattle.sync6862.specs.Unit.{periods_last, interval_last, per_field, differs, restarts, interval_next_to, on_period_to, hsync_moved, vsync_moved, clocked, hsel_set, enhsel_set, cleared_h, cleared_v, on_enhsel, well_formed, answered, answer}
+use Rattle.sync6862.specs.Unit.{periods_last, interval_last, per_field, differs, restarts, interval_next_to, on_period_to, hsync_moved, vsync_moved, clocked, hsel_set, enhsel_set, cleared_h, cleared_v, on_enhsel, well_formed, answered, answer, left}
 use Rattle.sync6862.proofs.WellFormed.{within, well_kept}
 use Rattle.sync6862_laws.specs.Counting.{run, is_clock, period_clocks, changes_enhsel, never}
 use Rattle.sync6862_laws.proofs.Effects.{done}
@@ -53,12 +53,12 @@ unfolding on_vsync
 vsync_interval true field s = refl
 vsync_interval false field s = refl
 
-enhsel_by : (s : Counters) (part : Part) (new : Bool) → s.part ≡ part → changes_enhsel part new ≡ false → Kept s (Enhsel new) (on_enhsel part s new).state
+enhsel_by : (s : Counters) (part : Part) (new : Bool) → s.part ≡ part → changes_enhsel part new ≡ false → Kept s (Enhsel new) (left s (on_enhsel part s new))
 unfolding on_enhsel enhsel_set
 enhsel_by s Nt6861 new e h = record { part = refl; hsel = refl; interval = refl }
 enhsel_by s (Nt6862 old) new e h = rw h (record { part = rw (same_value old new h) (sym e); hsel = refl; interval = refl })
 
-kept_as : (s : Counters) (call : Call) → changes_choice s call ≡ false → Kept s call (answered s call).state
+kept_as : (s : Counters) (call : Call) → changes_choice s call ≡ false → Kept s call (left s (answered s call))
 unfolding answered hsync_moved vsync_moved clocked on_period_to hsel_set cleared_h cleared_v clear_overflow changes_choice
 kept_as s (Hsynci level) h = record { part = refl; hsel = refl; interval = hsync_interval (level && not s.hsynci) s.sync }
 kept_as s (Vsynci level) h = record { part = refl; hsel = refl; interval = vsync_interval (level && not s.vsynci) (per_field s.part s.hsel) s.sync }
@@ -68,7 +68,7 @@ kept_as s (Hsel new) h = rw (same_value s.hsel new h, no_restart s.part s.hsel) 
 kept_as s ClearH h = record { part = refl; hsel = refl; interval = refl }
 kept_as s ClearV h = record { part = refl; hsel = refl; interval = refl }
 
-kept : (s : Counters) (call : Call) → well_formed s ≡ true → changes_choice s call ≡ false → Kept s call (answer s call).state
+kept : (s : Counters) (call : Call) → well_formed s ≡ true → changes_choice s call ≡ false → Kept s call (left s (answer s call))
 kept s call w h = rw (done s call w) (kept_as s call h)
 
 -- ---- a list
@@ -84,9 +84,9 @@ over_calls : (s : Counters) (calls : List Call) (k : ℕ) → well_formed s ≡ 
 unfolding run never
 over_calls s [] k w z f e = let same : 0 + k ≡ k = omega arith in rw same e
 over_calls s (call ∷ calls) k w z f e =
-    let two = both (not (changes_choice s call)) (never changes_choice (answer s call).state calls) z in
+    let two = both (not (changes_choice s call)) (never changes_choice (left s (answer s call)) calls) z in
     let c = kept s call w (not-true (changes_choice s call) two.0) in
-    let next : Counters = (answer s call).state in
+    let next : Counters = left s (answer s call) in
     let last : ℕ = interval_last s.part s.hsel in
     let field : per_field next.part next.hsel ≡ false = rw (c.part, c.hsel) f in
     let length : interval_last next.part next.hsel ≡ last = rw (c.part, c.hsel) refl in
@@ -115,9 +115,9 @@ pub interval_stands : (s : Counters) (calls : List Call) → well_formed s ≡ t
 unfolding run never
 interval_stands s [] w z f = refl
 interval_stands s (call ∷ calls) w z f =
-    let two = both (not (changes_choice s call)) (never changes_choice (answer s call).state calls) z in
+    let two = both (not (changes_choice s call)) (never changes_choice (left s (answer s call)) calls) z in
     let c = kept s call w (not-true (changes_choice s call) two.0) in
-    let next : Counters = (answer s call).state in
+    let next : Counters = left s (answer s call) in
     let last : ℕ = interval_last s.part s.hsel in
     let field : per_field next.part next.hsel ≡ true = rw (c.part, c.hsel) f in
     interval_stands next calls (well_kept s call w) two.1 field ∙ c.interval ∙ ap (λ (t : Bool). pick (is_clock call) (interval_next_to t last s.sync.interval) s.sync.interval) f ∙ stays (is_clock call) last s.sync.interval

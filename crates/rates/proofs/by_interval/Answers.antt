@@ -1,22 +1,19 @@
 -- `rates::by_interval` meets its contract.
-use mathlib.Core.Path.{refl}
-use borrow.Author.Rules.{rules}
-use borrow.Author.Tests.{eq-eqb, ne_eqb}
+use Rattle.std.proofs.Common.{rules, ◌≡◌, sym, ◌∙◌, refl, ap, Err}
+use Rattle.rates.specs.Hertz.{interval_hz}
 use Rattle.rates.specs.Report.{by_interval, rate_number}
+use Rattle.rates.proofs.Cases.{told_err, told_ok, told_number}
 use Rattle.rates.proofs.by_interval.Goals as goal
 
-pub returns-then-h : goal.returns-then-h
-unfolding by_interval rate_number
-returns-then-h c = (simp c.if-h.true, refl)
-
-pub returns-then-h-eq0 : goal.returns-then-h-eq0
-unfolding by_interval rate_number
-returns-then-h-eq0 c = (simp (eq-eqb _ _ c.if-h-eq0.true, c.if-h.false), refl)
-
-pub interval_hz-requires : goal.interval_hz-requires
-unfolding by_interval rate_number
-interval_hz-requires c = search rules
+pub returns-in_err-latched : goal.returns-in_err-latched
+unfolding by_interval
+returns-in_err-latched c =
+    let is : c.from_residual.result ≡ Err c.in_err-latched.field-0.0 = search rules in
+    let told = is ∙ sym (told_err _ _ _ tt (interval_hz c.args.h.latch) (sym c.latched.ensures ∙ c.in_err-latched.was)) in
+    (told, ap rate_number told ∙ told_number _ _ _)
 
 pub returns : goal.returns
 unfolding by_interval rate_number
-returns c = (simp (c.interval_hz.ensures, ne_eqb _ _ c.if-h-eq0.false, c.if-h.false), refl)
+returns c =
+    let fine = told_ok _ _ tt tt (sym c.latched.ensures ∙ c.in_ok-latched.was) in
+    (simp (c.interval_hz.ensures, fine.0, fine.1), refl)

@@ -1,24 +1,7 @@
 -- `rates_capi::hertz` meets its contract.
-use lib.Ieee.{of_bits, round}
-use Rattle.rates_capi.specs.Latches.{hertz}
+use mathlib.Core.Path.{◌∙◌}
+use Rattle.rates_capi.proofs.Zero.{or_zero}
 use Rattle.rates_capi.proofs.hertz.Goals as goal
 
-pub returns-in-IllFormed : goal.returns-in-IllFormed
-unfolding hertz of_bits round
-returns-in-IllFormed c = simp c.in-IllFormed.is
-
-pub returns-in-NothingLatched : goal.returns-in-NothingLatched
-unfolding hertz of_bits round
-returns-in-NothingLatched c = simp c.in-NothingLatched.is
-
-pub returns-in-Overflow : goal.returns-in-Overflow
-unfolding hertz of_bits round
-returns-in-Overflow c = simp c.in-Overflow.is
-
-pub returns-in-FieldRate : goal.returns-in-FieldRate
-unfolding hertz of_bits round
-returns-in-FieldRate c = simp c.in-FieldRate.is
-
-pub returns-in-LineRate : goal.returns-in-LineRate
-unfolding hertz of_bits round
-returns-in-LineRate c = simp c.in-LineRate.is
+pub returns : goal.returns
+returns c = c.unwrap_or.ensures ∙ or_zero c.args.rate

@@ -1,28 +1,24 @@
 -- `sync6862_capi::nt6862_counters` meets its contract.
--- Assumes nothing.
-use borrow.Author.Rules.{rules}
-use borrow.Author.Tests.{eq-eqb, ne_eqb}
+use Rattle.std.proofs.Common.{rules, ◌≡◌, sym, ◌∙◌, length}
+use borrow.Author.Tests.{ne_eqb}
 use Rattle.sync6862_capi.specs.Lent.{lent}
+use Rattle.sync6862_capi.proofs.Answered.{lent_done, lent_refused}
 use Rattle.sync6862_capi.proofs.nt6862_counters.Goals as goal
 
-pub taken-requires : goal.taken-requires
-unfolding lent
-taken-requires c = search rules
+pub returns-in-Ok : goal.returns-in-Ok
+returns-in-Ok c =
+    let whole : c.in-Some.n.now ≡ c.args.state.now = search rules in
+    let twelve : length c.args.state.now ≡ 12 = search rules in
+    let e = lent_done c.args.state.now _ _ _ twelve whole _ (sym c.call.ensures ∙ c.in-Ok.is) in
+    (e.0, c.copy_from_slice.ensures.after ∙ e.1)
 
-pub call-done-requires : goal.call-done-requires
-unfolding lent
-call-done-requires c = search rules
+pub returns-in-Err : goal.returns-in-Err
+returns-in-Err c =
+    let whole : c.in-Some.n.now ≡ c.args.state.now = search rules in
+    let twelve : length c.args.state.now ≡ 12 = search rules in
+    let e = lent_refused c.args.state.now _ _ _ twelve whole _ (sym c.call.ensures ∙ c.in-Err.is) in
+    (c.number.ensures ∙ e.0, e.1)
 
-pub put-requires : goal.put-requires
+pub returns-in-None : goal.returns-in-None
 unfolding lent
-put-requires c = search rules
-
-pub returns-then-state-eq12 : goal.returns-then-state-eq12
-unfolding lent
-returns-then-state-eq12 c =
-    let size = eq-eqb _ _ c.if-state-eq12.true in
-    (simp (c.call-done.ensures, c.taken.ensures, size), simp (c.put.ensures, c.call-done.ensures, c.taken.ensures, size))
-
-pub returns-else-state-eq12 : goal.returns-else-state-eq12
-unfolding lent
-returns-else-state-eq12 c = (simp (ne_eqb _ _ c.if-state-eq12.false), simp (ne_eqb _ _ c.if-state-eq12.false))
+returns-in-None c = let other = ne_eqb _ _ c.in-None.ensures.cases in (simp other, simp other)

@@ -1,8 +1,7 @@
--- `sync6862_capi::hertz` meets its contract.
--- Assumes nothing.
+-- `sync6862_capi::no_rate` meets its contract.
 use lib.Ieee.{of_bits, round, neg}
 use Rattle.sync6862_capi.specs.Lent.{hertz}
-use Rattle.sync6862_capi.proofs.hertz.Goals as goal
+use Rattle.sync6862_capi.proofs.no_rate.Goals as goal
 
 pub returns-in-IllFormed : goal.returns-in-IllFormed
 unfolding hertz of_bits round neg
@@ -15,11 +14,3 @@ returns-in-NothingLatched c = simp c.in-NothingLatched.is
 pub returns-in-Overflow : goal.returns-in-Overflow
 unfolding hertz of_bits round neg
 returns-in-Overflow c = simp c.in-Overflow.is
-
-pub returns-in-FieldRate : goal.returns-in-FieldRate
-unfolding hertz of_bits round neg
-returns-in-FieldRate c = simp c.in-FieldRate.is
-
-pub returns-in-LineRate : goal.returns-in-LineRate
-unfolding hertz of_bits round neg
-returns-in-LineRate c = simp c.in-LineRate.is
