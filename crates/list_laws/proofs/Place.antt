@@ -32,6 +32,16 @@ placed_as old l m at n e s h =
     ∙ ap (put old at) e
     ∙ ap (λ (k : ℕ). take at old ++ (m ++ drop (at + k) old)) s
 
+-- a part up to the end put anew
+pub put_tail : (old l : List ℕ) (at : ℕ) → put_mid at (length old - at) old l ≡ take at old ++ l
+put_tail old l at =
+    ap (λ (r : List ℕ). take at old ++ (l ++ r)) (drop_of_length-le (drop at old) {i = length old - at} (omega (arith, length-drop at old)))
+    ∙ ap (λ (r : List ℕ). take at old ++ r) (append-nil l)
+
+-- and read
+pub tail_all : (old : List ℕ) (at : ℕ) → take (length old - at) (drop at old) ≡ drop at old
+tail_all old at = take_all (length old - at) (drop at old) (omega (arith, length-drop at old))
+
 module _ (old l : List ℕ) (at : ℕ) (h : at + length l ≤ length old) where
   front : length (take at old ++ l) ≡ at + length l
   front = length-append (take at old) l ∙ ap (λ (k : ℕ). k + length l) (length-take-le at old (omega arith))
