@@ -2,13 +2,15 @@
 -- Assumes nothing.
 use mathlib.Core.Path.{◌≡◌, refl, sym, ap, ap₂, ◌∙◌}
 use mathlib.Core.List.{List, [], ◌∷◌, ◌++◌, append-nil, append_assoc}
-use Prim.Native.Nat.{ℕ, ◌+◌, ◌*◌, ◌/◌, ◌<◌, ◌≤◌, min}
+use Prim.Native.Nat.{ℕ, ◌+◌, ◌-◌, ◌*◌, ◌/◌, ◌<◌, ◌≤◌, min}
 use native.Mathlib.Omega.{arith}
 use native.Mathlib.Numerals.{add-one}
 use lib.ListN.{length, take, drop, get_or, length-append}
 use lib.Seq.{length-take-le, take-suc, take_at, drop_at, drop-drop, take_all}
 use Rattle.std.proofs.Common.{⊎_elim}
 use Rattle.std.proofs.lemmas.Bool.{cases_lt}
+use borrow.Rule.Slice.PartMut.{put_mid}
+use Rattle.list_laws.proofs.Place.{put_tail, tail_all}
 use Rattle.hex_digits.specs.Hex.{hex_line, hex_lines}
 
 pub length_line : (a : ℕ) → length (hex_line a) ≡ 9
@@ -75,3 +77,12 @@ pub all_fit : (xs old : List ℕ) → 9 * length xs ≤ length old
 all_fit xs old h =
     ap (λ (t : List ℕ). hex_lines t ++ drop (length (hex_lines t)) old) (take_all (length old / 9) xs (omega arith))
     ∙ ap (λ (m : ℕ). hex_lines xs ++ drop m old) (length_lines xs)
+
+-- a line put behind what stands before an index
+pub line_put : (now l : List ℕ) (at a : ℕ) → l ≡ hex_lines (a ∷ []) ++ drop 9 (take (length now - at) (drop at now))
+    → put_mid at (length now - at) now l ≡ take at now ++ (hex_line a ++ drop (at + 9) now)
+unfolding hex_lines
+line_put now l at a e =
+    put_tail now l at
+    ∙ ap (λ (t : List ℕ). take at now ++ t)
+    (e ∙ ap₂ (λ (x y : List ℕ). x ++ drop 9 y) (append-nil (hex_line a)) (tail_all now at) ∙ ap (λ (t : List ℕ). hex_line a ++ t) (drop-drop 9 at now))

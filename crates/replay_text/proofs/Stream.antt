@@ -2,15 +2,13 @@
 -- Assumes nothing.
 use mathlib.Core.Path.{◌≡◌, refl, sym, ap, ap₂, ◌∙◌}
 use mathlib.Core.Bool.{Bool, true, false}
-use mathlib.Core.List.{List, [], ◌∷◌, ◌++◌, append-nil, append_assoc}
-use Prim.Native.Nat.{ℕ, zero, suc, ◌+◌, ◌-◌, ◌*◌, ◌/◌, ◌%◌, ◌<◌, ◌≤◌}
+use mathlib.Core.List.{List, [], ◌++◌, append-nil, append_assoc}
+use Prim.Native.Nat.{ℕ, zero, suc, ◌+◌, ◌*◌, ◌/◌, ◌%◌, ◌<◌, ◌≤◌}
 use native.Mathlib.Omega.{arith}
 use borrow.Author.Tests.{lt-ltb, le-ltb, eq-eqb, ne_eqb}
 use lib.Dec.{eqb, ltb, eqb-suc-zero}
 use lib.ListN.{length, take, drop, length-append, length-drop}
 use lib.Seq.{take_at, drop_at, drop-drop}
-use borrow.Rule.Slice.PartMut.{put_mid}
-use Rattle.list_laws.proofs.Place.{put_tail, tail_all}
 use Rattle.bits.specs.Byte.{pick}
 use Rattle.chip.specs.declared.Chip.{Chip}
 use Rattle.list_call.specs.Run.{advanced, advanced_answers}
@@ -73,15 +71,6 @@ module _ (c : Chip) (bytes : List ℕ) where
       ∙ ap₂ (λ (s t : List ℕ). s ++ (hex_line a ++ t)) front back
       ∙ sym (append_assoc lines (hex_line a) (drop (at + 9) old))
       ∙ ap (λ (t : List ℕ). t ++ drop (at + 9) old) (ap (λ (n : ℕ). lines ++ hex_line n) q ∙ sym (text_left_lem h))
-
--- a line put behind others
-pub line_put : (now l : List ℕ) (at a : ℕ) → l ≡ hex_lines (a ∷ []) ++ drop 9 (take (length now - at) (drop at now))
-    → put_mid at (length now - at) now l ≡ take at now ++ (hex_line a ++ drop (at + 9) now)
-unfolding hex_lines
-line_put now l at a e =
-    put_tail now l at
-    ∙ ap (λ (t : List ℕ). take at now ++ t)
-    (e ∙ ap₂ (λ (x y : List ℕ). x ++ drop 9 y) (append-nil (hex_line a)) (tail_all now at) ∙ ap (λ (t : List ℕ). hex_line a ++ t) (drop-drop 9 at now))
 
 abbrev block : Chip → ℕ → Answered
 block c n = record { chip = c; count = n }

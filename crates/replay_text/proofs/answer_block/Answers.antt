@@ -5,7 +5,8 @@ use mathlib.Core.Path.{ap}
 use lib.ListN.{length, length-drop}
 use Rattle.list_laws.proofs.Place.{tail_all}
 use Prim.Native.Nat.{◌*◌, ◌/◌}
-use Rattle.replay_text.proofs.Stream.{block_short, block_length, block_whole, block_left, line_put}
+use Rattle.replay_text.proofs.Stream.{block_short, block_length, block_whole, block_left}
+use Rattle.hex_digits.proofs.Line.{line_put}
 use Rattle.replay_text.proofs.answer_block.Goals as goal
 
 pub returns-then-text-whole : goal.returns-then-text-whole
