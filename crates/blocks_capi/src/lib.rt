@@ -5,8 +5,6 @@ ghost use Rattle.std.specs.Prelude.{◌≡◌};
 ghost use Rattle.recording_blocks.specs.Block.{block_read, places_left, write_number, area_left};
 ghost use Rattle.blocks_capi.specs.Status.{status_of, count_left};
 
-use recording_blocks::BlockRead;
-
 // Reads the block in the first 512 bytes, whose number must be the one given: returns 0, its words in `words` and how many they
 // are in `count`; or 10 to 14, or 7 where there are fewer places than words, and writes nothing.
 #[unsafe(no_mangle)]
@@ -18,13 +16,12 @@ pub extern "C" fn nt6861_read_block(
 ) -> u8
     ensures { (result ≡ status_of (block_read number bytes.now words.old)) × (words.new ≡ places_left number bytes.now words.old) × (count.new ≡ count_left (block_read number bytes.now words.old) count.old) }
 {
-    let read = recording_blocks::read_block(number, bytes, words);
-    match read {
-        BlockRead::Words(n) => {
+    match recording_blocks::read_block(number, bytes, words) {
+        Ok(n) => {
             *count = n;
             0
         }
-        BlockRead::Refused(k) => k,
+        Err(fault) => fault.number(),
     }
 }
 
@@ -34,5 +31,8 @@ pub extern "C" fn nt6861_read_block(
 pub extern "C" fn nt6861_write_block(number: u16, words: &[u32], area: &mut [u8]) -> u8
     ensures { (result ≡ write_number words.now area.old) × (area.new ≡ area_left number words.now area.old) }
 {
-    recording_blocks::write_block(number, words, area)
+    match recording_blocks::write_block(number, words, area) {
+        Ok(()) => 0,
+        Err(fault) => fault.number(),
+    }
 }

@@ -1,5 +1,5 @@
 -- A word as a line of text (document 01, "Replay program and cases").
-use Rattle.std.specs.Prelude.{ℕ, ◌+◌, ◌/◌, ◌%◌, List, [], ◌∷◌, ltb}
+use Rattle.std.specs.Prelude.{ℕ, ◌+◌, ◌/◌, ◌%◌, List, [], ◌∷◌, ◌++◌, ltb}
 use Rattle.bits.specs.Byte.{pick}
 
 -- the ASCII code of a digit below 16: `0` to `9`, then `A` to `F`
@@ -19,3 +19,8 @@ hex_line a =
     ∷ hex_digit (a % 16)
     ∷ 10
     ∷ []
+
+-- a line for each word
+unfoldable pub hex_lines : List ℕ → List ℕ
+hex_lines [] = []
+hex_lines (a ∷ rest) = hex_line a ++ hex_lines rest

@@ -2,7 +2,10 @@
 -- Assumes nothing.
 use mathlib.Core.Path.{◌≡◌, sym, ap, ◌∙◌}
 use mathlib.Core.List.{List, [], ◌++◌, append-nil, append_assoc}
-use Prim.Native.Nat.{ℕ, ◌+◌, ◌-◌, ◌≤◌}
+use Prim.Native.Nat.{ℕ, ◌+◌, ◌-◌, ◌<◌, ◌≤◌, min}
+use Rattle.std.proofs.Common.{⊎_elim}
+use Rattle.std.proofs.lemmas.Bool.{cases_lt}
+use Rattle.std.proofs.lemmas.List.{nil_from_length}
 use native.Mathlib.Omega.{arith}
 use lib.ListN.{length, take, drop, length-append, length-drop, drop_of_length-le}
 use lib.Seq.{take_all, drop-drop, take_at, drop_at, length-take-le}
@@ -32,6 +35,16 @@ placed_as old l m at n e s h =
     ∙ ap (put old at) e
     ∙ ap (λ (k : ℕ). take at old ++ (m ++ drop (at + k) old)) s
 
+-- a part up to the end put anew
+pub put_tail : (old l : List ℕ) (at : ℕ) → put_mid at (length old - at) old l ≡ take at old ++ l
+put_tail old l at =
+    ap (λ (r : List ℕ). take at old ++ (l ++ r)) (drop_of_length-le (drop at old) {i = length old - at} (omega (arith, length-drop at old)))
+    ∙ ap (λ (r : List ℕ). take at old ++ r) (append-nil l)
+
+-- and read
+pub tail_all : (old : List ℕ) (at : ℕ) → take (length old - at) (drop at old) ≡ drop at old
+tail_all old at = take_all (length old - at) (drop at old) (omega (arith, length-drop at old))
+
 module _ (old l : List ℕ) (at : ℕ) (h : at + length l ≤ length old) where
   front : length (take at old ++ l) ≡ at + length l
   front = length-append (take at old) l ∙ ap (λ (k : ℕ). k + length l) (length-take-le at old (omega arith))
@@ -47,6 +60,18 @@ module _ (old l : List ℕ) (at : ℕ) (h : at + length l ≤ length old) where
 
   pub put_length : length (put old at l) ≡ length old
   put_length = ap length apart ∙ length-append (take at old ++ l) (drop (at + length l) old) ∙ omega (arith, front, length-drop (at + length l) old)
+
+-- a chunk of n elements, or the last, is the first of what is left
+pub chunk_first : (n : ℕ) (rest part more : List ℕ) → rest ≡ part ++ more → length part ≡ min n (length rest) → (part ≡ take n rest) × (more ≡ drop n rest)
+chunk_first n rest part more e size =
+    ⊎_elim (λ (h : length rest < n).
+    let none : more ≡ [] = nil_from_length more (omega (arith, ap length e ∙ length-append part more)) in
+    let all : rest ≡ part = e ∙ ap (λ (l : List ℕ). part ++ l) none ∙ append-nil part in
+    (sym all ∙ sym (take_all n rest (omega arith)), none ∙ sym (drop_of_length-le rest {i = n} (omega arith))))
+    (λ (h : n ≤ length rest).
+    let full : length part ≡ n = omega arith in
+    (sym (ap (take n) e ∙ take_at part more n full), sym (ap (drop n) e ∙ drop_at part more n full)))
+    (cases_lt (length rest) n)
 
 -- what is equal from an index on is equal from a later one on
 pub drop_later : (a b : List ℕ) (at n : ℕ) → drop at a ≡ drop at b → drop (at + n) a ≡ drop (at + n) b

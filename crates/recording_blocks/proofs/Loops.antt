@@ -1,45 +1,17 @@
 -- What the loops of the reader and the writer have done after some turns.
 -- Assumes nothing.
 use mathlib.Core.Path.{◌≡◌, refl, sym, ap, ap₂, ◌∙◌}
-use mathlib.Core.Bool.{true, false}
 use mathlib.Core.List.{List, [], ◌∷◌, ◌++◌, append_assoc}
-use Prim.Native.Nat.{ℕ, zero, suc, ◌+◌, ◌*◌, ◌-◌, ◌<◌, ◌≤◌}
+use Prim.Native.Nat.{ℕ, zero, suc, ◌+◌, ◌*◌, ◌-◌, ◌<◌, ◌≤◌, min}
+use Rattle.std.proofs.Common.{⊎_elim}
+use Rattle.std.proofs.lemmas.Bool.{cases_lt}
 use native.Mathlib.Omega.{arith}
 use native.Mathlib.Numerals.{add-one}
-use borrow.Author.Tests.{eq-eqb, ne_eqb}
 use lib.ListN.{length, take, drop, get_or, set, replicate, length-append, length-set, length-replicate, take-append-drop, drop_of_length-le}
-use lib.Seq.{drop-cons, take-suc, take-suc-set, drop-set-lt, drop-drop, take_all}
-use Rattle.recording_blocks.specs.Bytes.{four_bytes, words_bytes, all_zero, sum}
+use lib.Seq.{take-suc, take-suc-set, drop-set-lt, drop-drop, take_all}
+use Rattle.recording_blocks.specs.Bytes.{four_bytes, words_bytes}
 use Rattle.recording_blocks.specs.Block.{padded}
 use Rattle.list_laws.proofs.Place.{put_take, put_drop, put_length, drop_later}
-
--- ---- the sum: of the bytes bs, i are added up
-
-pub sum_more : (bs : List ℕ) (total i : ℕ) → i < length bs → total + sum (drop i bs) ≡ sum bs → total + get_or bs i 0 + sum (drop (i + 1) bs) ≡ sum bs
-unfolding sum
-sum_more bs total i h e =
-    let x : sum (drop i bs) ≡ get_or bs i 0 + sum (drop (i + 1) bs) = rw (add-one, drop-cons bs i 0 h) in
-    omega (arith, x)
-
-pub sum_all : (bs : List ℕ) (total i : ℕ) → length bs ≤ i → total + sum (drop i bs) ≡ sum bs → total ≡ sum bs
-unfolding sum
-sum_all bs total i h e =
-    let x : sum (drop i bs) ≡ 0 = ap sum (drop_of_length-le bs {i = i} h) in
-    omega (arith, x)
-
--- ---- words that are zero, from one on
-
-pub zero_more : (ws : List ℕ) (i : ℕ) → i < length ws → get_or ws i 0 ≡ 0 → all_zero (drop (i + 1) ws) ≡ all_zero (drop i ws)
-unfolding all_zero
-zero_more ws i h e = rw (add-one, drop-cons ws i 0 h, eq-eqb (get_or ws i 0) 0 e)
-
-pub zero_ends : (ws : List ℕ) (i : ℕ) → i < length ws → (get_or ws i 0 ≡ 0 → ⊥) → false ≡ all_zero (drop i ws)
-unfolding all_zero
-zero_ends ws i h e = rw (drop-cons ws i 0 h, ne_eqb (get_or ws i 0) 0 e)
-
-pub zero_all : (ws : List ℕ) (i : ℕ) → length ws ≤ i → true ≡ all_zero (drop i ws)
-unfolding all_zero
-zero_all ws i h = rw (drop_of_length-le ws {i = i} h)
 
 -- ---- words taken: of the words ws, i stand at the start of the places, which held old
 
@@ -60,6 +32,18 @@ take_more ws old now i w d h k e =
 pub take_all_words : (ws old now : List ℕ) (i n : ℕ) → Taken ws old now i → i ≡ n → now ≡ take n ws ++ drop n old
 take_all_words ws old now i n d e =
     sym (take-append-drop n now) ∙ ap₂ (λ (l r : List ℕ). l ++ r) (rw e at d.taken) (rw e at d.rest)
+
+-- as many as fit are all, or as many as there are places
+pub as_many : (ws old : List ℕ) (n : ℕ) → n ≡ min (length old) (length ws) → take n ws ++ drop n old ≡ take (length old) ws ++ drop (length ws) old
+as_many ws old n e =
+    ⊎_elim (λ (h : length ws < length old).
+    let k : n ≡ length ws = omega arith in
+    ap₂ (λ (l r : List ℕ). l ++ r) (ap (λ (m : ℕ). take m ws) k ∙ take_all (length ws) ws (omega arith) ∙ sym (take_all (length old) ws (omega arith))) (ap (λ (m : ℕ). drop m old) k))
+    (λ (h : length old ≤ length ws).
+    let k : n ≡ length old = omega arith in
+    ap₂ (λ (l r : List ℕ). l ++ r) (ap (λ (m : ℕ). take m ws) k)
+    (ap (λ (m : ℕ). drop m old) k ∙ drop_of_length-le old {i = length old} (omega arith) ∙ sym (drop_of_length-le old {i = length ws} h)))
+    (cases_lt (length ws) (length old))
 
 -- ---- words put: the bytes of the first i words of ws stand from byte 4 on in the area, which held old
 

@@ -1,7 +1,7 @@
 -- The numbers of reader and writer: each exactly when, and what an accepted block has.
 -- Assumes nothing.
 use mathlib.Core.Path.{◌≡◌, refl, sym, ap, ◌∙◌}
-use mathlib.Core.Bool.{Bool, true, false, not, ◌&&◌, true≢false}
+use mathlib.Core.Bool.{Bool, true, false, not, ◌&&◌}
 use mathlib.Core.List.{List, ◌++◌}
 use Prim.Native.Nat.{ℕ, ◌<◌, ◌≤◌}
 use native.Mathlib.Omega.{arith}
@@ -10,9 +10,10 @@ use lib.Dec.{eqb, ltb}
 use lib.ListN.{length, take, drop}
 use Rattle.bits.specs.Byte.{pick}
 use Rattle.recording_blocks.specs.Bytes.{all_zero, sum}
-use Rattle.recording_blocks.specs.Block.{number_of, count_of, sum_of, all_words, unused, refusal, block_read, places_left, number_given, read_number, BlockCase, write_number, area_left}
-use Rattle.recording_blocks.specs.declared.BlockRead.{BlockRead}
-use Rattle.recording_blocks.specs.declared.BlockRead.TheVariants.{Words, Refused}
+use Rattle.std.specs.Prelude.{Result, Ok, Err}
+use Rattle.recording_blocks.specs.Block.{number_of, count_of, sum_of, all_words, unused, refusal, fault_of, fault_number, words_counted, block_read, places_left, number_given, read_number, BlockCase, write_number, area_left}
+use Rattle.recording_blocks.specs.declared.BlockFault.{BlockFault}
+use Rattle.recording_blocks.specs.declared.BlockFault.TheVariants.{Places, Short, Sum, Number, Count, Unused}
 use Rattle.recording_blocks.specs.Refusals.{Numbers, Good}
 
 -- ---- the reader
@@ -98,37 +99,85 @@ module _ (due : ℕ) (b : List ℕ) where
             let u : all_zero (unused b) ≡ zero = ap (λ (j : ℕ). all_zero (drop j (all_words b))) (sym c) ∙ sym z in
             rw (le-ltb _ _ full, sums, eq-eqb (number_of b) due (sym r ∙ numbered), lt-ltb (count_of b) 127 (rw c at h), u)
 
--- what the reader gives and leaves
-module _ (due : ℕ) (b places : List ℕ) (n : ℕ) (p : n ≡ refusal due b) where
-  pub read_refused : (n ≡ 0 → ⊥) → (Refused n ≡ block_read due b places) × (places ≡ places_left due b places)
-  unfolding block_read places_left
-  read_refused h = rw (← p, ne_eqb n 0 h) (refl, refl)
+-- what the tests give, by the number of the refusal
+pub counted_by : (due : ℕ) (b : List ℕ) (n : ℕ) → n ≡ refusal due b → pick (eqb n 0) (Ok (count_of b)) (Err (fault_of n)) ≡ words_counted due b
+unfolding words_counted
+counted_by due b n p = ap (λ (m : ℕ). pick (eqb m 0) (Ok (count_of b)) (Err (fault_of m))) p
 
-  module _ (none : n ≡ 0) (k : ℕ) (c : k ≡ count_of b) where
-    pub read_seven : length places < k → (Refused 7 ≡ block_read due b places) × (places ≡ places_left due b places)
+counted_words : (none : Bool) (k n : ℕ) (f : BlockFault) → Ok k ≡ pick none (Ok n) (Err f) → (none ≡ true) × (k ≡ n)
+counted_words true k n f e = (refl, cc)
+counted_words false k n f e = cc
+
+counted_fault : (none : Bool) (n : ℕ) (f g : BlockFault) → Err f ≡ pick none (Ok n) (Err g) → (none ≡ false) × (f ≡ g)
+counted_fault true n f g e = cc
+counted_fault false n f g e = (refl, cc)
+
+-- what the reader gives and leaves
+module _ (due : ℕ) (b places : List ℕ) where
+  pub read_refused : (f : BlockFault) → Err f ≡ words_counted due b → (Err f ≡ block_read due b places) × (places ≡ places_left due b places)
+  unfolding words_counted block_read places_left
+  read_refused f e =
+      let t = counted_fault (eqb (refusal due b) 0) (count_of b) f (fault_of (refusal due b)) e in
+      rw (t.0, t.1) (refl, refl)
+
+  module _ (k : ℕ) (e : Ok k ≡ words_counted due b) where
+    pub accepted : (refusal due b ≡ 0) × (k ≡ count_of b)
+    unfolding words_counted
+    accepted =
+        let t = counted_words (eqb (refusal due b) 0) k (count_of b) (fault_of (refusal due b)) e in
+        (eqb-true _ _ t.0, t.1)
+
+    pub read_seven : length places < k → (Err Places ≡ block_read due b places) × (places ≡ places_left due b places)
     unfolding block_read places_left
-    read_seven h = rw (← p, eq-eqb n 0 none, ← c, lt-ltb _ _ h) (refl, refl)
+    read_seven h = rw (eq-eqb _ 0 accepted.0, ← accepted.1, lt-ltb _ _ h) (refl, refl)
 
     pub read_words_lem : k ≤ length places → (new : List ℕ) → new ≡ take k (all_words b) ++ drop k places
-        → (Words k ≡ block_read due b places) × (new ≡ places_left due b places)
+        → (Ok k ≡ block_read due b places) × (new ≡ places_left due b places)
     unfolding block_read places_left
-    read_words_lem h new e = rw (← p, eq-eqb n 0 none, ← c, le-ltb _ _ h) (refl, e)
+    read_words_lem h new p = rw (eq-eqb _ 0 accepted.0, ← accepted.1, le-ltb _ _ h) (refl, p)
+
+-- no fault has the number 0
+some_number : (f : BlockFault) → fault_number f ≡ 0 → ⊥
+some_number Places z = omega arith
+some_number Short z = omega arith
+some_number Sum z = omega arith
+some_number Number z = omega arith
+some_number Count z = omega arith
+some_number Unused z = omega arith
 
 -- an answer with the number 0 is the words
-words_by : (none short : Bool) (n k : ℕ) → eqb n 0 ≡ none → number_given (pick none (pick short (Refused 7) (Words k)) (Refused n)) ≡ 0
-    → pick none (pick short (Refused 7) (Words k)) (Refused n) ≡ Words k
-words_by true true n k e z = let no : ⊥ = omega arith in absurd no
-words_by true false n k e z = refl
-words_by false short n k e z = absurd (true≢false (sym (eq-eqb n 0 z) ∙ e))
+words_by : (none short : Bool) (n k : ℕ) → number_given (pick none (pick short (Err Places) (Ok k)) (Err (fault_of n))) ≡ 0
+    → pick none (pick short (Err Places) (Ok k)) (Err (fault_of n)) ≡ Ok k
+words_by true true n k z = let no : ⊥ = omega arith in absurd no
+words_by true false n k z = refl
+words_by false short n k z = absurd (some_number (fault_of n) z)
 
-words_given_lem : (due : ℕ) (b places : List ℕ) → number_given (block_read due b places) ≡ 0 → block_read due b places ≡ Words (count_of b)
+words_given_lem : (due : ℕ) (b places : List ℕ) → number_given (block_read due b places) ≡ 0 → block_read due b places ≡ Ok (count_of b)
 unfolding block_read
-words_given_lem due b places = words_by (eqb (refusal due b) 0) (ltb (length places) (count_of b)) (refusal due b) (count_of b) refl
+words_given_lem due b places = words_by (eqb (refusal due b) 0) (ltb (length places) (count_of b)) (refusal due b) (count_of b)
+
+-- the number of the answer is that of the refusal, or 7
+numbered_by : (short added numbered counted zero few : Bool) (k : ℕ)
+    → number_given (pick (eqb (tested short added numbered counted zero) 0) (pick few (Err Places) (Ok k)) (Err (fault_of (tested short added numbered counted zero))))
+    ≡ pick (eqb (tested short added numbered counted zero) 0) (pick few 7 0) (tested short added numbered counted zero)
+numbered_by true added numbered counted zero few k = refl
+numbered_by false false numbered counted zero few k = refl
+numbered_by false true false counted zero few k = refl
+numbered_by false true true false zero few k = refl
+numbered_by false true true true false few k = refl
+numbered_by false true true true true true k = refl
+numbered_by false true true true true false k = refl
+
+number_lem : (due : ℕ) (b places : List ℕ) → number_given (block_read due b places) ≡ read_number due b places
+unfolding block_read refusal
+number_lem due b places =
+    numbered_by (ltb (length b) 512) (eqb (sum_of b) (sum (take 508 b))) (eqb (number_of b) due) (ltb (count_of b) 127) (all_zero (unused b))
+    (ltb (length places) (count_of b)) (count_of b)
 
 -- the contract of the reader for an answer and places that are the definitions'
-pub read_case : (due : ℕ) (b places left : List ℕ) (r : BlockRead) → (r ≡ block_read due b places) × (left ≡ places_left due b places) → number_given r ≡ read_number due b places
+pub read_case : (due : ℕ) (b places left : List ℕ) (r : Result ℕ BlockFault) → (r ≡ block_read due b places) × (left ≡ places_left due b places)
     → (r ≡ block_read due b places) × (left ≡ places_left due b places) × BlockCase due b places r
-read_case due b places left r e n = (e.0, e.1, record { number = n; values = rw e.0 (words_given_lem due b places) })
+read_case due b places left r e = (e.0, e.1, record { number = rw e.0 (number_lem due b places); values = rw e.0 (words_given_lem due b places) })
 
 -- ---- the writer
 

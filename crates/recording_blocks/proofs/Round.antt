@@ -8,6 +8,7 @@ use native.Mathlib.Omega.{arith}
 use lib.Dec.{eqb-suc-zero}
 use lib.ListN.{length, take, drop, get_or, replicate, length-drop, take-append-drop}
 use lib.Seq.{take_at, drop_at, take-add, get_or-append-add, get_or-drop, length-take-le}
+use Rattle.std.proofs.lemmas.List.Sums.{sum_by-cons}
 use Rattle.bits.specs.Byte.{pick}
 use Rattle.recording_blocks.specs.Bytes.{Bytes, Words32, two_bytes, four_bytes, from_two, words_bytes, words_of, all_zero, sum}
 use Rattle.recording_blocks.specs.Block.{padded, front, block_of, number_of, count_of, sum_of, all_words, block_words, unused, refusal}
@@ -167,9 +168,8 @@ bytes_append (x ∷ xs) ys h k zero = h 0
 bytes_append (x ∷ xs) ys h k (suc i) = bytes_append xs ys (λ j. h (suc j)) k i
 
 sum_bound : (xs : List ℕ) → Bytes xs → sum xs ≤ 255 * length xs
-unfolding sum
 sum_bound [] h = omega arith
-sum_bound (x ∷ xs) h = omega (arith, h 0, sum_bound xs (λ j. h (suc j)))
+sum_bound (x ∷ xs) h = omega (arith, h 0, sum_bound xs (λ j. h (suc j)), sum_by-cons (λ y. y) x xs)
 
 four_small : (n : ℕ) → n < 4294967296 → Bytes (four_bytes n)
 four_small n h zero = omega arith

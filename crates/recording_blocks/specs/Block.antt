@@ -1,9 +1,11 @@
 -- A block of a recording: 512 bytes, written and read (document 02, Wish 1).
-use Rattle.std.specs.Prelude.{ℕ, ◌-◌, ◌≡◌, List, ◌++◌, eqb, ltb, length, take, drop, get_or, replicate}
+use Rattle.std.specs.Prelude.{ℕ, ◌-◌, ◌≡◌, List, ◌++◌, eqb, ltb, length, take, drop, get_or, replicate, Result, Ok, Err}
 use Rattle.bits.specs.Byte.{pick}
 use Rattle.recording_blocks.specs.Bytes.{two_bytes, four_bytes, from_two, from_four, words_bytes, words_of, all_zero, sum}
-use Rattle.recording_blocks.specs.declared.BlockRead.{BlockRead}
-use Rattle.recording_blocks.specs.declared.BlockRead.TheVariants.{Words, Refused}
+use Rattle.recording_blocks.specs.declared.BlockFault.{BlockFault}
+use Rattle.recording_blocks.specs.declared.BlockFault.TheVariants.{Places, Short, Sum, Number, Count, Unused}
+use Rattle.recording_blocks.specs.declared.WriteFault.{WriteFault}
+use Rattle.recording_blocks.specs.declared.WriteFault.TheVariants.{Numbers, Words, Area}
 
 -- ---- what the writer makes
 
@@ -22,6 +24,17 @@ block_of number ws = front number ws ++ four_bytes (sum (front number ws))
 -- the number that the writer gives: 16 where there are 127 words or more, next 17 where the area has another length than 512
 unfoldable pub write_number : List ℕ → List ℕ → ℕ
 write_number ws area = pick (ltb 126 (length ws)) 16 (pick (eqb (length area) 512) 0 17)
+
+-- the number of each refusal: 12 is that of the writer of many blocks alone
+abbrev pub write_fault_number : WriteFault → ℕ
+write_fault_number Numbers = 12
+write_fault_number Words = 16
+write_fault_number Area = 17
+
+-- the number of an answer: 0 for a block written
+abbrev pub number_written : Result (Unit {0}) WriteFault → ℕ
+number_written (Ok done) = 0
+number_written (Err fault) = write_fault_number fault
 
 -- what it leaves in the area: the block, or what was there
 unfoldable pub area_left : ℕ → List ℕ → List ℕ → List ℕ
@@ -62,26 +75,43 @@ refusal due b =
     12)
     11)
 
--- what the reader of a block gives: how many words there are; or the refusal; or 7 where there are fewer places than words
-unfoldable pub block_read : ℕ → List ℕ → List ℕ → BlockRead
+-- the number of each fault: those of a block are 10 to 14, and 7 is that of too few places for its words
+abbrev pub fault_number : BlockFault → ℕ
+fault_number Places = 7
+fault_number Short = 10
+fault_number Sum = 11
+fault_number Number = 12
+fault_number Count = 13
+fault_number Unused = 14
+
+-- the fault of a block with each of its five numbers
+abbrev pub fault_of : ℕ → BlockFault
+fault_of n = pick (eqb n 10) Short (pick (eqb n 11) Sum (pick (eqb n 12) Number (pick (eqb n 13) Count Unused)))
+
+-- how many words a good block has; or its first fault
+unfoldable pub words_counted : ℕ → List ℕ → Result ℕ BlockFault
+words_counted due b = pick (eqb (refusal due b) 0) (Ok (count_of b)) (Err (fault_of (refusal due b)))
+
+-- what the reader of a block gives: how many words there are; or the fault; or 7 where there are fewer places than words
+unfoldable pub block_read : ℕ → List ℕ → List ℕ → Result ℕ BlockFault
 block_read due b places =
     pick (eqb (refusal due b) 0)
-    (pick (ltb (length places) (count_of b)) (Refused 7) (Words (count_of b)))
-    (Refused (refusal due b))
+    (pick (ltb (length places) (count_of b)) (Err Places) (Ok (count_of b)))
+    (Err (fault_of (refusal due b)))
 
 -- the number of each answer: words are not refused
-abbrev pub number_given : BlockRead → ℕ
-number_given (Words count) = 0
-number_given (Refused number) = number
+abbrev pub number_given : Result ℕ BlockFault → ℕ
+number_given (Ok count) = 0
+number_given (Err fault) = fault_number fault
 
 -- the number that a block is answered with: that of its first fault, next 7 where there are fewer places than words
 abbrev pub read_number : ℕ → List ℕ → List ℕ → ℕ
 read_number due b places = pick (eqb (refusal due b) 0) (pick (ltb (length places) (count_of b)) 7 0) (refusal due b)
 
 -- the number and the values of an answer
-pub record BlockCase (due : ℕ) (b places : List ℕ) (r : BlockRead) : Type 0 where
+pub record BlockCase (due : ℕ) (b places : List ℕ) (r : Result ℕ BlockFault) : Type 0 where
   pub number : number_given r ≡ read_number due b places
-  pub values : number_given r ≡ 0 → r ≡ Words (count_of b)
+  pub values : number_given r ≡ 0 → r ≡ Ok (count_of b)
 
 -- what it leaves in the places: the words and, past them, what was there; nothing is written where it is refused
 unfoldable pub places_left : ℕ → List ℕ → List ℕ → List ℕ

@@ -1,5 +1,6 @@
 -- Numbers and event words as bytes, the lowest byte first (document 02, Wish 1).
 use Rattle.std.specs.Prelude.{ℕ, ◌+◌, ◌*◌, ◌/◌, ◌%◌, ◌<◌, Bool, true, false, List, [], ◌∷◌, ◌++◌, eqb, get_or}
+use Rattle.std.specs.List as list
 use Rattle.bits.specs.Byte.{pick}
 
 -- every element is a byte
@@ -43,6 +44,5 @@ all_zero [] = true
 all_zero (x ∷ xs) = pick (eqb x 0) (all_zero xs) false
 
 -- the sum of the elements
-unfoldable pub sum : List ℕ → ℕ
-sum [] = 0
-sum (x ∷ xs) = x + sum xs
+abbrev pub sum : List ℕ → ℕ
+sum xs = list.sum xs

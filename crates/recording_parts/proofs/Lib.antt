@@ -3,3 +3,4 @@ pub mod Round
 pub mod Reading
 pub mod Room
 pub mod Joined
+pub mod Faults

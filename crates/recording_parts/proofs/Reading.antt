@@ -1,23 +1,23 @@
 -- What the reader of blocks has done after some blocks, and one block more.
 -- Assumes nothing.
 use mathlib.Core.Path.{◌≡◌, refl, sym, ap, ap₂, ◌∙◌}
-use mathlib.Core.Bool.{Bool, true, false}
+use mathlib.Core.Bool.{Bool, true, false, true≢false}
 use mathlib.Core.List.{List, [], ◌∷◌, ◌++◌, append-nil, append_assoc}
 use Prim.Native.Nat.{ℕ, ◌+◌, ◌*◌, ◌-◌, ◌/◌, ◌<◌, ◌≤◌}
 use native.Mathlib.Omega.{arith}
 use borrow.Author.Tests.{eq-eqb, ne_eqb, lt-ltb, le-ltb, ltb-true, ltb-false, eqb-true, eqb-false}
-use borrow.Rule.Slice.PartMut.{put_mid}
 use lib.Dec.{eqb, ltb}
-use lib.ListN.{length, take, drop, get_or, length-append, length-take, length-drop, drop_of_length-le, take-append-drop}
-use lib.Seq.{take_all, take-take, drop-drop, get_or-take, take_at, drop_at, length-take-le}
+use lib.ListN.{length, take, drop, get_or, length-append, length-take, length-drop, take-append-drop}
+use lib.Seq.{take-take, drop-drop, get_or-take, take_at, drop_at, length-take-le}
 use Rattle.bits.specs.Byte.{pick}
 use Rattle.recording_blocks.specs.Bytes.{Bytes, words_of}
-use Rattle.recording_blocks.specs.Block.{refusal, number_of, count_of, sum_of, all_words, block_words, block_read, places_left}
-use Rattle.recording_blocks.specs.declared.BlockRead.{BlockRead}
-use Rattle.recording_blocks.specs.declared.BlockRead.TheVariants.{Words, Refused}
+use Rattle.recording_blocks.specs.Block.{refusal, number_of, count_of, sum_of, all_words, block_words, fault_of, block_read, places_left}
+use Rattle.std.specs.Prelude.{Option, Ok, Err, Some}
+use Rattle.recording_blocks.specs.declared.BlockFault.{BlockFault}
+use Rattle.recording_blocks.specs.declared.BlockFault.TheVariants.{Places}
 use Rattle.recording_blocks.proofs.Refusals.{good}
 use Rattle.recording_blocks.proofs.Round.{count_words, number_small, dropped_bytes}
-use Rattle.recording_parts.specs.Recording.{blocks_of, read_words, read_number, read_next}
+use Rattle.recording_parts.specs.Recording.{blocks_of, read_words, read_number, read_next, fault_at}
 use Rattle.recording_parts.specs.declared.BlocksRead.{BlocksRead}
 use Rattle.recording_parts.proofs.Pieces.{blocks_cons, blocks_nil}
 
@@ -62,6 +62,14 @@ module _ (b : List ℕ) where
   refusal_first due =
       rw (shorter b (ltb (length b) 512) refl, sum_first, number_first, count_first, all_first, take-take 508 512 b (omega arith))
 
+  read_first : (due : ℕ) (places : List ℕ) → block_read due (take 512 b) places ≡ block_read due b places
+  unfolding block_read
+  read_first due places = rw (refusal_first due, count_first) refl
+
+  left_first : (due : ℕ) (places : List ℕ) → places_left due (take 512 b) places ≡ places_left due b places
+  unfolding places_left
+  left_first due places = rw (refusal_first due, count_first, all_first) refl
+
 -- ---- reading a list, by its first block
 
 module _ (due : ℕ) (bytes : List ℕ) (h : 0 < length bytes) where
@@ -83,41 +91,31 @@ module _ (due : ℕ) (bytes : List ℕ) (h : 0 < length bytes) where
 
 -- ---- what the reader of a block gave
 
-words_case : (t s : Bool) (k m n : ℕ) → pick t (pick s (Refused 7) (Words k)) (Refused m) ≡ Words n → (t ≡ true) × (s ≡ false) × (k ≡ n)
-words_case true true k m n e = absurd (let z : ◌≡◌ {A = ℕ} 0 1 = cc in omega arith)
-words_case true false k m n e = (refl, refl, cc)
-words_case false s k m n e = absurd (let z : ◌≡◌ {A = ℕ} 0 1 = cc in omega arith)
+words_case : (t s : Bool) (k n : ℕ) (f : BlockFault) → pick t (pick s (Err Places) (Ok k)) (Err f) ≡ Ok n → (t ≡ true) × (s ≡ false) × (k ≡ n)
+words_case true true k n f e = cc
+words_case true false k n f e = (refl, refl, cc)
+words_case false s k n f e = cc
 
-refused_case : (t s : Bool) (k m n : ℕ) → (t ≡ true → s ≡ false) → pick t (pick s (Refused 7) (Words k)) (Refused m) ≡ Refused n → (t ≡ false) × (m ≡ n)
-refused_case true true k m n h e = absurd (let z : ◌≡◌ {A = Bool} true false = h refl in let y : ◌≡◌ {A = ℕ} 0 1 = cc in omega arith)
-refused_case true false k m n h e = absurd (let z : ◌≡◌ {A = ℕ} 0 1 = cc in omega arith)
-refused_case false s k m n h e = (refl, cc)
+fault_case : (t s : Bool) (k : ℕ) (f g : BlockFault) → (t ≡ true → s ≡ false) → pick t (pick s (Err Places) (Ok k)) (Err f) ≡ Err g → (t ≡ false) × (f ≡ g)
+fault_case true true k f g h e = absurd (true≢false (h refl))
+fault_case true false k f g h e = cc
+fault_case false s k f g h e = (refl, cc)
 
-module _ (due : ℕ) (b places : List ℕ) (n : ℕ) where
-  pub gave_words : block_read due b places ≡ Words n → (refusal due b ≡ 0) × (count_of b ≡ n) × (places_left due b places ≡ block_words b ++ drop (count_of b) places)
+module _ (due : ℕ) (b places : List ℕ) where
+  pub gave_words : (n : ℕ) → block_read due b places ≡ Ok n → (refusal due b ≡ 0) × (count_of b ≡ n) × (places_left due b places ≡ block_words b ++ drop (count_of b) places)
   unfolding block_read places_left
-  gave_words e =
-      let t = words_case (eqb (refusal due b) 0) (ltb (length places) (count_of b)) (count_of b) (refusal due b) n e in
+  gave_words n e =
+      let t = words_case (eqb (refusal due b) 0) (ltb (length places) (count_of b)) (count_of b) n (fault_of (refusal due b)) e in
       (eqb-true _ _ t.0, t.2, rw (t.0, t.1))
 
-  pub gave_refusal : (refusal due b ≡ 0 → 126 ≤ length places) → block_read due b places ≡ Refused n
-      → (refusal due b ≡ 0 → ⊥) × (refusal due b ≡ n) × (places_left due b places ≡ places)
+  pub gave_fault : (f : BlockFault) → (refusal due b ≡ 0 → 126 ≤ length places) → block_read due b places ≡ Err f
+      → (refusal due b ≡ 0 → ⊥) × (fault_of (refusal due b) ≡ f) × (places_left due b places ≡ places)
   unfolding block_read places_left
-  gave_refusal h e =
+  gave_fault f h e =
       let room : eqb (refusal due b) 0 ≡ true → ltb (length places) (count_of b) ≡ false =
       λ k. (let z : refusal due b ≡ 0 = eqb-true _ _ k in le-ltb (length places) (count_of b) (omega (arith, h z, (good due b z).counted))) in
-      let t = refused_case (eqb (refusal due b) 0) (ltb (length places) (count_of b)) (count_of b) (refusal due b) n room e in
+      let t = fault_case (eqb (refusal due b) 0) (ltb (length places) (count_of b)) (count_of b) (fault_of (refusal due b)) f room e in
       (eqb-false _ _ t.0, t.1, rw t.0)
-
--- ---- parts of slices that go to the end
-
-pub tail_all : (xs : List ℕ) (a : ℕ) → take (length xs - a) (drop a xs) ≡ drop a xs
-tail_all xs a = take_all (length xs - a) (drop a xs) (omega (arith, length-drop a xs))
-
-pub put_tail : (xs ys : List ℕ) (a : ℕ) → put_mid a (length xs - a) xs ys ≡ take a xs ++ ys
-put_tail xs ys a =
-    ap (λ (r : List ℕ). take a xs ++ (ys ++ r)) (drop_of_length-le (drop a xs) {i = length xs - a} (omega (arith, length-drop a xs)))
-    ∙ ap (λ (r : List ℕ). take a xs ++ r) (append-nil ys)
 
 -- ---- the blocks up to the byte with index at are read: count words stand in the places, which held old, and next is due
 
@@ -138,8 +136,11 @@ pub record More (due : ℕ) (bytes old new : List ℕ) (next count at n : ℕ) :
   pub reading : Reading due bytes old new (next + 1) (count + n) (at + 512)
 
 -- what the reader gives at its end
-abbrev result : ℕ → ℕ → ℕ → BlocksRead
-result count next number = record { count = count; next = next; number = number }
+abbrev pub result : ℕ → ℕ → ℕ → BlocksRead
+result count next number = record { count = count; next = next; fault = fault_at number }
+
+abbrev fault_told : ℕ → ℕ → Option BlockFault → BlocksRead
+fault_told count next fault = record { count = count; next = next; fault = fault }
 
 pub record Ended (due : ℕ) (bytes old now : List ℕ) (next count number : ℕ) : Type 0 where
   pub same : length now ≡ length old
@@ -168,31 +169,36 @@ module _ (due : ℕ) (bytes old now : List ℕ) (next count at : ℕ) (d : Readi
       let none : blocks_of (drop at bytes) ≡ [] = blocks_nil (drop at bytes) (length-drop at bytes ∙ omega arith) in
       ended 0 (rw none) (rw none) (rw none)
 
-  module _ (h : at < length bytes) (block places : List ℕ) (p : block ≡ drop at bytes) (q : places ≡ drop count now)
-      (r : BlockRead) (e : r ≡ block_read next block places) (left new : List ℕ) (u : left ≡ places_left next block places) (v : new ≡ take count now ++ left) (n : ℕ) where
+  module _ (h : at < length bytes) (block places : List ℕ) (p : block ≡ take 512 (drop at bytes)) (q : places ≡ drop count now)
+      (left new : List ℕ) (u : left ≡ places_left next block places) (v : new ≡ take count now ++ left) where
     some : 0 < length (drop at bytes)
     some = omega (arith, length-drop at bytes)
 
-    given : block_read next (drop at bytes) (drop count now) ≡ r
-    given = ap₂ (block_read next) (sym p) (sym q) ∙ sym e
+    given : block_read next (drop at bytes) (drop count now) ≡ block_read next block places
+    given = sym (read_first (drop at bytes) next (drop count now)) ∙ ap₂ (block_read next) (sym p) (sym q)
 
     kept : left ≡ places_left next (drop at bytes) (drop count now)
-    kept = u ∙ ap₂ (places_left next) p q
+    kept = u ∙ ap₂ (places_left next) p q ∙ left_first (drop at bytes) next (drop count now)
 
     -- the next block is bad
-    pub refused : r ≡ Refused n → Ended due bytes old new next count n
-    refused f =
+    pub refused : (f : BlockFault) → Err f ≡ block_read next block places
+        → (length new ≡ length old) × ((record { count = count; next = next; fault = Some f }
+        ≡ result (length (read_words due (blocks_of bytes))) (read_next due (blocks_of bytes)) (read_number due (blocks_of bytes)))
+        × (new ≡ read_words due (blocks_of bytes) ++ drop (length (read_words due (blocks_of bytes))) old))
+    refused f e =
         let enough : refusal next (drop at bytes) ≡ 0 → 126 ≤ length (drop count now) =
         λ z. omega (arith, (good next (drop at bytes) z).full, length-drop at bytes, length-drop count now, d.room, d.same) in
-        let t = gave_refusal next (drop at bytes) (drop count now) n enough (given ∙ f) in
+        let t = gave_fault next (drop at bytes) (drop count now) f enough (given ∙ sym e) in
         let same : new ≡ now = v ∙ ap (λ (l : List ℕ). take count now ++ l) (kept ∙ t.2) ∙ take-append-drop count now in
         let b = bad_first next (drop at bytes) some t.0 in
-        rw same (ended n b.0 (b.1 ∙ t.1) b.2)
+        let done = ended (refusal next (drop at bytes)) b.0 b.1 b.2 in
+        let told : fault_at (refusal next (drop at bytes)) ≡ Some f = rw (ne_eqb _ 0 t.0) (ap Some t.1) in
+        (ap length same ∙ done.same, (ap (fault_told count next) (sym told) ∙ done.gives, same ∙ done.leaves))
 
     -- the next block is good
-    pub more : Bytes bytes → r ≡ Words n → More due bytes old new next count at n
-    more k f =
-        let t = gave_words next (drop at bytes) (drop count now) n (given ∙ f) in
+    pub more : Bytes bytes → (n : ℕ) → Ok n ≡ block_read next block places → More due bytes old new next count at n
+    more k n e =
+        let t = gave_words next (drop at bytes) (drop count now) n (given ∙ sym e) in
         let g = good next (drop at bytes) t.0 in
         let b = block_words (drop at bytes) in
         let size : length b ≡ n = count_words next (drop at bytes) (dropped_bytes at bytes k) t.0 ∙ t.1 in

@@ -1,7 +1,9 @@
 -- A recording: a list of blocks, numbered from 0 (document 02, Wish 1).
-use Rattle.std.specs.Prelude.{ℕ, zero, suc, ◌+◌, ◌*◌, ◌/◌, List, [], ◌∷◌, ◌++◌, eqb, ltb, length, take, drop}
+use Rattle.std.specs.Prelude.{ℕ, zero, suc, ◌+◌, ◌*◌, ◌/◌, List, [], ◌∷◌, ◌++◌, eqb, ltb, length, take, drop, Option, Some, None}
 use Rattle.bits.specs.Byte.{pick}
-use Rattle.recording_blocks.specs.Block.{block_of, block_words, refusal}
+use Rattle.recording_blocks.specs.Block.{block_of, block_words, refusal, fault_of, fault_number}
+use Rattle.recording_blocks.specs.declared.BlockFault.{BlockFault}
+use Rattle.recording_blocks.specs.declared.BlockFault.TheVariants.{Places}
 use Rattle.recording_parts.specs.declared.BlocksRead.{BlocksRead}
 
 -- ---- lists in pieces
@@ -54,13 +56,22 @@ read_next due (b ∷ rest) = pick (eqb (refusal due b) 0) (read_next (due + 1) r
 
 -- ---- the reader of blocks, and the places for their words
 
--- what is given back: 7 where there are fewer than 126 places for each whole block; else how many words were read, the number
--- that is due next, and 0 or what is wrong with the bad block
+-- what is wrong by a number of a bad block, nothing by 0
+abbrev pub fault_at : ℕ → Option BlockFault
+fault_at n = pick (eqb n 0) None (Some (fault_of n))
+
+-- and back
+abbrev pub number_at : Option BlockFault → ℕ
+number_at None = 0
+number_at (Some fault) = fault_number fault
+
+-- what is given back: the fault with the number 7 where there are fewer than 126 places for each whole block; else how many words were
+-- read, the number that is due next, and what is wrong with the bad block, if there is one
 unfoldable pub blocks_read : ℕ → List ℕ → List ℕ → BlocksRead
 blocks_read due bytes places =
     pick (ltb (length places) (126 * (length bytes / 512)))
-    (record { count = 0; next = due; number = 7 })
-    (record { count = length (read_words due (blocks_of bytes)); next = read_next due (blocks_of bytes); number = read_number due (blocks_of bytes) })
+    (record { count = 0; next = due; fault = Some Places })
+    (record { count = length (read_words due (blocks_of bytes)); next = read_next due (blocks_of bytes); fault = fault_at (read_number due (blocks_of bytes)) })
 
 -- what is left in the places: the words of the good blocks and, past them, what was there; nothing is written where 7 is given
 unfoldable pub words_left : ℕ → List ℕ → List ℕ → List ℕ

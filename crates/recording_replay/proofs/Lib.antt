@@ -1,4 +1,3 @@
-pub mod Lines
 pub mod Calls
 pub mod Replaying
 pub mod Recordings

@@ -22,7 +22,7 @@ use Rattle.recording_parts.proofs.Round.{read_written}
 use Rattle.recording_parts.proofs.Joined.{accepted_words, onward, stopped, bad_block, blocks_append}
 use Rattle.recording_replay.specs.Replay.{words_from, number_from, last_answer, block_answers, hex_lines, block_text, refused_replay, replayed, text_left}
 use Rattle.recording_replay.specs.declared.Replayed.{Replayed}
-use Rattle.recording_replay.proofs.Lines.{lines_append}
+use Rattle.hex_digits.proofs.Line.{lines_append}
 use Rattle.recording_replay.proofs.Calls.{call_chip, call_answers}
 use Rattle.recording_replay.proofs.Replaying.{no_last, one_last}
 

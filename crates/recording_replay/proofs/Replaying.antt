@@ -18,10 +18,11 @@ use Rattle.list_call.specs.Run.{advanced, advanced_answers}
 use Rattle.list_call.proofs.Runs.{length_advanced_answers}
 use Rattle.recording_blocks.specs.Block.{refusal, count_of, all_words, block_words}
 use Rattle.recording_blocks.proofs.Refusals.{good}
-use Rattle.recording_parts.specs.Recording.{cut, blocks_of, read_words, read_next, blocks_read, words_left}
+use Rattle.recording_parts.specs.Recording.{cut, blocks_of, read_words, read_number, read_next, fault_at, number_at, blocks_read, words_left}
 use Rattle.recording_parts.specs.declared.BlocksRead.{BlocksRead}
 use Rattle.recording_replay.specs.Replay.{words_from, number_from, last_answer, block_answers, hex_lines, block_text, refused_replay, replayed, text_left}
-use Rattle.recording_replay.proofs.Lines.{length_lines, lines_append}
+use Rattle.hex_digits.proofs.Line.{length_lines, lines_append}
+use Rattle.recording_parts.proofs.Faults.{read_back}
 
 -- ---- the last answer
 
@@ -107,12 +108,12 @@ module _ (c : Chip) (due : ℕ) (bytes places : List ℕ) where
   -- ---- the blocks read into places of their own, the room that the text takes
 
   module _ (t : well_formed c ≡ true) (h : length bytes / 512 ≤ 32) (zeros : List ℕ) (n : length zeros ≡ 4032)
-      (r : BlocksRead) (w : List ℕ) (e : (r ≡ blocks_read due bytes zeros) × (w ≡ words_left due bytes zeros)) where
+      (r : BlocksRead) (w : List ℕ) (e : (r ≡ blocks_read due bytes zeros) × (w ≡ words_left due bytes zeros)) (num : ℕ) (v : num ≡ number_at r.fault) where
     pub few : length (words_from due bytes) ≤ 4032
     unfolding blocks_of
     few = omega (arith, words_bounded due ((length bytes + 511) / 512) bytes)
 
-    pub result : r ≡ record { count = length (words_from due bytes); next = read_next due (blocks_of bytes); number = number_from due bytes }
+    pub result : r ≡ record { count = length (words_from due bytes); next = read_next due (blocks_of bytes); fault = fault_at (number_from due bytes) }
     unfolding blocks_read
     result = e.0 ∙ rw (le-ltb (length zeros) (126 * (length bytes / 512)) (omega (arith, n)))
 
@@ -123,8 +124,8 @@ module _ (c : Chip) (due : ℕ) (bytes places : List ℕ) where
     pub counted : r.count ≡ length (words_from due bytes)
     counted = ap (λ (x : BlocksRead). x.count) result
 
-    pub numbered : r.number ≡ number_from due bytes
-    numbered = ap (λ (x : BlocksRead). x.number) result
+    pub numbered : num ≡ number_from due bytes
+    numbered = v ∙ ap (λ (x : BlocksRead). number_at x.fault) result ∙ read_back due (blocks_of bytes)
 
     pub size_kept : length w ≡ 4032
     size_kept =
@@ -138,7 +139,7 @@ module _ (c : Chip) (due : ℕ) (bytes places : List ℕ) where
     pub words_read : take r.count w ≡ words_from due bytes
     words_read = ap₂ take counted left ∙ take_at (words_from due bytes) (drop (length (words_from due bytes)) zeros) (length (words_from due bytes)) refl
 
-    module _ (size : ℕ) (z : size ≡ 9 * (r.count + length (last_answer r.number))) where
+    module _ (size : ℕ) (z : size ≡ 9 * (r.count + length (last_answer num))) where
       pub size_text : size ≡ length (block_text c due bytes)
       unfolding block_text block_answers
       size_text =
@@ -170,20 +171,20 @@ module _ (c : Chip) (due : ℕ) (bytes places : List ℕ) where
             ap₂ take counted given
             ∙ take_at (advanced_answers c (words_from due bytes)) (drop (length (words_from due bytes)) blank) (length (words_from due bytes)) (length_advanced_answers c (words_from due bytes))
 
-        pub same_text : hex_lines (take r.count answers ++ last_answer r.number) ≡ block_text c due bytes
+        pub same_text : hex_lines (take r.count answers ++ last_answer num) ≡ block_text c due bytes
         unfolding block_text block_answers
         same_text = ap₂ (λ (x : List ℕ) (y : ℕ). hex_lines (x ++ last_answer y)) answers_read numbered
 
-        pub text_fits : length (hex_lines (take r.count answers ++ last_answer r.number)) ≤ length places
+        pub text_fits : length (hex_lines (take r.count answers ++ last_answer num)) ≤ length places
         text_fits = rw (same_text, ← size_text) k
 
-        pub done : (new : List ℕ) → new ≡ hex_lines (take r.count answers ++ last_answer r.number) ++ drop (length (hex_lines (take r.count answers ++ last_answer r.number))) places
-            → (record { chip = after; next = r.next; count = size; number = r.number } ≡ replayed c due bytes places) × (new ≡ text_left c due bytes places)
+        pub done : (new : List ℕ) → new ≡ hex_lines (take r.count answers ++ last_answer num) ++ drop (length (hex_lines (take r.count answers ++ last_answer num))) places
+            → (record { chip = after; next = r.next; count = size; number = num } ≡ replayed c due bytes places) × (new ≡ text_left c due bytes places)
         unfolding replayed text_left
         done new y =
             let enough = le-ltb (length places) (length (block_text c due bytes)) (rw size_text at k) in
             let chip : after ≡ advanced c (words_from due bytes) = u.0 ∙ ap (advanced c) words_read in
             rw (t, le-ltb 32 (length bytes / 512) h, enough) (
-              rw (chip, result, size_text),
+              rw (chip, numbered, size_text, result),
               y ∙ ap (λ (l : List ℕ). l ++ drop (length l) places) same_text,
             )

@@ -1,7 +1,7 @@
 -- A recording replayed: the answers to its blocks, and their text (document 02, Wish 1).
 use Rattle.std.specs.Prelude.{ℕ, ◌/◌, false, List, [], ◌∷◌, ◌++◌, eqb, ltb, length, drop}
 use Rattle.bits.specs.Byte.{pick}
-use Rattle.hex_digits.specs.Hex.{hex_line}
+unfoldable pub use Rattle.hex_digits.specs.Hex.{hex_lines}
 use Rattle.answers.specs.Answer.{answer_word}
 use Rattle.chip.specs.declared.Chip.{Chip}
 use Rattle.chip_well_formed.specs.WellFormed.{well_formed}
@@ -28,11 +28,6 @@ unfoldable pub block_answers : Chip → ℕ → List ℕ → List ℕ
 block_answers c due bytes = advanced_answers c (words_from due bytes) ++ last_answer (number_from due bytes)
 
 -- ---- text
-
--- a line for each answer
-unfoldable pub hex_lines : List ℕ → List ℕ
-hex_lines [] = []
-hex_lines (a ∷ rest) = hex_line a ++ hex_lines rest
 
 unfoldable pub block_text : Chip → ℕ → List ℕ → List ℕ
 block_text c due bytes = hex_lines (block_answers c due bytes)

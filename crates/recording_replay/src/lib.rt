@@ -1,13 +1,17 @@
 // A recording replayed: from its blocks to the text of the answers (document 02, Wish 1).
 #![tactic(auto)]
 
-ghost use Rattle.std.specs.Prelude.{◌≡◌, true, ◌+◌, ◌*◌, ◌≤◌, ◌++◌, length, take, drop};
+ghost use Rattle.std.specs.Prelude.{◌≡◌, true, ◌+◌, ◌*◌, ◌≤◌, ◌++◌, length, drop};
 ghost use Rattle.chip_well_formed.specs.WellFormed.{well_formed};
 ghost use Rattle.list_call.specs.Run.{advanced, advanced_answers};
-ghost use Rattle.hex_digits.specs.Hex.{hex_line};
+ghost use Rattle.recording_parts.specs.Recording.{number_at};
 ghost use Rattle.recording_replay.specs.Replay.{hex_lines, last_answer, replayed, text_left};
 
 use chip::Chip;
+use recording_blocks::BlockFault;
+
+// The bytes of a line.
+const LINE: usize = 9;
 
 // What a replay gives: the chip after the words, the number that is due next, the bytes of text written, and 0 or a number.
 #[derive(Clone, Copy)]
@@ -18,24 +22,13 @@ pub struct Replayed {
     pub number: u8,
 }
 
-// The line of an answer, at an index of the text.
-fn put_line(text: &mut [u8], at: usize, a: u32)
-    requires { at + 9 ≤ length text.old }
-    ensures { text.new ≡ take at text.old ++ (hex_line a ++ drop (at + 9) text.old) }
+// The number of what is wrong, 0 where nothing is.
+fn number_of(fault: Option<BlockFault>) -> u8
+    ensures { result ≡ number_at fault }
 {
-    let line = hex_digits::hex_line(a);
-    byte_copy::copy(&line, &mut text[at..]);
-}
-
-// The lines of answers, to the start of the text.
-fn put_lines(answers: &[u32], text: &mut [u8])
-    requires { 9 * length answers.now ≤ length text.old }
-    ensures { text.new ≡ hex_lines answers.now ++ drop (9 * length answers.now) text.old }
-{
-    let mut i = 0;
-    while i < answers.len() {
-        put_line(text, 9 * i, answers[i]);
-        i += 1;
+    match fault {
+        Some(fault) => fault.number(),
+        None => 0,
     }
 }
 
@@ -44,14 +37,13 @@ fn put_text(answers: &[u32], number: u8, text: &mut [u8])
     requires { length (hex_lines (answers.now ++ last_answer number)) ≤ length text.old }
     ensures { text.new ≡ hex_lines (answers.now ++ last_answer number) ++ drop (length (hex_lines (answers.now ++ last_answer number))) text.old }
 {
-    put_lines(answers, text);
+    hex_digits::put_lines(answers, text);
     if number == 0 {
         return;
     }
-    put_line(
-        text,
-        9 * answers.len(),
-        answers::answer(number, false, 0, 0),
+    hex_digits::put_lines(
+        &[answers::answer(number, false, 0, 0)],
+        &mut text[LINE * answers.len()..],
     );
 }
 
@@ -60,9 +52,7 @@ fn answer_words(start: Chip, words: &[u32], answers: &mut [u32]) -> Chip
     requires { (well_formed start ≡ true) × (length words.now ≤ length answers.old) }
     ensures { (result ≡ advanced start words.now) × (answers.new ≡ advanced_answers start words.now ++ drop (length words.now) answers.old) }
 {
-    let done = list_call::run(start, words, answers);
-    let after = done.chip;
-    after
+    list_call::run(start, words, answers).chip
 }
 
 // Places for the words of 32 blocks, or for their answers.
@@ -78,9 +68,9 @@ fn text_length(count: usize, number: u8) -> usize
     ensures { result ≡ 9 * (count + length (last_answer number)) }
 {
     if number == 0 {
-        9 * count
+        LINE * count
     } else {
-        9 * count + 9
+        LINE * count + LINE
     }
 }
 
@@ -102,7 +92,7 @@ pub fn replay_blocks(start: Chip, due: u32, bytes: &[u8], text: &mut [u8]) -> Re
         let mut words = places();
         let read = recording_parts::read_blocks(due, bytes, &mut words);
         let count = read.count;
-        let number = read.number;
+        let number = number_of(read.fault);
         let size = text_length(count, number);
         if text.len() < size {
             return Replayed {

@@ -14,8 +14,11 @@ use Rattle.recording_blocks.proofs.Words.{length_words}
 use Rattle.recording_parts.specs.Recording.{parts, joined, numbered, recording_of}
 use Rattle.recording_parts.proofs.Pieces.{joined_append, length_joined, length_parts, parts_append, parts_at_most}
 use Rattle.recording_parts.proofs.Round.{numbered_sized, length_numbered}
-use Rattle.recording_writer.specs.Written.{words_given, words_put, block_count, blocks_bytes, refused_write, blocks_written, blocks_put}
+use Rattle.recording_writer.specs.Written.{words_given, words_put, block_count, blocks_bytes, blocks_written, blocks_put}
 use Rattle.recording_writer.specs.declared.BlocksWritten.{BlocksWritten}
+use Rattle.std.specs.Prelude.{Result, Ok, Err, MatchResult}
+use Rattle.recording_blocks.specs.declared.WriteFault.{WriteFault}
+use Rattle.recording_blocks.specs.declared.WriteFault.TheVariants.{Numbers, Area}
 
 -- the blocks of all words, numbered from 0, are the recording
 pub whole : (ws : List ℕ) → blocks_bytes 0 ws ≡ recording_of ws
@@ -47,17 +50,25 @@ length_blocks number ws =
     ∙ ap (λ (m : ℕ). 512 * m) (length_numbered number (parts ws) ∙ length_parts ws)
 
 -- what is given back is within what was lent
-count_by : (t s : Bool) (number k : ℕ) (block area : List ℕ) → length block ≡ 512 * k
-    → (pick t (refused_write number 12) (pick s (refused_write number 17) (record { count = 512 * k; next = number + k; number = 0 }))).count
-    ≤ length (pick t area (pick s area (block ++ drop (512 * k) area)))
-count_by true s number k block area h = omega arith
-count_by false true number k block area h = omega arith
-count_by false false number k block area h = omega (arith, length-append block (drop (512 * k) area))
+count_by : (t s : Bool) (number k n : ℕ) (block area : List ℕ) (r : BlocksWritten) → length block ≡ 512 * k
+    → Ok r ≡ pick t (Err Numbers) (pick s (Err Area) (Ok (record { count = 512 * k; next = n })))
+    → r.count ≤ length (pick t area (pick s area (block ++ drop (512 * k) area)))
+count_by true s number k n block area r h e = cc
+count_by false true number k n block area r h e = cc
+count_by false false number k n block area r h e =
+    let same : r ≡ record { count = 512 * k; next = n } = cc in
+    omega (arith, ap (λ (x : BlocksWritten). x.count) same, length-append block (drop (512 * k) area))
 
-pub bytes_within : (number : ℕ) (ws area new : List ℕ) (r : BlocksWritten) → r ≡ blocks_written number ws area → new ≡ blocks_put number ws area → r.count ≤ length new
+pub bytes_within : (number : ℕ) (ws area new : List ℕ) (r : BlocksWritten) → Ok r ≡ blocks_written number ws area → new ≡ blocks_put number ws area → r.count ≤ length new
 unfolding blocks_written blocks_put
 bytes_within number ws area new r p q =
-    rw (p, q) (count_by (ltb 65536 (number + block_count ws)) (ltb (length area) (512 * block_count ws)) number (block_count ws) (blocks_bytes number ws) area (length_blocks number ws))
+    rw q (count_by (ltb 65536 (number + block_count ws)) (ltb (length area) (512 * block_count ws)) number (block_count ws) (number + block_count ws) (blocks_bytes number ws) area r (length_blocks number ws) p)
+
+-- none where it is refused
+pub size_within : (number : ℕ) (ws area new : List ℕ) (d : Result BlocksWritten WriteFault) (size : ℕ) → d ≡ blocks_written number ws area → new ≡ blocks_put number ws area
+    → MatchResult d (λ x. size ≡ x.count) (λ f. size ≡ 0) → size ≤ length new
+size_within number ws area new (Ok x) size p q m = omega (arith, m, bytes_within number ws area new x p q)
+size_within number ws area new (Err f) size p q m = omega (arith, m)
 
 words_by : (t : Bool) (bytes places : List ℕ) → pick t 0 (length bytes / 4) ≤ length (pick t places (words_of bytes ++ drop (length bytes / 4) places))
 words_by true bytes places = omega arith

@@ -1,4 +1,3 @@
-pub mod Words
 pub mod Room
 pub mod Writing
 pub mod Chunks

@@ -9,20 +9,17 @@ use native.Mathlib.Nat.{zero-min, suc-min-suc}
 use borrow.Author.Tests.{le-ltb, lt-ltb, eq-eqb}
 use lib.Dec.{ltb}
 use lib.ListN.{length, take, drop, length-append, length-take, length-drop, take-append-drop}
-use lib.Seq.{take_at, drop_at, drop-drop, take-nil, drop-nil, length-take-le}
+use lib.Seq.{take_at, drop_at, drop-drop, drop-nil, length-take-le}
 use Rattle.recording_blocks.specs.Block.{block_of, area_left}
 use Rattle.recording_blocks.proofs.Parts.{length_block}
 use Rattle.recording_parts.specs.Recording.{joined, numbered}
 use Rattle.recording_parts.proofs.Pieces.{parts_cons, parts_nil}
-use Rattle.recording_writer.specs.Written.{block_count, blocks_bytes, refused_write, blocks_written, blocks_put}
+use Rattle.recording_writer.specs.Written.{block_count, blocks_bytes, blocks_written, blocks_put}
+use Rattle.std.specs.Prelude.{Ok, Err}
+use Rattle.recording_blocks.specs.declared.WriteFault.TheVariants.{Numbers, Area}
 
--- a part that ends at the end of the list
-take_min : (n : ℕ) (xs : List ℕ) → take (min n (length xs)) xs ≡ take n xs
-take_min zero xs = rw (zero-min (length xs))
-take_min (suc n) [] = take-nil (min (suc n) 0)
-take_min (suc n) (x ∷ xs) = rw (suc-min-suc n (length xs)) (ap (λ (t : List ℕ). x ∷ t) (take_min n xs))
-
-drop_min : (n : ℕ) (xs : List ℕ) → drop (min n (length xs)) xs ≡ drop n xs
+-- what is left behind a part that ends at the end of the list
+pub drop_min : (n : ℕ) (xs : List ℕ) → drop (min n (length xs)) xs ≡ drop n xs
 drop_min zero xs = rw (zero-min (length xs))
 drop_min (suc n) [] = drop-nil (min (suc n) 0)
 drop_min (suc n) (x ∷ xs) = rw (suc-min-suc n (length xs)) (drop_min n xs)
@@ -57,14 +54,12 @@ module _ (first : ℕ) (ws old now : List ℕ) (next at put : ℕ) (d : Writing 
     pub fits : put + 512 ≤ length old
     fits = omega (arith, d.total)
 
-    pub more : (end : ℕ) → end ≡ min (at + 126) (length ws) → (part place : List ℕ) → part ≡ take (end - at) (drop at ws) → place ≡ take 512 (drop put now)
+    pub more : (end : ℕ) → end ≡ min (at + 126) (length ws) → (part place : List ℕ) → part ≡ take 126 (drop at ws) → place ≡ take 512 (drop put now)
         → (left new : List ℕ) → left ≡ area_left next part place → new ≡ take put now ++ (left ++ drop 512 (drop put now))
         → Writing first ws old new (next + 1) end (put + 512)
     unfolding area_left
     more end e part place p q left new u v =
-        let size-part : end - at ≡ min 126 (length (drop at ws)) = omega (arith, e, length-drop at ws) in
-        let words : part ≡ take 126 (drop at ws) =
-        p ∙ ap (λ (n : ℕ). take n (drop at ws)) size-part ∙ take_min 126 (drop at ws) in
+        let words = p in
         let short : length part ≤ 126 = omega (arith, ap length words, length-take 126 (drop at ws)) in
         let size : length place ≡ 512 = ap length q ∙ length-take-le 512 (drop put now) (omega (arith, length-drop put now, d.same, fits)) in
         let block = block_of next (take 126 (drop at ws)) in
@@ -92,7 +87,7 @@ module _ (first : ℕ) (ws old now : List ℕ) (next at put : ℕ) (d : Writing 
 
 -- what the writer gives and leaves
 module _ (number : ℕ) (ws area : List ℕ) (count : ℕ) (e : count ≡ block_count ws) where
-  pub gives_twelve : 65536 < number + count → (refused_write number 12 ≡ blocks_written number ws area) × (area ≡ blocks_put number ws area)
+  pub gives_twelve : 65536 < number + count → (Err Numbers ≡ blocks_written number ws area) × (area ≡ blocks_put number ws area)
   unfolding blocks_written blocks_put
   gives_twelve h = rw (lt-ltb 65536 (number + block_count ws) (omega (arith, e))) (refl, refl)
 
@@ -100,11 +95,11 @@ module _ (number : ℕ) (ws area : List ℕ) (count : ℕ) (e : count ≡ block_
     numbers : ltb 65536 (number + block_count ws) ≡ false
     numbers = le-ltb 65536 (number + block_count ws) (omega (arith, e))
 
-    pub gives_seventeen : length area < 512 * count → (refused_write number 17 ≡ blocks_written number ws area) × (area ≡ blocks_put number ws area)
+    pub gives_seventeen : length area < 512 * count → (Err Area ≡ blocks_written number ws area) × (area ≡ blocks_put number ws area)
     unfolding blocks_written blocks_put
     gives_seventeen k = rw (numbers, lt-ltb (length area) (512 * block_count ws) (omega (arith, e))) (refl, refl)
 
     pub wrote : 512 * count ≤ length area → (new : List ℕ) → new ≡ blocks_bytes number ws ++ drop (512 * block_count ws) area
-        → (record { count = 512 * count; next = number + count; number = 0 } ≡ blocks_written number ws area) × (new ≡ blocks_put number ws area)
+        → (Ok (record { count = 512 * count; next = number + count }) ≡ blocks_written number ws area) × (new ≡ blocks_put number ws area)
     unfolding blocks_written blocks_put
     wrote k new z = rw (numbers, le-ltb (length area) (512 * block_count ws) (omega (arith, e)), e) (refl, z)

@@ -1,7 +1,9 @@
 -- The writer of a recording: words from bytes, and blocks from words (document 02, Wish 1).
-use Rattle.std.specs.Prelude.{ℕ, ◌+◌, ◌*◌, ◌/◌, List, ◌++◌, ltb, length, drop}
+use Rattle.std.specs.Prelude.{ℕ, ◌+◌, ◌*◌, ◌/◌, List, ◌++◌, ltb, length, drop, Result, Ok, Err}
 use Rattle.bits.specs.Byte.{pick}
 use Rattle.recording_blocks.specs.Bytes.{words_of}
+use Rattle.recording_blocks.specs.declared.WriteFault.{WriteFault}
+use Rattle.recording_blocks.specs.declared.WriteFault.TheVariants.{Numbers, Area}
 use Rattle.recording_parts.specs.Recording.{parts, joined, numbered}
 use Rattle.recording_writer.specs.declared.BlocksWritten.{BlocksWritten}
 
@@ -25,18 +27,15 @@ block_count ws = (length ws + 125) / 126
 unfoldable pub blocks_bytes : ℕ → List ℕ → List ℕ
 blocks_bytes number ws = joined (numbered number (parts ws))
 
-abbrev pub refused_write : ℕ → ℕ → BlocksWritten
-refused_write next number = record { count = 0; next = next; number = number }
-
--- what is given back: 12 where a block would have a number above 65,535, then 17 for an area that is too short for the blocks;
--- else how many bytes they take, the number that is next, and 0
-unfoldable pub blocks_written : ℕ → List ℕ → List ℕ → BlocksWritten
+-- what is given back: the fault with the number 12 where a block would have a number above 65,535, then that with 17 for an area that is
+-- too short for the blocks; else how many bytes they take and the number that is next
+unfoldable pub blocks_written : ℕ → List ℕ → List ℕ → Result BlocksWritten WriteFault
 blocks_written number ws area =
     pick (ltb 65536 (number + block_count ws))
-    (refused_write number 12)
+    (Err Numbers)
     (pick (ltb (length area) (512 * block_count ws))
-    (refused_write number 17)
-    (record { count = 512 * block_count ws; next = number + block_count ws; number = 0 }))
+    (Err Area)
+    (Ok (record { count = 512 * block_count ws; next = number + block_count ws })))
 
 -- what is left in the area: the blocks and, past them, what was there; nothing is written where it is refused
 unfoldable pub blocks_put : ℕ → List ℕ → List ℕ → List ℕ

@@ -1,6 +1,5 @@
-pub mod Move
 pub mod Words
-pub mod Lines
 pub mod Some
+pub mod Progress
 pub mod Stream
 pub mod Parts

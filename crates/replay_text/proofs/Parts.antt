@@ -3,7 +3,7 @@
 use mathlib.Core.Path.{◌≡◌, refl, sym, ap, ap₂, ◌∙◌}
 use mathlib.Core.Bool.{Bool, true, false}
 use mathlib.Core.List.{List, [], ◌∷◌, ◌++◌, append-nil, append_assoc}
-use Prim.Native.Nat.{ℕ, zero, suc, ◌+◌, ◌-◌, ◌*◌, ◌/◌, ◌%◌, ◌<◌, ◌≤◌}
+use Prim.Native.Nat.{ℕ, ◌-◌, ◌*◌, ◌/◌, ◌%◌, ◌<◌, ◌≤◌}
 use native.Mathlib.Omega.{arith}
 use borrow.Author.Tests.{lt-ltb, le-ltb}
 use lib.Dec.{ltb}
@@ -15,7 +15,6 @@ use Rattle.list_call.specs.Run.{advanced, advanced_answers}
 use Rattle.replay_text.specs.declared.Part.{Part}
 use Rattle.recording_blocks.specs.Bytes.{words_of}
 use Rattle.replay_text.specs.Text.{hex_lines, words_text, replay_text, cut_word, parts_text, joined, part_answered, part_text, part_bytes}
-use Rattle.recording_blocks.proofs.Words.{length_words}
 use Rattle.replay_text.proofs.Words.{words_append}
 use Rattle.replay_text.proofs.Stream.{length_answered, text_whole, blocks}
 

@@ -15,12 +15,11 @@ use Rattle.list_call.specs.Run.{advanced, advanced_answers}
 use Rattle.list_call.proofs.Runs.{advanced_append, advanced_answers_append, length_advanced_answers}
 use Rattle.replay_text.specs.declared.Answered.{Answered}
 use Rattle.hex_digits.specs.Hex.{hex_line}
-use Rattle.hex_digits.proofs.Line.{length_line}
+use Rattle.hex_digits.proofs.Line.{length_line, length_lines, lines_append}
 use Rattle.recording_blocks.specs.Bytes.{words_of}
 use Rattle.replay_text.specs.Text.{hex_lines, left_over, left_over_answer, replay_text, answered, answered_text}
 use Rattle.recording_blocks.proofs.Words.{length_words}
 use Rattle.replay_text.proofs.Words.{words_append}
-use Rattle.replay_text.proofs.Lines.{length_lines, lines_append}
 
 -- the line for bytes left over, by how many they are
 length_left : (a n : ℕ) → n < 4 → length (pick (eqb n 0) [] (hex_line a)) ≡ 9 * ((n + 3) / 4)

@@ -1,21 +1,15 @@
 -- What `replay` prints for a stream of bytes (document 01, "Replay program and cases").
-use Rattle.std.specs.Prelude.{ℕ, ◌+◌, ◌*◌, ◌/◌, ◌%◌, false, List, [], ◌∷◌, ◌++◌, eqb, ltb, length, drop}
+use Rattle.std.specs.Prelude.{ℕ, ◌*◌, ◌/◌, ◌%◌, false, List, [], ◌∷◌, ◌++◌, eqb, ltb, length, drop}
 use Rattle.bits.specs.Byte.{pick}
 use Rattle.recording_blocks.specs.Bytes.{words_of}
 use Rattle.hex_digits.specs.Hex.{hex_line}
+unfoldable pub use Rattle.hex_digits.specs.Hex.{hex_lines}
 use Rattle.answers.specs.Answer.{answer_word}
 use Rattle.chip.specs.declared.Chip.{Chip}
 use Rattle.chip.specs.State.{requests}
 use Rattle.list_call.specs.Run.{advanced, advanced_answers}
 use Rattle.replay_text.specs.declared.Answered.{Answered}
 use Rattle.replay_text.specs.declared.Part.{Part}
-
--- ---- from answers to text
-
--- a line for each answer
-unfoldable pub hex_lines : List ℕ → List ℕ
-hex_lines [] = []
-hex_lines (a ∷ rest) = hex_line a ++ hex_lines rest
 
 -- ---- the stream
 

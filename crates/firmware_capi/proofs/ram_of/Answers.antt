@@ -6,4 +6,4 @@ use Rattle.state_area.proofs.Accepted.{copied_over}
 use Rattle.firmware_capi.proofs.ram_of.Goals as goal
 
 pub returns : goal.returns
-returns c = c.copy.ensures.1 ∙ copied_over _ _ (omega arith)
+returns c = (c.copy.ensures.fits (omega arith)).1 ∙ copied_over _ _ (omega arith)

@@ -36,4 +36,5 @@ returns c =
     let p = c.put_pieces-end.ensures in
     let few = c.if-tokens-gt16.false in
     let g = fits _ _ few _ _ p c.if-out-end.false refl in
-    (c.copy.ensures.0 ∙ g.0, c.copy.ensures.1 ∙ g.1)
+    let whole = c.copy.ensures.fits (search rules) in
+    (whole.0 ∙ g.0, whole.1 ∙ g.1)

@@ -2,7 +2,6 @@
 -- Assumes nothing.
 use mathlib.Core.Path.{refl, sym, ◌∙◌}
 use mathlib.Core.List.{append-nil}
-use Prim.Native.Nat.{◌-◌}
 use native.Mathlib.Omega.{arith}
 use Rattle.recording_blocks.specs.Bytes.{words_bytes}
 use Rattle.recording_blocks.specs.Block.{padded}
@@ -13,29 +12,11 @@ pub loop-i-init : goal.loop-i-init
 unfolding words_bytes
 loop-i-init c = record { within = omega arith; same = refl; written = sym (append-nil _); rest = refl }
 
-pub overflow_mul-i : goal.overflow_mul-i
-overflow_mul-i c = omega arith
-
-pub overflow_add-i : goal.overflow_add-i
-overflow_add-i c = omega arith
-
-pub put_four-requires : goal.put_four-requires
-put_four-requires c = omega (arith, c.loop-i.invariant.same)
-
-pub overflow_add-i-in-loop-i : goal.overflow_add-i-in-loop-i
-overflow_add-i-in-loop-i c = omega arith
-
-pub loop-i-smaller : goal.loop-i-smaller
-loop-i-smaller c = omega arith
-
 pub loop-i-preserved : goal.loop-i-preserved
 loop-i-preserved c =
     let words = c.args.words.now in
     put_more (padded words) _ _ c.loop-i.i _ c.loop-i.invariant c.loop-i-test.true (length_padded words c.requires.0) c.requires.1
     (c.word_or_zero.ensures ∙ padded_at words c.loop-i.i) _ c.put_four.ensures
-
-pub shape_of-area : goal.shape_of-area
-shape_of-area c = c.loop-i.invariant.same
 
 pub returns : goal.returns
 returns c = put_all _ _ _ c.loop-i.i c.loop-i.invariant c.loop-i-test.false (length_padded c.args.words.now c.requires.0)

@@ -1,11 +1,7 @@
 -- What the loop of `recording_blocks::put_words` keeps.
-use Prim.Native.Nat.{◌-◌}
 use Rattle.recording_blocks.specs.Block.{padded}
 use Rattle.recording_blocks.proofs.Loops.{Put}
 use Rattle.recording_blocks.proofs.put_words.Given as goal
 
 abbrev pub invariant-loop-i : goal.invariant-loop-i
 invariant-loop-i l = Put (padded l.words) l.initial.area l.area l.i
-
-abbrev pub decreases-loop-i : goal.decreases-loop-i
-decreases-loop-i l = 126 - l.i

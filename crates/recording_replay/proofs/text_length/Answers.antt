@@ -6,15 +6,6 @@ use lib.ListN.{length}
 use Rattle.recording_replay.proofs.Replaying.{no_last, one_last}
 use Rattle.recording_replay.proofs.text_length.Goals as goal
 
-pub overflow_mul-result : goal.overflow_mul-result
-overflow_mul-result c = omega arith
-
-pub overflow_mul-result-else-number-eq0 : goal.overflow_mul-result-else-number-eq0
-overflow_mul-result-else-number-eq0 c = omega arith
-
-pub overflow_add-result : goal.overflow_add-result
-overflow_add-result c = omega arith
-
 pub returns-then-number-eq0 : goal.returns-then-number-eq0
 returns-then-number-eq0 c = omega (arith, ap length (no_last c.args.number c.if-number-eq0.true))
 

@@ -7,4 +7,4 @@ pub returns-then-words-bytes : goal.returns-then-words-bytes
 returns-then-words-bytes c = too_few _ _ c.if-words-bytes.true
 
 pub returns : goal.returns
-returns c = enough _ _ _ c.if-words-bytes.false c.take_words.ensures
+returns c = enough _ _ _ c.if-words-bytes.false c.read_words.ensures

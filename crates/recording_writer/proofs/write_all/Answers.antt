@@ -1,60 +1,68 @@
 -- `recording_writer::write_all` meets its contract. The loop's invariant is `Writing`.
 -- Assumes nothing.
--- within the loop there is room for a block, and a number for it
-use mathlib.Core.Path.{◌≡◌, refl, ap}
-use Prim.Native.Nat.{ℕ, ◌+◌, ◌-◌, ◌<◌, ◌≤◌}
+use mathlib.Core.Path.{◌≡◌, refl, sym, ap, ◌∙◌}
+use mathlib.Core.List.{List, ◌++◌}
+use Prim.Native.Nat.{ℕ, ◌+◌, ◌-◌, ◌<◌, ◌≤◌, min}
 use native.Mathlib.Omega.{arith}
-use mathlib.Core.List.{◌++◌}
-use lib.ListN.{length, take, drop}
-use Rattle.recording_writer.proofs.Writing.{finished, fits, more}
+use borrow.Author.Rules.{rules}
+use lib.ListN.{length, take, drop, length-drop}
+use lib.Seq.{drop-drop}
+use Rattle.std.specs.Slice.Iter.{chunks_rest}
+use Rattle.list_laws.proofs.Place.{chunk_first}
+use Rattle.recording_writer.proofs.Writing.{finished, fits, more, drop_min}
 use Rattle.recording_writer.proofs.write_all.Goals as goal
 
-pub loop-at-init : goal.loop-at-init
-loop-at-init c = record { inside = omega arith; same = refl; counted = omega arith; total = omega arith; written = refl; rest = refl }
+pub loop-part-init : goal.loop-part-init
+loop-part-init c =
+    let all : chunks_rest c.into_iter-part-iterator.result ≡ c.args.words.now = ap chunks_rest c.into_iter-part-iterator.ensures.into_iter_gives ∙ c.chunks-part-items.ensures.rest in
+    (search rules, tt, search rules, 0, all, record { inside = omega arith; same = refl; counted = omega arith; total = omega arith; written = refl; rest = refl })
 
-pub end_of-end-requires : goal.end_of-end-requires
-end_of-end-requires c = omega arith
+-- within the loop there is a word left
+left : (ws rest : List ℕ) (at : ℕ) → 0 < length rest → rest ≡ drop at ws → at < length ws
+left ws rest at h e = omega (arith, ap length e, length-drop at ws)
 
 pub overflow_add-stop : goal.overflow_add-stop
-overflow_add-stop c = omega (arith, (fits _ _ _ _ _ _ _ c.loop-at.invariant c.requires.1 c.loop-at-test.true))
+overflow_add-stop c =
+    let i = c.loop-part.invariant in
+    omega (arith, fits _ _ _ _ _ _ _ i.5 c.requires.1 (left c.args.words.now _ i.3 c.in-Some.ensures.steps.1.2 i.4))
 
 pub overflow_cast-next : goal.overflow_cast-next
-overflow_cast-next c = omega (arith, c.loop-at.invariant.counted, c.requires.0, c.loop-at-test.true)
-
-pub slice_bounds-write_block-count : goal.slice_bounds-write_block-count
-slice_bounds-write_block-count c = omega (arith, c.end_of-end.ensures)
-
-pub slice_bounds-write_block-start : goal.slice_bounds-write_block-start
-slice_bounds-write_block-start c = omega (arith, c.end_of-end.ensures)
+overflow_cast-next c =
+    let i = c.loop-part.invariant in
+    omega (arith, i.5.counted, c.requires.0, left c.args.words.now _ i.3 c.in-Some.ensures.steps.1.2 i.4)
 
 pub slice_bounds-write_block-end : goal.slice_bounds-write_block-end
-slice_bounds-write_block-end c = omega (arith, c.end_of-end.ensures)
-
-pub slice_bounds-write_block-count-in-loop-at : goal.slice_bounds-write_block-count-in-loop-at
-slice_bounds-write_block-count-in-loop-at c = omega arith
-
-pub slice_bounds-write_block-start-in-loop-at : goal.slice_bounds-write_block-start-in-loop-at
-slice_bounds-write_block-start-in-loop-at c = omega arith
-
-pub slice_bounds-write_block-end-in-loop-at : goal.slice_bounds-write_block-end-in-loop-at
-slice_bounds-write_block-end-in-loop-at c = omega (arith, (fits _ _ _ _ _ _ _ c.loop-at.invariant c.requires.1 c.loop-at-test.true), c.loop-at.invariant.same)
+slice_bounds-write_block-end c =
+    let i = c.loop-part.invariant in
+    omega (arith, fits _ _ _ _ _ _ _ i.5 c.requires.1 (left c.args.words.now _ i.3 c.in-Some.ensures.steps.1.2 i.4), i.5.same)
 
 pub overflow_add-next : goal.overflow_add-next
-overflow_add-next c = omega (arith, c.loop-at.invariant.counted, c.requires.0, c.loop-at-test.true)
+overflow_add-next c =
+    let i = c.loop-part.invariant in
+    omega (arith, i.5.counted, c.requires.0, left c.args.words.now _ i.3 c.in-Some.ensures.steps.1.2 i.4)
 
-pub loop-at-smaller : goal.loop-at-smaller
-loop-at-smaller c = omega (arith, c.end_of-end.ensures)
-
-pub loop-at-preserved : goal.loop-at-preserved
-loop-at-preserved c =
-    let put = c.loop-at.put in
+pub loop-part-preserved : goal.loop-part-preserved
+loop-part-preserved c =
+    let i = c.loop-part.invariant in
+    let at = i.3 in
+    let ws = c.args.words.now in
+    let put = c.loop-part.put in
+    let steps = c.in-Some.ensures.steps in
+    let cut = chunk_first 126 _ _ _ steps.1.0 (rw i.2 at steps.1.1) in
+    let end = min (at + 126) (length ws) in
     let same : put + 512 - put ≡ 512 = omega arith in
-    more _ c.args.words.now c.args.area.now c.loop-at.area _ c.loop-at.at put c.loop-at.invariant c.requires.1 c.loop-at-test.true
-    _ c.end_of-end.ensures _ _ refl (ap (λ (n : ℕ). take n (drop put c.loop-at.area)) same) _ _ c.write_block.ensures.1
-    (ap (λ (n : ℕ). take put c.loop-at.area ++ (c.write_block.new.area ++ drop n (drop put c.loop-at.area))) same)
-
-pub shape_of-area : goal.shape_of-area
-shape_of-area c = c.loop-at.invariant.same
+    let rest = cut.1 ∙ ap (drop 126) i.4 ∙ drop-drop 126 at ws ∙ sym (drop_min (at + 126) ws) in (
+      search rules,
+      tt,
+      steps.0 ∙ i.2,
+      end,
+      rest,
+      more _ ws c.args.area.now c.loop-part.area _ at put i.5 c.requires.1 (left ws _ at steps.1.2 i.4) end refl _ _ (cut.0 ∙ ap (take 126) i.4)
+          (ap (λ (n : ℕ). take n (drop put c.loop-part.area)) same) _ _ c.write_block.ensures.1
+          (ap (λ (n : ℕ). take put c.loop-part.area ++ (c.write_block.new.area ++ drop n (drop put c.loop-part.area))) same),
+    )
 
 pub returns : goal.returns
-returns c = finished _ _ _ _ _ _ _ c.loop-at.invariant c.requires.1 c.loop-at-test.false
+returns c =
+    let i = c.loop-part.invariant in
+    finished _ _ _ _ _ _ _ i.5 c.requires.1 (omega (arith, c.in-None.ensures.steps.1.0, ap length i.4, length-drop i.3 c.args.words.now))

@@ -1,44 +1,39 @@
 -- `recording_writer::write_blocks` meets its contract.
 -- Assumes nothing.
--- the blocks that so many words take, as the code counts them
-use Prim.Native.Nat.{ℕ, ◌+◌, ◌/◌, ◌%◌}
+use mathlib.Core.Path.{◌≡◌, ap, ◌∙◌}
 use native.Mathlib.Omega.{arith}
+use Prim.Native.Nat.{ℕ, ◌+◌, ◌*◌, ◌/◌}
 use lib.ListN.{length}
+use Rattle.std.specs.Prelude.{Result, Ok}
+use Rattle.std.specs.Int.{div_ceil}
+use Rattle.recording_blocks.specs.declared.WriteFault.{WriteFault}
+use Rattle.recording_writer.specs.declared.BlocksWritten.{BlocksWritten}
 use Rattle.recording_writer.proofs.Writing.{gives_twelve, gives_seventeen, wrote}
 use Rattle.recording_writer.proofs.write_blocks.Goals as goal
 
-abbrev blocks : ℕ → ℕ
-blocks n = n / 126 + (n % 126 + 125) / 126
+abbrev given : ℕ → ℕ → Result BlocksWritten WriteFault
+given count next = Ok (record { count = 512 * count; next = next })
 
-pub overflow_add-count : goal.overflow_add-count
-overflow_add-count c = omega arith
+-- the blocks that so many words take, as the code counts them
+counted : (n : ℕ) → div_ceil n 126 ≡ (n + 125) / 126
+counted n = omega arith
 
-pub overflow_add-count-2 : goal.overflow_add-count-2
-overflow_add-count-2 c = omega arith
-
-pub overflow_add-next : goal.overflow_add-next
-overflow_add-next c = omega arith
-
-pub overflow_mul-count : goal.overflow_mul-count
-overflow_mul-count c = omega arith
+pub returns-then-next-gt-NUMBERS : goal.returns-then-next-gt-NUMBERS
+returns-then-next-gt-NUMBERS c =
+    gives_twelve _ _ _ c.div_ceil-count.result (c.div_ceil-count.ensures ∙ counted (length c.args.words.now)) (omega (arith, c.from.ensures))
 
 pub returns-then-area-count : goal.returns-then-area-count
-returns-then-area-count c = gives_seventeen c.args.first c.args.words.now c.args.area.now (blocks (length c.args.words.now)) (omega arith) c.if-next-le65536.true c.if-area-count.true
+returns-then-area-count c =
+    gives_seventeen _ _ _ c.div_ceil-count.result (c.div_ceil-count.ensures ∙ counted (length c.args.words.now)) (omega (arith, c.from.ensures)) c.if-area-count.true
 
 pub write_all-requires : goal.write_all-requires
-write_all-requires c = omega arith
+write_all-requires c =
+    let e = c.div_ceil-count.ensures ∙ counted (length c.args.words.now) in
+    (omega (arith, e, c.from.ensures), omega (arith, e))
 
-pub overflow_mul-result : goal.overflow_mul-result
-overflow_mul-result c = omega arith
-
-pub overflow_cast-result : goal.overflow_cast-result
-overflow_cast-result c = omega arith
-
-pub returns-then-next-le65536 : goal.returns-then-next-le65536
-returns-then-next-le65536 c = wrote c.args.first c.args.words.now c.args.area.now (blocks (length c.args.words.now)) (omega arith) c.if-next-le65536.true c.if-area-count.false _ c.write_all.ensures
-
-pub returns-else-next-le65536 : goal.returns-else-next-le65536
-returns-else-next-le65536 c = gives_twelve c.args.first c.args.words.now c.args.area.now (blocks (length c.args.words.now)) (omega arith) c.if-next-le65536.false
-
-pub returns-else-count-le65536 : goal.returns-else-count-le65536
-returns-else-count-le65536 c = gives_twelve c.args.first c.args.words.now c.args.area.now (blocks (length c.args.words.now)) (omega arith) (omega arith)
+pub returns : goal.returns
+returns c =
+    let same : c.from.result ≡ c.args.first = c.from.ensures in
+    let count = c.div_ceil-count.result in
+    let done = wrote _ _ _ c.div_ceil-count.result (c.div_ceil-count.ensures ∙ counted (length c.args.words.now)) (omega (arith, same)) c.if-area-count.false _ c.write_all.ensures in
+    (ap (λ (m : ℕ). given count (m + count)) same ∙ done.0, done.1)

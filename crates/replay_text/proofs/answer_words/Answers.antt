@@ -1,52 +1,46 @@
 -- `replay_text::answer_words` meets its contract. The loop's invariant is `Progress`.
 -- Assumes nothing.
-use mathlib.Core.Path.{◌≡◌, subst}
-use mathlib.Core.List.{◌++◌}
-use Prim.Native.Nat.{ℕ, ◌*◌, ◌-◌, ◌≤◌}
+use mathlib.Core.Path.{◌≡◌, ap, ◌∙◌}
 use native.Mathlib.Omega.{arith}
-use lib.ListN.{length, drop}
-use Rattle.list_call.specs.Run.{advanced, advanced_answers}
+use borrow.Author.Rules.{rules}
+use mathlib.Core.List.{List, ◌++◌}
+use lib.ListN.{length, take, drop}
+use Prim.Native.Nat.{ℕ, ◌*◌, ◌/◌}
+use Rattle.list_call.specs.Run.{advanced_answers}
 use Rattle.recording_blocks.specs.Bytes.{words_of}
 use Rattle.replay_text.specs.Text.{hex_lines}
-use Rattle.recording_blocks.proofs.Words.{length_words}
-use Rattle.replay_text.proofs.Lines.{no_word, length_kept, words_more, words_all}
+use Rattle.std.specs.Slice.Iter.{chunks_rest}
+use Rattle.std.proofs.lemmas.List.{nil_from_length}
+use Rattle.list_laws.proofs.Place.{put_tail, tail_all}
+use Rattle.replay_text.proofs.Progress.{begun, fits, next, ended}
 use Rattle.replay_text.proofs.answer_words.Goals as goal
 
-pub loop-i-init : goal.loop-i-init
-loop-i-init c = no_word (words_of c.args.bytes.now) c.args.text.now c.args.start (omega (arith, length_words c.args.bytes.now, c.requires))
-
-pub overflow_sub-bytes : goal.overflow_sub-bytes
-overflow_sub-bytes c = omega arith
+pub loop-part-init : goal.loop-part-init
+loop-part-init c =
+    let all : chunks_rest c.into_iter-part-iterator.result ≡ c.args.bytes.now = ap chunks_rest c.into_iter-part-iterator.ensures.into_iter_gives ∙ c.chunks-part-items.ensures.rest in
+    (search rules, tt, search rules, rw all (begun _ _ _ c.requires))
 
 pub answer_some-c-requires : goal.answer_some-c-requires
 answer_some-c-requires c =
-    let some = c.at_a_time-count.ensures in (
-      some.0,
-      (
-        omega (arith, some.1.0),
-        omega (arith, some.1.0, c.requires, length_kept _ _ _ (omega (arith, length_words c.args.bytes.now, c.requires)) _ _ _ c.loop-i.invariant),
-      ),
-    )
+    let now = c.loop-part.text in
+    let at = c.loop-part.at in
+    let steps = c.in-Some.ensures.steps in
+    let cut = rw c.loop-part.invariant.2 at steps.1.1 in
+    (omega (arith, cut), omega (arith, fits _ _ _ c.requires _ _ _ _ c.loop-part.invariant.3 _ _ steps.1.0 cut, ap length (tail_all now at)))
 
-pub overflow_add-i : goal.overflow_add-i
-overflow_add-i c = omega (arith, c.at_a_time-count.ensures.1.0)
-
-pub loop-i-smaller : goal.loop-i-smaller
-loop-i-smaller c =
-    let some = c.at_a_time-count.ensures in
-    omega (arith, some.1.0, some.1.1 (omega arith))
-
-pub loop-i-preserved : goal.loop-i-preserved
-loop-i-preserved c =
-    let done = c.answer_some-c.ensures in
-    words_more _ _ _ (omega (arith, length_words c.args.bytes.now, c.requires)) _ _ _ c.loop-i.invariant _ (omega (arith, length_words c.args.bytes.now, c.at_a_time-count.ensures.1.0)) _ done.0 _ done.1
-
-pub shape_of-text : goal.shape_of-text
-shape_of-text c = length_kept _ _ _ (omega (arith, length_words c.args.bytes.now, c.requires)) _ _ _ c.loop-i.invariant
+pub loop-part-preserved : goal.loop-part-preserved
+loop-part-preserved c =
+    let d = c.loop-part.invariant.3 in
+    let size = c.loop-part.invariant.2 in
+    let steps = c.in-Some.ensures.steps in
+    let cut = rw size at steps.1.1 in
+    let now = c.loop-part.text in
+    let at = c.loop-part.at in
+    let lines = hex_lines (advanced_answers c.loop-part.c (words_of c.in-Some.part.now)) in
+    let put = put_tail now _ at
+    ∙ ap (λ (l : List ℕ). take at now ++ l)
+    (c.answer_some-c.ensures.1 ∙ ap (λ (l : List ℕ). lines ++ drop (9 * (length c.in-Some.part.now / 4)) l) (tail_all now at)) in
+    (search rules, tt, steps.0 ∙ size, next _ _ _ c.requires _ _ _ _ d _ _ steps.1.0 cut _ c.answer_some-c.ensures.0 _ put)
 
 pub returns : goal.returns
-returns c =
-    let n = length_words c.args.bytes.now in
-    subst (λ (k : ℕ). (c.loop-i.c ≡ advanced c.args.start (words_of c.args.bytes.now))
-    × (c.loop-i.text ≡ hex_lines (advanced_answers c.args.start (words_of c.args.bytes.now)) ++ drop (9 * k) c.args.text.now)) n
-    (words_all _ _ _ (omega (arith, length_words c.args.bytes.now, c.requires)) _ _ _ c.loop-i.invariant (omega (arith, n)))
+returns c = ended _ _ _ c.requires _ _ _ _ c.loop-part.invariant.3 (nil_from_length _ c.in-None.ensures.steps.1.0)

@@ -1,12 +1,12 @@
 -- What the loop of `replay_text::answer_words` keeps.
-use Prim.Native.Nat.{◌/◌, ◌-◌}
-use lib.ListN.{length}
-use Rattle.recording_blocks.specs.Bytes.{words_of}
-use Rattle.replay_text.proofs.Lines.{Progress}
+use mathlib.Core.Path.{◌≡◌}
+use Rattle.std.specs.Slice.Iter.{chunks_rest, chunks_size}
+use Rattle.replay_text.proofs.Progress.{Progress}
 use Rattle.replay_text.proofs.answer_words.Given as goal
 
-abbrev pub invariant-loop-i : goal.invariant-loop-i
-invariant-loop-i l = Progress (words_of l.bytes) l.initial.text l.initial.c l.text l.c l.i
-
-abbrev pub decreases-loop-i : goal.decreases-loop-i
-decreases-loop-i l = length l.bytes / 4 - l.i
+abbrev pub invariant-loop-part : goal.invariant-loop-part
+invariant-loop-part l =
+    goal.iterator-loop-part.can_next l.part-iterator
+    × goal.iterator-loop-part.is_finite l.part-iterator
+    × (chunks_size l.part-iterator ≡ 4096)
+    × Progress l.bytes l.initial.text l.initial.c (chunks_rest l.part-iterator) l.text l.c l.at

@@ -12,10 +12,6 @@ pub core_bytes-front-requires : goal.core_bytes-front-requires
 unfolding bytes_of
 core_bytes-front-requires c = search rules
 
-pub copy-requires : goal.copy-requires
-unfolding bytes_of
-copy-requires c = search rules
-
 pub put_at-requires : goal.put_at-requires
 unfolding bytes_of
 put_at-requires c =
@@ -28,4 +24,4 @@ unfolding bytes_of
 returns c =
     let r : length c.args.c.registers ≡ 38 = search rules in
     c.put_at.ensures
-    ∙ laid_out c.args.c.core _ _ c.args.c.registers c.core_bytes-front.ensures r c.copy.ensures.1
+    ∙ laid_out c.args.c.core _ _ c.args.c.registers c.core_bytes-front.ensures r (c.copy.ensures.fits (search rules)).1

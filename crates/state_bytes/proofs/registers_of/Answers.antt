@@ -6,4 +6,4 @@ use Rattle.state_bytes.proofs.Laid.{end_copied}
 use Rattle.state_bytes.proofs.registers_of.Goals as goal
 
 pub returns : goal.returns
-returns c = c.copy.ensures.1 ∙ end_copied c.args.area.now _ 90 (omega arith) (omega arith)
+returns c = (c.copy.ensures.fits (omega arith)).1 ∙ end_copied c.args.area.now _ 90 (omega arith) (omega arith)

@@ -8,4 +8,4 @@ use Rattle.wave_write.proofs.begin_all.Goals as goal
 
 pub returns : goal.returns
 unfolding header_text
-returns c = begin_wrote _ _ _ _ (omega (arith, c.requires)) refl c.copy.ensures.1 c.begin_lines.ensures
+returns c = begin_wrote _ _ _ _ (omega (arith, c.requires)) refl (c.copy.ensures.fits (omega (arith, c.requires))).1 c.begin_lines.ensures
