@@ -2,7 +2,6 @@
 #![tactic(auto)]
 
 ghost use Rattle.std.specs.Prelude.{◌≡◌, true, false, ℕ, ◌<◌, ◌≤◌, ◌+◌, ◌-◌, ◌*◌, ◌/◌, List, [], ◌∷◌, length, take, drop, get_or};
-ghost use Rattle.vcd_text.specs.declared.Number.TheVariants.{Of};
 ghost use Rattle.vcd_text.specs.Token.{tokens, white_length, word_length, decimal_of};
 ghost use Rattle.vcd_codes.specs.Codes.{Found, variables, find, meant};
 ghost use Rattle.vcd_steps.specs.Steps.{item_step, ends_as, meaning};
@@ -267,7 +266,7 @@ fn long(b: u8) -> u64
 // The number that a word is, looked at once.
 fn read_digits(text: &[u8], from: usize) -> Digits
     requires { from ≤ length text.now }
-    ensures { (from ≤ result.end) × (from < result.end → (result.end ≡ from + word_length (drop from text.now)) × (decimal_of (take (result.end - from) (drop from text.now)) ≡ Of result.value)) }
+    ensures { (from ≤ result.end) × (from < result.end → (result.end ≡ from + word_length (drop from text.now)) × (decimal_of (take (result.end - from) (drop from text.now)) ≡ Ok result.value)) }
 {
     let mut i = from;
     let mut v: u64 = 0;

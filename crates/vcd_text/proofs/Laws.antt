@@ -9,6 +9,7 @@ use mathlib.Core.Path.{◌≡◌, refl, ap, ◌∙◌}
 use mathlib.Core.List.{List, [], ◌∷◌}
 use Prim.Native.Nat.{ℕ, suc, ◌+◌, ◌-◌, ◌<◌, ◌≤◌}
 use native.Mathlib.Omega.{arith}
+use native.Mathlib.Numerals.{add-one}
 use lib.ListN.{length, take, drop, get_or, length-take, length-drop, drop_of_length-le}
 use lib.Seq.{drop-cons, drop-drop, get_or-drop, take_all}
 use lib.Dec.{eqb}
@@ -38,6 +39,28 @@ word_run (b ∷ rest) = word_run_step b rest (white b) (word_run rest)
         → cond (not w) (1 + prefix_len (λ c. not (white c)) rest) 0 ≡ pick w 0 (suc (word_length rest))
     word_run_step b rest true e = refl
     word_run_step b rest false e = omega (arith, e)
+
+-- a byte more, for those who read byte by byte
+module _ (text : List ℕ) (i : ℕ) (h : i < length text) where
+  pub blank_more : white (get_or text i 0) ≡ true → (i + 1) + white_length (drop (i + 1) text) ≡ i + white_length (drop i text)
+  unfolding white_length
+  blank_more w = rw (drop-cons text i 0 h, add-one) (simp w (omega arith))
+
+  pub blank_stop : white (get_or text i 0) ≡ false → i ≡ i + white_length (drop i text)
+  unfolding white_length
+  blank_stop w = rw (drop-cons text i 0 h) (simp w (omega arith))
+
+  pub word_more : white (get_or text i 0) ≡ false → (i + 1) + word_length (drop (i + 1) text) ≡ i + word_length (drop i text)
+  unfolding word_length
+  word_more w = rw (drop-cons text i 0 h, add-one) (simp w (omega arith))
+
+  pub word_stops : white (get_or text i 0) ≡ true → i ≡ i + word_length (drop i text)
+  unfolding word_length
+  word_stops w = rw (drop-cons text i 0 h) (simp w (omega arith))
+
+pub word_ends : (text : List ℕ) (i : ℕ) → length text ≤ i → i ≡ i + word_length (drop i text)
+unfolding word_length
+word_ends text i h = rw (drop_of_length-le text {i = i} h) (omega arith)
 
 -- ---- equal texts
 
