@@ -10,7 +10,6 @@ use std::io::{Error, ErrorKind, Print, Read, Seek, SeekFrom};
 use std::process::ExitCode;
 use std::rt::{Env, Files};
 use std::{io, str};
-use vcd_text::Number;
 
 // A place in a list: the line that is being read, the byte of the block to be read next, how many bytes the block has, whether it is the last
 // one, and whether the read of it failed.
@@ -79,10 +78,8 @@ pub fn is_trace_asked<E: Env>(rt: &E) -> bool {
 
 // COUNT, where the text is a decimal number below 2^32.
 fn count_of(text: &[u8]) -> Option<u32> {
-    match vcd_text::decimal(text) {
-        Number::Bad | Number::Big => None,
-        Number::Of(v) => u32::try_from(v).ok(),
-    }
+    let count = vcd_text::decimal(text).ok()?;
+    u32::try_from(count).ok()
 }
 
 // COUNT of argument `at`; where it is not one, that is told.

@@ -1,33 +1,33 @@
 -- The table with one variable more.
 -- Assumes nothing.
-use mathlib.Core.Bool.{Bool, true, false}
-use mathlib.Core.Path.{◌≡◌, refl, sym, ap, ◌∙◌}
+use mathlib.Core.Bool.{Bool, true, false, ◌||◌}
+use Rattle.std.specs.List.{list_any}
+use mathlib.Core.Path.{◌≡◌, refl, ap, ◌∙◌}
 use mathlib.Core.List.{List, [], ◌∷◌, ◌++◌}
 use Prim.Native.Nat.{ℕ, zero, suc, ◌+◌, ◌-◌, ◌*◌, ◌<◌, ◌≤◌}
 use native.Mathlib.Omega.{arith}
 use native.Mathlib.Numerals.{add-one}
 use lib.ListN.{length, take, drop, get_or, set, length-set}
-use lib.Seq.{get_or-set_same, get_or-set_other}
-use lib.Dec.{eqb, ltb}
-use borrow.Author.Tests.{eq-eqb, ne_eqb, lt-ltb}
+use lib.Seq.{drop-cons, get_or-set_same, get_or-set_other}
+use lib.Dec.{eqb}
 use Rattle.bits.specs.Byte.{pick}
 use Rattle.vcd_codes.specs.Codes.{Variable, code_at, variables}
 use Rattle.vcd.specs.Header.{taken}
 
 -- ---- a pin among the variables
 
-module _ (text places pins : List ℕ) (pin n k : ℕ) where
-  pub taken_more : k < n → (get_or pins k 0 ≡ pin → ⊥) → taken (variables text places pins (k + 1) (n - (k + 1))) pin ≡ taken (variables text places pins k (n - k)) pin
-  unfolding taken variables
-  taken_more h e = let z : n - k ≡ suc (n - (k + 1)) = omega arith in rw z (simp (ne_eqb _ _ e))
+any_step : (q : Bool) {f g : Bool} → f ≡ g → (q || f) ≡ pick q true g
+any_step true e = refl
+any_step false e = e
 
-  pub taken_here : k < n → get_or pins k 0 ≡ pin → true ≡ taken (variables text places pins k (n - k)) pin
-  unfolding taken variables
-  taken_here h e = let z : n - k ≡ suc (n - (k + 1)) = omega arith in rw z (simp (eq-eqb _ _ e))
+any_from : (text places pins : List ℕ) (pin k n : ℕ) → k + n ≤ length pins → list_any (λ p. eqb p pin) (take n (drop k pins)) ≡ taken (variables text places pins k n) pin
+unfolding taken variables
+any_from text places pins pin k zero h = refl
+any_from text places pins pin k (suc n) h =
+    rw (drop-cons pins k 0 (let l : k < length pins = omega arith in l), ← (add-one k)) (any_step (eqb (get_or pins k 0) pin) (any_from text places pins pin (k + 1) n (omega arith)))
 
-  pub taken_end : n ≤ k → false ≡ taken (variables text places pins k (n - k)) pin
-  unfolding taken variables
-  taken_end h = let z : n - k ≡ 0 = omega arith in rw z refl
+pub taken_any : (text places pins : List ℕ) (pin n : ℕ) → n ≤ length pins → list_any (λ p. eqb p pin) (take n pins) ≡ taken (variables text places pins 0 n) pin
+taken_any text places pins pin n h = any_from text places pins pin 0 n (omega arith)
 
 -- ---- a table with one entry more
 

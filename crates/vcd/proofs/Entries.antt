@@ -1,13 +1,14 @@
 -- A token of the header leaves the number of declared variables as it is.
 -- Assumes nothing.
 use mathlib.Core.Bool.{Bool, true, false}
-use mathlib.Core.Path.{◌≡◌, refl, sym, ap, ◌∙◌}
-use mathlib.Core.List.{List, [], ◌∷◌}
+use mathlib.Core.Path.{◌≡◌, refl}
+use mathlib.Core.List.{List}
 use Prim.Native.Nat.{ℕ}
 use lib.Dec.{eqb, ltb}
 use Rattle.bits.specs.Byte.{pick}
-use Rattle.vcd_text.specs.declared.Number.{Number}
-use Rattle.vcd_text.specs.declared.Number.TheVariants.{Bad, Big, Of}
+use Rattle.vcd_text.specs.Token.{Number}
+use Rattle.vcd_text.specs.declared.NumberError.TheVariants.{Bad, Big}
+use Rattle.std.specs.Prelude.{Ok, Err}
 use Rattle.vcd_text.specs.Token.{same_bytes, end_word, decimal_of}
 use Rattle.vcd_codes.specs.Codes.{variables}
 use Rattle.vcd_keywords.specs.declared.Keyword.{Keyword}
@@ -43,9 +44,9 @@ type_keeps Neither h = refl
 
 size_keeps : (n : Number) (h : Head) → (size_as n h).entries ≡ h.entries
 unfolding size_as
-size_keeps Bad h = refl
-size_keeps Big h = refl
-size_keeps (Of n) h = refl
+size_keeps (Err Bad) h = refl
+size_keeps (Err Big) h = refl
+size_keeps (Ok n) h = refl
 
 whole_keeps : (h : Head) → (whole_step h).entries ≡ h.entries
 unfolding whole_step

@@ -1,13 +1,12 @@
 -- The tokens of the header one after the other.
 -- Assumes nothing.
-use mathlib.Core.Bool.{Bool, true, false}
-use mathlib.Core.Path.{◌≡◌, refl, sym, ap, ◌∙◌}
-use mathlib.Core.List.{List, [], ◌∷◌}
+use mathlib.Core.Bool.{true, false}
+use mathlib.Core.Path.{◌≡◌, refl}
+use mathlib.Core.List.{List}
 use Prim.Native.Nat.{ℕ, ◌+◌, ◌-◌, ◌<◌, ◌≤◌}
 use native.Mathlib.Omega.{arith}
 use lib.ListN.{length, take, drop, length-take, length-drop, drop_of_length-le}
-use Rattle.bits.specs.Byte.{pick}
-use Rattle.vcd_text.specs.Token.{Token, tokens, white_length, word_length}
+use Rattle.vcd_text.specs.Token.{tokens, white_length, word_length}
 use Rattle.vcd_text.proofs.Laws.{no_token_lem, next_token, word_some, word_within}
 use Rattle.vcd_codes.specs.Codes.{variables}
 use Rattle.vcd_header.specs.declared.Head.{Head}

@@ -1,11 +1,11 @@
 -- A dump as a trace, and what a call makes of it (Wish 10).
-use Rattle.std.specs.Prelude.{ℕ, Bool, true, false, List, [], ◌∷◌, length, drop, ltb}
+use Rattle.std.specs.Prelude.{ℕ, false, List, drop, ltb}
 use Rattle.bits.specs.Byte.{pick}
 use Rattle.vcd_text.specs.Token.{Token, tokens}
 use Rattle.vcd_codes.specs.Codes.{find}
 use Rattle.vcd_body.specs.declared.Cursor.{Cursor}
 use Rattle.vcd_body.specs.Trace.{Trace, stopped, body}
-use Rattle.vcd_body.specs.Pieces.{Answer, answer, closed, fresh_state, start, pieces}
+use Rattle.vcd_body.specs.Pieces.{Answer, answer, closed, fresh_state, pieces}
 use Rattle.vcd.specs.Header.{Heading, header_of}
 
 -- ---- the trace that a file is

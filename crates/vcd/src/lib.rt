@@ -20,14 +20,7 @@ fn is_taken(pins: &[u8], entries: usize, pin: u8) -> bool
     requires { entries ≤ length pins.now }
     ensures { (text places : List ℕ) → result ≡ taken (variables text places pins.now 0 entries) pin }
 {
-    let mut k = 0;
-    while k < entries {
-        if pins[k] == pin {
-            return true;
-        }
-        k += 1;
-    }
-    false
+    pins[..entries].iter().any(|p| *p == pin)
 }
 
 // The pin of a variable; 0 where another has it.
@@ -45,10 +38,7 @@ fn one_more(h: Head) -> Head
     requires { h.entries ≤ 32 }
     ensures { result ≡ one_more h }
 {
-    let unit = h.unit;
-    let close = h.close;
-    let section = h.section;
-    let none = Pending {
+    let variable = Pending {
         from: 0,
         to: 0,
         index: 0,
@@ -57,34 +47,21 @@ fn one_more(h: Head) -> Head
         whole: false,
     };
     Head {
-        mark: h.mark,
         entries: h.entries + 1,
-        unit: unit,
-        variable: none,
-        close: close,
-        section: section,
+        variable,
+        ..h
     }
 }
 
 fn too_many(h: Head) -> Head
     ensures { result ≡ stops_at h 42 h.mark }
 {
-    let unit = h.unit;
-    let variable = h.variable;
-    let section = h.section;
     let close = Close {
         place: h.mark,
         number: 42,
         stop: true,
     };
-    Head {
-        mark: h.mark,
-        entries: h.entries,
-        unit: unit,
-        variable: variable,
-        close: close,
-        section: section,
-    }
+    Head { close, ..h }
 }
 
 // A whole $var.
@@ -148,32 +125,23 @@ fn read_header(text: &[u8], places: &mut [usize], pins: &mut [u8]) -> Head
 
 // ---- calls
 
-fn most(a: usize, b: usize) -> usize
-    ensures { result ≡ pick (ltb a b) b a }
-{
-    if a < b { b } else { a }
-}
-
 fn refused(close: Close) -> Piece
     ensures { result ≡ closed 0 close.number close.place }
 {
-    let next = vcd_body::start();
     Piece {
         count: 0,
         place: close.place,
         number: close.number,
-        next: next,
+        next: vcd_body::start(),
     }
 }
 
 fn body_from(from: Cursor, place: usize) -> Cursor
     ensures { result ≡ cursor (pick (ltb from.at place) place from.at) from.done from.state }
 {
-    let state = from.state;
     Cursor {
-        at: most(from.at, place),
-        done: from.done,
-        state: state,
+        at: from.at.max(place),
+        ..from
     }
 }
 

@@ -1,7 +1,7 @@
 -- The tables, entry by entry.
 -- Assumes nothing.
 use mathlib.Core.Bool.{Bool, true, false}
-use mathlib.Core.Path.{◌≡◌, refl, sym, ap, ◌∙◌}
+use mathlib.Core.Path.{◌≡◌, refl, ◌∙◌}
 use mathlib.Core.List.{List, [], ◌∷◌}
 use Prim.Native.Nat.{ℕ, ◌+◌, ◌<◌}
 use native.Mathlib.Omega.{arith}
@@ -12,7 +12,7 @@ use borrow.Author.Tests.{eqb-true, eqb-false}
 use Rattle.bits.specs.Byte.{pick}
 use Rattle.vcd_text.specs.Token.{same_bytes}
 use Rattle.vcd_codes.specs.Codes.{Found, code_at, variables, find, meant}
-use Rattle.vcd_body.specs.Tables.{Singles, Lists, Tables}
+use Rattle.vcd_body.specs.Tables.{Singles, Lists}
 
 -- a table of n entries with one more
 entry_by : (table : List ℕ) (n v b : ℕ) (target : ℕ → Found) (q : Bool) → eqb b n ≡ q → n < length table → meant v ≡ target n → b < n + 1

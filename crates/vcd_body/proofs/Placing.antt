@@ -1,18 +1,18 @@
 -- The words of a token's events.
 -- Assumes nothing.
 use mathlib.Core.Bool.{Bool, true, false}
-use mathlib.Core.Path.{◌≡◌, refl, sym, ap, ◌∙◌}
+use mathlib.Core.Path.{◌≡◌, refl, ap, ◌∙◌}
 use mathlib.Core.List.{List, [], ◌∷◌}
 use Prim.Native.Nat.{ℕ, zero, suc, ◌+◌, ◌-◌, ◌/◌, ◌%◌}
 use native.Mathlib.Omega.{arith}
-use lib.ListN.{length, drop, replicate}
+use lib.ListN.{drop, replicate}
 use lib.Dec.{eqb}
 use lib.Seq.{drop-nil}
 use Rattle.bits.specs.Byte.{pick}
 use Rattle.vcd_output.specs.declared.Put.{Put}
 use Rattle.vcd_output.specs.Room.{put, wrote, clock_word, pin_word, unpacked, pin_words}
 use Rattle.vcd_steps.specs.declared.State.{State}
-use Rattle.vcd_steps.specs.Events.{Event, clock_events, pin_events, words}
+use Rattle.vcd_steps.specs.Events.{clock_events, pin_events, words}
 use Rattle.vcd_body.specs.declared.Turn.{Turn}
 use Rattle.vcd_body.specs.declared.Turn.TheVariants.{On}
 use Rattle.vcd_body.specs.Pieces.{turned, turn_by}

@@ -1,20 +1,19 @@
 -- The tokens of the body one after the other.
 -- Assumes nothing.
-use mathlib.Core.Bool.{Bool, true, false}
-use mathlib.Core.Path.{◌≡◌, refl, sym, ap, ◌∙◌}
-use mathlib.Core.List.{List, [], ◌∷◌}
+use mathlib.Core.Bool.{false}
+use mathlib.Core.Path.{◌≡◌, refl, sym, ◌∙◌}
+use mathlib.Core.List.{List}
 use Prim.Native.Nat.{ℕ, ◌+◌, ◌-◌, ◌<◌, ◌≤◌}
-use native.Mathlib.Omega.{arith}
 use lib.ListN.{length, take, drop, drop_of_length-le}
-use Rattle.vcd_text.specs.Token.{Token, tokens, white_length, word_length}
+use Rattle.vcd_text.specs.Token.{tokens, white_length, word_length}
 use Rattle.vcd_text.proofs.Laws.{no_token_lem, next_token}
 use Rattle.vcd_codes.specs.Codes.{Found}
 use Rattle.vcd_steps.specs.declared.State.{State}
 use Rattle.vcd_steps.specs.Steps.{Effect, ends_as}
 use Rattle.vcd_body.specs.declared.Turn.{Turn}
 use Rattle.vcd_body.specs.declared.Turn.TheVariants.{Stop, Full, On}
-use Rattle.vcd_body.specs.Trace.{token_as, token}
-use Rattle.vcd_body.specs.Pieces.{Answer, answer, closed, paused, turned, placed, goes_on, pieces}
+use Rattle.vcd_body.specs.Trace.{token_as}
+use Rattle.vcd_body.specs.Pieces.{answer, closed, paused, turned, placed, goes_on, pieces}
 
 module _ (find : List ℕ → Found) (scale : ℕ) (text : List ℕ) where
   -- the next token is read

@@ -1,5 +1,7 @@
 -- Runs of changes and times, token by token.
 -- Assumes nothing.
+use Rattle.std.specs.Prelude.{Ok}
+use Rattle.vcd_text.specs.Token.{Number}
 use mathlib.Core.Bool.{Bool, true, false}
 use mathlib.Core.Path.{◌≡◌, refl, sym, ap, ◌∙◌}
 use mathlib.Core.List.{List, [], ◌∷◌}
@@ -11,8 +13,6 @@ use lib.Seq.{drop-cons, get_or-take, get_or-drop}
 use lib.Dec.{eqb}
 use borrow.Author.Tests.{eqb-true, eqb-false, lt-ltb, le-ltb, ne_eqb}
 use Rattle.bits.specs.Byte.{num}
-use Rattle.vcd_text.specs.declared.Number.{Number}
-use Rattle.vcd_text.specs.declared.Number.TheVariants.{Of}
 use Rattle.vcd_text.specs.Token.{white, white_length, word_length, number_of, grown_by, longer_by, digits_from, decimal_of}
 use Rattle.vcd_text.proofs.Laws.{word_some, word_more, word_stops, some_byte, decimal_some}
 use Rattle.vcd_output.specs.declared.Put.{Put}
@@ -41,23 +41,23 @@ never h = let z : ◌≡◌ {A = ℕ} 0 1 = cc in omega arith
 
 -- a digit more of a word
 pub digit_on : (text : List ℕ) (i v : ℕ) → i < length text → white (get_or text i 0) ≡ false → 47 < get_or text i 0 → get_or text i 0 < 58 → v < 1844674407370955161
-    → digits_from (Of (v * 10 + (get_or text i 0 - 48))) (take (word_length (drop (i + 1) text)) (drop (i + 1) text)) ≡ digits_from (Of v) (take (word_length (drop i text)) (drop i text))
+    → digits_from (Ok (v * 10 + (get_or text i 0 - 48))) (take (word_length (drop (i + 1) text)) (drop (i + 1) text)) ≡ digits_from (Ok v) (take (word_length (drop i text)) (drop i text))
 unfolding digits_from longer_by grown_by number_of
 digit_on text i v h w l u f =
     let z : v * 10 + (get_or text i 0 - 48) < 18446744073709551616 = omega arith in
     let n : word_length (drop i text) ≡ suc (word_length (drop (i + 1) text)) = omega (arith, word_more text i h w) in
-    let more : longer_by (Of v) (get_or text i 0) ≡ Of (v * 10 + (get_or text i 0 - 48)) = simp (le-ltb _ _ l, lt-ltb _ _ u, lt-ltb _ _ z) in
+    let more : longer_by (Ok v) (get_or text i 0) ≡ Ok (v * 10 + (get_or text i 0 - 48)) = simp (le-ltb _ _ l, lt-ltb _ _ u, lt-ltb _ _ z) in
     let bytes : take (word_length (drop i text)) (drop i text) ≡ get_or text i 0 ∷ take (word_length (drop (i + 1) text)) (drop (i + 1) text) = rw (n, drop-cons text i 0 h, add-one) refl in
-    sym (ap (digits_from (Of v)) bytes ∙ ap (λ (m : Number). digits_from m (take (word_length (drop (i + 1) text)) (drop (i + 1) text))) more)
+    sym (ap (digits_from (Ok v)) bytes ∙ ap (λ (m : Number). digits_from m (take (word_length (drop (i + 1) text)) (drop (i + 1) text))) more)
 
 -- no byte more
-pub digits_done : (text : List ℕ) (i v : ℕ) → i ≡ i + word_length (drop i text) → digits_from (Of v) (take (word_length (drop i text)) (drop i text)) ≡ Of v
+pub digits_done : (text : List ℕ) (i v : ℕ) → i ≡ i + word_length (drop i text) → digits_from (Ok v) (take (word_length (drop i text)) (drop i text)) ≡ Ok v
 unfolding digits_from
 digits_done text i v h = let z : word_length (drop i text) ≡ 0 = omega arith in rw z refl
 
 -- the number that a word is
 pub digits_whole : (text : List ℕ) (from i v : ℕ) → from < i → i ≡ from + word_length (drop from text) → i ≤ length text
-    → digits_from (Of 0) (take (word_length (drop from text)) (drop from text)) ≡ Of v → decimal_of (take (i - from) (drop from text)) ≡ Of v
+    → digits_from (Ok 0) (take (word_length (drop from text)) (drop from text)) ≡ Ok v → decimal_of (take (i - from) (drop from text)) ≡ Ok v
 digits_whole text from i v h e l d =
     let z : i - from ≡ word_length (drop from text) = omega arith in
     rw z (sym (decimal_some (take (word_length (drop from text)) (drop from text)) (λ y. absurd (omega (arith, simp (length-take, length-drop) at y)))) ∙ d)
@@ -98,7 +98,7 @@ change_item t b false e g h l u =
     rw (g, z) (simp (ne_eqb _ _ y))
 
 -- a token that begins with #
-time_item : (t : List ℕ) (v : ℕ) → get_or t 0 0 ≡ 35 → 0 < length t → decimal_of (drop 1 t) ≡ Of v → item_of t ≡ Time (Of v)
+time_item : (t : List ℕ) (v : ℕ) → get_or t 0 0 ≡ 35 → 0 < length t → decimal_of (drop 1 t) ≡ Ok v → item_of t ≡ Time (Ok v)
 unfolding item_of kind_of item_as
 time_item t v g h d = let y : (length t ≡ 0 → ⊥) = λ v. absurd (omega arith) in rw g (simp (ne_eqb _ _ y, d))
 
@@ -199,7 +199,7 @@ module _ (find : List ℕ → Found) (scale : ℕ) (text : List ℕ) where
       full : told ≡ record { count = told.count; done = 0; full = false }
       full = rw (ap (λ (v : Written). v.told) w) (put_fits (n - 0) room a.count 0 (λ l. omega (arith, h (omega arith))))
 
-  time_effect : (s : State) (t : List ℕ) (p v : ℕ) → get_or t 0 0 ≡ 35 → 0 < length t → decimal_of (drop 1 t) ≡ Of v → s.inside ≡ false → 0 < scale → s.time ≤ v → v ≤ 18446744073709551615 / scale
+  time_effect : (s : State) (t : List ℕ) (p v : ℕ) → get_or t 0 0 ≡ 35 → 0 < length t → decimal_of (drop 1 t) ≡ Ok v → s.inside ≡ false → 0 < scale → s.time ≤ v → v ≤ 18446744073709551615 / scale
       → token_as find scale Plain s t p ≡ proceed (at_time s v (v * scale / 8000000)) (clock_events p s.clocks (v * scale / 8000000 - s.clocks))
   unfolding token_as item_step time_of time_as advanced
   time_effect s t p v g h d i k l u =
@@ -207,7 +207,7 @@ module _ (find : List ℕ → Found) (scale : ℕ) (text : List ℕ) where
       rw (time_item t v g h d) (simp (i, ne_eqb _ _ y, le-ltb _ _ l, lt-ltb _ _ (fits_of v scale k u)))
 
   pub time_advances : (a : Run) (p e v : ℕ) → p ≡ a.at + white_length (drop a.at text) → p < length text → get_or text p 0 ≡ 35 → p + 1 < e → e ≡ (p + 1) + word_length (drop (p + 1) text)
-      → decimal_of (take (e - (p + 1)) (drop (p + 1) text)) ≡ Of v → 0 < scale → a.time ≤ v → v ≤ 18446744073709551615 / scale → Advances find scale text a p e v (v * scale / 8000000)
+      → decimal_of (take (e - (p + 1)) (drop (p + 1) text)) ≡ Ok v → 0 < scale → a.time ≤ v → v ≤ 18446744073709551615 / scale → Advances find scale text a p e v (v * scale / 8000000)
   time_advances a p e v from h g some to d k l u =
       let next : NextToken text a.at p e = record { from = from; to = to ∙ after_first text a.at p from h; some = h } in
       record {

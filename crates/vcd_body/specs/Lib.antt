@@ -2,3 +2,4 @@ pub mod Trace
 pub mod Pieces
 pub mod Tables
 pub mod Runs
+pub mod Reader

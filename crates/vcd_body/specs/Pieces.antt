@@ -1,9 +1,9 @@
 -- The body read into lent places, and where to go on when they are full.
-use Rattle.std.specs.Prelude.{ℕ, Bool, true, false, List, [], ◌∷◌, drop}
+use Rattle.std.specs.Prelude.{ℕ, false, List, [], ◌∷◌, drop}
 use Rattle.bits.specs.Byte.{pick}
 use Rattle.vcd_text.specs.Token.{Token}
 use Rattle.vcd_output.specs.declared.Put.{Put}
-use Rattle.vcd_output.specs.Room.{Written, put}
+use Rattle.vcd_output.specs.Room.{put}
 use Rattle.vcd_codes.specs.Codes.{Found}
 use Rattle.vcd_steps.specs.declared.Mode.TheVariants.{Plain}
 use Rattle.vcd_steps.specs.declared.State.{State}

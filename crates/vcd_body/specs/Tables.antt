@@ -11,8 +11,3 @@ pub record Singles (text places pins : List ℕ) (entries : ℕ) (singles : List
 pub record Lists (text places pins : List ℕ) (entries : ℕ) (lists : List ℕ) (n : ℕ) : Type 0 where
   pub size : length lists ≡ 32
   pub each : (k : ℕ) → k < n → meant (get_or lists k 0) ≡ find (variables text places pins 0 entries) (code_at text places k)
-
-pub record Tables (text places pins : List ℕ) (entries : ℕ) (singles lists slots : List ℕ) : Type 0 where
-  pub single : Singles text places pins entries singles 256
-  pub listed : Lists text places pins entries lists 32
-  pub hashed : length slots ≡ 256

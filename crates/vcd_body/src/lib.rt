@@ -2,14 +2,14 @@
 #![tactic(auto)]
 
 ghost use Rattle.std.specs.Prelude.{◌≡◌, true, false, ℕ, ◌<◌, ◌≤◌, ◌+◌, ◌-◌, ◌*◌, ◌/◌, List, [], ◌∷◌, length, take, drop, get_or};
-ghost use Rattle.vcd_text.specs.declared.Number.TheVariants.{Of};
 ghost use Rattle.vcd_text.specs.Token.{tokens, white_length, word_length, decimal_of};
 ghost use Rattle.vcd_codes.specs.Codes.{Found, variables, find, meant};
 ghost use Rattle.vcd_steps.specs.Steps.{item_step, ends_as, meaning};
 ghost use Rattle.vcd_steps.specs.declared.State.{State};
 ghost use Rattle.vcd_body.specs.Trace.{token_as};
 ghost use Rattle.vcd_body.specs.Pieces.{start as start_of, answer, closed, paused, turned, turn_by, placed, pieces};
-ghost use Rattle.vcd_body.specs.Tables.{Singles, Lists, Tables};
+ghost use Rattle.vcd_body.specs.Tables.{Singles, Lists};
+ghost use Rattle.vcd_body.specs.Reader.{look, Ready};
 ghost use Rattle.vcd_body.specs.Runs.{NextToken, Advances, Leads};
 
 use vcd_items::Item;
@@ -69,7 +69,7 @@ pub fn start() -> Cursor
 fn later(due: u64, given: u64) -> u64
     ensures { result ≡ due - given }
 {
-    if given < due { due - given } else { 0 }
+    due.saturating_sub(given)
 }
 
 fn written(s: State, put: Put) -> Turn
@@ -99,141 +99,276 @@ fn perform(step: Step, scale: u64, p: usize, done: u64, out: &mut [u32], count: 
 
 // ---- what a code stands for, by tables
 
-fn wide(b: u8) -> usize
-    ensures { (result ≡ b) × (result < 256) }
-{
-    b as usize
-}
-
 fn of_byte(text: &[u8], places: &[usize], pins: &[u8], entries: usize, b: u8) -> u64
     ensures { meant result ≡ find (variables text.now places.now pins.now 0 entries) (b ∷ []) }
 {
-    let code = [b; 1];
-    vcd_codes::list_of(text, places, pins, entries, &code)
+    vcd_codes::list_of(text, places, pins, entries, &[b])
 }
 
-fn fill_singles(text: &[u8], places: &[usize], pins: &[u8], entries: usize, singles: &mut [u64])
-    requires { length singles.old ≡ 256 }
-    ensures { Singles text.now places.now pins.now entries singles.new 256 }
+// What each code of one byte stands for.
+fn singles_of(text: &[u8], places: &[usize], pins: &[u8], entries: usize) -> [u64; 256]
+    ensures { Singles text.now places.now pins.now entries result 256 }
 {
-    let mut b: usize = 0;
-    while b < 256 {
-        singles[b] = of_byte(text, places, pins, entries, b as u8);
-        b += 1;
+    let mut singles = [0; 256];
+    for (b, list) in singles.iter_mut().enumerate() {
+        *list = of_byte(text, places, pins, entries, b as u8);
     }
+    singles
 }
 
-fn fill_lists(text: &[u8], places: &[usize], pins: &[u8], entries: usize, lists: &mut [u64])
-    requires { length lists.old ≡ 32 }
-    ensures { Lists text.now places.now pins.now entries lists.new 32 }
+// What the code of each entry stands for.
+fn lists_of(text: &[u8], places: &[usize], pins: &[u8], entries: usize) -> [u64; 32]
+    ensures { Lists text.now places.now pins.now entries result 32 }
 {
-    let mut k: usize = 0;
-    while k < 32 {
-        lists[k] = vcd_codes::list_at(text, places, pins, entries, k);
-        k += 1;
+    let mut lists = [0; 32];
+    for (k, list) in lists.iter_mut().enumerate() {
+        *list = vcd_codes::list_at(text, places, pins, entries, k);
     }
+    lists
 }
 
-// The entry in a slot is compared with the code where it is used, so that any table is right.
-fn fill_slots(text: &[u8], places: &[usize], slots: &mut [usize])
-    requires { length slots.old ≡ 256 }
-    ensures { length slots.new ≡ 256 }
-{
-    let mut k: usize = 0;
-    while k < 32 {
+// An entry by the hash of its code; 32 for none. It is compared with the code where it is used, so that any table is right.
+fn slots_of(text: &[u8], places: &[usize]) -> [usize; 256] {
+    let mut slots = [32; 256];
+    for k in 0..32 {
         slots[vcd_codes::hash_at(text, places, k)] = k;
-        k += 1;
     }
+    slots
 }
 
-// What a code stands for: of one byte by a table, of more by its hash, and by a search where the slot has another code.
-fn found(
-    text: &[u8],
-    places: &[usize],
-    pins: &[u8],
+// What a body is read with: the file, its variables, tables that hold what a search for a code would find, the unit in ps, and the
+// greatest time in units that 64 bits hold in ps.
+#[derive(Drop)]
+struct Reader<'a> {
+    text: &'a [u8],
+    places: &'a [usize],
+    pins: &'a [u8],
     entries: usize,
-    singles: &[u64],
-    lists: &[u64],
-    slots: &[usize],
-    code: &[u8],
-) -> u64
-    requires { Tables text.now places.now pins.now entries singles.now lists.now slots.now }
-    ensures { meant result ≡ find (variables text.now places.now pins.now 0 entries) code.now }
-{
-    if code.len() == 1 {
-        return singles[wide(code[0])];
-    }
-    let h = vcd_codes::hash_of(code);
-    let k = slots[h];
-    if k < 32 {
-        if vcd_codes::is_code(text, places, k, code) {
-            return lists[k];
-        }
-    }
-    vcd_codes::list_of(text, places, pins, entries, code)
-}
-
-// ---- a token
-
-// What the code of a scalar change stands for; of other items no code is looked at.
-fn scalar_code(
-    item: Item,
-    text: &[u8],
-    places: &[usize],
-    pins: &[u8],
-    entries: usize,
-    singles: &[u64],
-    lists: &[u64],
-    slots: &[usize],
-    t: &[u8],
-) -> u64
-    requires tables { Tables text.now places.now pins.now entries singles.now lists.now slots.now }
-    requires t_nonzero { 0 < length t.now }
-    ensures { (scale : ℕ) (s : State) (p : ℕ) → item_step item (meant result) scale s p ≡ item_step item (find (variables text.now places.now pins.now 0 entries) (drop 1 t.now)) scale s p }
-{
-    match item {
-        Item::Scalar(high) => found(text, places, pins, entries, singles, lists, slots, &t[1..]),
-        Item::Value => 0,
-        Item::Time(number) => 0,
-        Item::Dump => 0,
-        Item::End => 0,
-        Item::Comment => 0,
-        Item::Bad => 0,
-    }
-}
-
-// The token by what the reader waits for.
-fn token(
-    mode: Mode,
-    text: &[u8],
-    places: &[usize],
-    pins: &[u8],
-    entries: usize,
-    singles: &[u64],
-    lists: &[u64],
-    slots: &[usize],
+    singles: [u64; 256],
+    lists: [u64; 32],
+    slots: [usize; 256],
     scale: u64,
-    s: State,
-    t: &[u8],
-    p: usize,
-) -> Step
-    requires tables { Tables text.now places.now pins.now entries singles.now lists.now slots.now }
-    requires t_nonzero { 0 < length t.now }
-    ensures { meaning scale p result ≡ token_as (find (variables text.now places.now pins.now 0 entries)) scale mode s t.now p }
-{
-    match mode {
-        Mode::Plain => {
-            let item = vcd_items::item_of(t);
-            let code = scalar_code(item, text, places, pins, entries, singles, lists, slots, t);
-            vcd_steps::step_item(item, code, scale, s, p)
+    limit: u64,
+}
+
+impl<'a> Reader<'a> {
+    // What a code stands for: of one byte by a table, of more by its hash, and by a search where the slot has another code.
+    fn found(&self, code: &[u8]) -> u64
+        requires { Ready self.now }
+        ensures { meant result ≡ look self.now code.now }
+    {
+        if code.len() == 1 {
+            return self.singles[usize::from(code[0])];
         }
-        Mode::Code => vcd_steps::step_code(
-            found(text, places, pins, entries, singles, lists, slots, t),
-            scale,
-            s,
-            p,
-        ),
-        Mode::Comment => vcd_steps::step_comment(vcd_text::is_end(t), scale, s, p),
+        let k = self.slots[vcd_codes::hash_of(code)];
+        if k < 32 {
+            if vcd_codes::is_code(self.text, self.places, k, code) {
+                return self.lists[k];
+            }
+        }
+        vcd_codes::list_of(self.text, self.places, self.pins, self.entries, code)
+    }
+
+    // What the code of a scalar change stands for; of other items no code is looked at.
+    #[tactic(auto, unfolding(vcd_steps::specs::Steps::item_step))]
+    fn scalar_code(&self, item: Item, t: &[u8]) -> u64
+        requires tables { Ready self.now }
+        requires t_nonzero { 0 < length t.now }
+        ensures { (scale : ℕ) (s : State) (p : ℕ) → item_step item (meant result) scale s p ≡ item_step item (look self.now (drop 1 t.now)) scale s p }
+    {
+        match item {
+            Item::Scalar(high) => self.found(&t[1..]),
+            _ => 0,
+        }
+    }
+
+    // The token by what the reader waits for.
+    #[tactic(auto, unfolding(crate::specs::Trace::token_as))]
+    fn token(&self, s: State, t: &[u8], p: usize) -> Step
+        requires tables { Ready self.now }
+        requires t_nonzero { 0 < length t.now }
+        ensures { meaning self.now.scale p result ≡ token_as (look self.now) self.now.scale s.mode s t.now p }
+    {
+        match s.mode {
+            Mode::Plain => {
+                let item = vcd_items::item_of(t);
+                let code = self.scalar_code(item, t);
+                vcd_steps::step_item(item, code, self.scale, s, p)
+            }
+            Mode::Code => vcd_steps::step_code(self.found(t), self.scale, s, p),
+            Mode::Comment => vcd_steps::step_comment(vcd_text::is_end(t), self.scale, s, p),
+        }
+    }
+
+    // A change of a code of one byte.
+    fn single_change(&self, out: &mut [u32], run: Run, p: usize) -> Run
+        requires tables { Ready self.now }
+        requires p_in_bounds { p + 2 < length self.now.text.now }
+        requires bound { (47 < get_or self.now.text.now p 0) × (get_or self.now.text.now p 0 < 50) }
+        ensures { (scale : ℕ) → NextToken self.now.text.now run.at p (p + 2) → Leads (look self.now) scale self.now.text.now run out.old result out.new }
+    {
+        let b = self.text[p + 1];
+        write_change(out, run, self.singles[usize::from(b)], self.text[p], p + 2)
+    }
+
+    // A time that does not go back and is not above 64 bits in ps.
+    fn short_time(&self, out: &mut [u32], run: Run, p: usize) -> Run
+        requires tables { Ready self.now }
+        requires p_in_bounds { (p < length self.now.text.now) × (get_or self.now.text.now p 0 ≡ 35) }
+        requires scale_nonzero { 0 < self.now.scale }
+        ensures { (find : List ℕ → Found) → p ≡ run.at + white_length (drop run.at self.now.text.now) → Leads find self.now.scale self.now.text.now run out.old result out.new }
+    {
+        let d = read_digits(self.text, p + 1);
+        if d.end == p + 1 {
+            return run;
+        }
+        if d.value < run.time {
+            return run;
+        }
+        if self.limit < d.value {
+            return run;
+        }
+        give_clocks(out, run, d, d.value * self.scale / 8000000)
+    }
+
+    // A change to 0 or 1.
+    fn short_change(&self, out: &mut [u32], run: Run, p: usize) -> Run
+        requires tables { Ready self.now }
+        requires p_in_bounds { (p < length self.now.text.now) × (47 < get_or self.now.text.now p 0) × (get_or self.now.text.now p 0 < 50) }
+        ensures { (scale : ℕ) → p ≡ run.at + white_length (drop run.at self.now.text.now) → Leads (look self.now) scale self.now.text.now run out.old result out.new }
+    {
+        let text = self.text;
+        if is_single(text, p + 1) {
+            return self.single_change(out, run, p);
+        }
+        let e = vcd_text::word_end(text, p + 1);
+        let list = self.found(&text[p + 1..e]);
+        write_change(out, run, list, text[p], e)
+    }
+
+    // A token of the run, or none where the next is another.
+    fn run_token(&self, out: &mut [u32], run: Run) -> Run
+        requires tables { Ready self.now }
+        requires scale_nonzero { 0 < self.now.scale }
+        requires at_in_bounds { run.at ≤ length self.now.text.now }
+        ensures { Leads (look self.now) self.now.scale self.now.text.now run out.old result out.new }
+    {
+        let text = self.text;
+        let p = token_from(text, run.at);
+        if p < text.len() {
+            if text[p] == 35 {
+                return self.short_time(out, run, p);
+            }
+            if is_level(text[p]) {
+                return self.short_change(out, run, p);
+            }
+        }
+        run
+    }
+
+    // As many tokens as go on with the run.
+    fn run_tokens(&self, out: &mut [u32], from: Run) -> Run
+        requires tables { Ready self.now }
+        requires scale_nonzero { 0 < self.now.scale }
+        ensures { Leads (look self.now) self.now.scale self.now.text.now from out.old result out.new }
+    {
+        let mut run = from;
+        while run.at < self.text.len() {
+            let next = self.run_token(out, run);
+            if next.at == run.at {
+                return next;
+            }
+            run = next;
+        }
+        run
+    }
+
+    fn run_from(&self, out: &mut [u32], from: Position) -> Position
+        requires tables { Ready self.now }
+        requires scale_nonzero { 0 < self.now.scale }
+        requires mode_value { (from.state.mode ≡ Mode.Plain) × (from.state.inside ≡ false) }
+        ensures { (from.at ≤ result.at) × (pieces (look self.now) self.now.scale result.state 0 result.count out.new (tokens false result.at (drop result.at self.now.text.now)) ≡ pieces (look self.now) self.now.scale from.state 0 from.count out.old (tokens false from.at (drop from.at self.now.text.now))) }
+    {
+        let s = from.state;
+        let start = Run {
+            at: from.at,
+            count: from.count,
+            time: s.time,
+            clocks: s.clocks,
+        };
+        let run = self.run_tokens(out, start);
+        let next = State {
+            time: run.time,
+            clocks: run.clocks,
+            ..s
+        };
+        Position {
+            at: run.at,
+            count: run.count,
+            state: next,
+        }
+    }
+
+    // The run of a position, where it may have one.
+    fn pass_run(&self, done: u64, out: &mut [u32], from: Position) -> Position
+        requires { Ready self.now }
+        ensures { (from.at ≤ result.at) × (pieces (look self.now) self.now.scale result.state done result.count out.new (tokens false result.at (drop result.at self.now.text.now)) ≡ pieces (look self.now) self.now.scale from.state done from.count out.old (tokens false from.at (drop from.at self.now.text.now))) }
+    {
+        if 0 < done {
+            return from;
+        }
+        if self.scale == 0 {
+            return from;
+        }
+        if is_plain(from.state) {
+            return self.run_from(out, from);
+        }
+        from
+    }
+
+    // The tokens one after the other.
+    fn read_tokens(&self, out: &mut [u32], from: Cursor) -> Piece
+        requires { Ready self.now }
+        ensures { answer out.new result ≡ pieces (look self.now) self.now.scale from.state from.done 0 out.old (tokens false from.at (drop from.at self.now.text.now)) }
+    {
+        let text = self.text;
+        let mut s = from.state;
+        let mut done = from.done;
+        let mut count = 0;
+        let mut at = from.at;
+        while at < text.len() {
+            let position = Position {
+                at,
+                count,
+                state: s,
+            };
+            let after = self.pass_run(done, out, position);
+            s = after.state;
+            count = after.count;
+            let p = vcd_text::skip_white(text, after.at);
+            if p < text.len() {
+                let e = vcd_text::word_end(text, p);
+                let step = self.token(s, &text[p..e], p);
+                let turn = perform(step, self.scale, p, done, out, count);
+                match turn {
+                    Turn::Stop(number, place) => {
+                        return close(count, number, place);
+                    }
+                    Turn::Full(n, given) => {
+                        return pause(n, p, given, s);
+                    }
+                    Turn::On(next, n) => {
+                        s = next;
+                        count = n;
+                        done = 0;
+                        at = e;
+                    }
+                }
+            } else {
+                return finish(s, count);
+            }
+        }
+        finish(s, count)
     }
 }
 
@@ -258,27 +393,19 @@ pub struct Digits {
     pub value: u64,
 }
 
-fn long(b: u8) -> u64
-    ensures { result ≡ b }
-{
-    b as u64
-}
-
 // The number that a word is, looked at once.
 fn read_digits(text: &[u8], from: usize) -> Digits
     requires { from ≤ length text.now }
-    ensures { (from ≤ result.end) × (from < result.end → (result.end ≡ from + word_length (drop from text.now)) × (decimal_of (take (result.end - from) (drop from text.now)) ≡ Of result.value)) }
+    ensures { (from ≤ result.end) × (from < result.end → (result.end ≡ from + word_length (drop from text.now)) × (decimal_of (take (result.end - from) (drop from text.now)) ≡ Ok result.value)) }
 {
-    let mut i = from;
     let mut v: u64 = 0;
-    while i < text.len() {
+    for i in from..text.len() {
         let b = text[i];
         if vcd_text::white(b) {
             return Digits { end: i, value: v };
         }
         if is_plain_digit(b, v) {
-            v = v * 10 + long(b - 48);
-            i += 1;
+            v = v * 10 + u64::from(b - 48);
         } else {
             return Digits {
                 end: from,
@@ -286,20 +413,17 @@ fn read_digits(text: &[u8], from: usize) -> Digits
             };
         }
     }
-    Digits { end: i, value: v }
+    Digits {
+        end: text.len(),
+        value: v,
+    }
 }
 
 // A digit after a number that is so small that no digit makes it 2^64.
 fn is_plain_digit(b: u8, v: u64) -> bool
     ensures { result ≡ true → (47 < b) × (b < 58) × (v < 1844674407370955161) }
 {
-    if b < 48 {
-        return false;
-    }
-    if 57 < b {
-        return false;
-    }
-    v < 1844674407370955161
+    b.is_ascii_digit() && v < 1844674407370955161
 }
 
 // The place of the next token. Most often one white byte stands before it.
@@ -336,29 +460,21 @@ fn is_single(text: &[u8], from: usize) -> bool
 fn moved(run: Run, at: usize, count: usize) -> Run
     ensures { result ≡ record { at = at; count = count; time = run.time; clocks = run.clocks } }
 {
-    Run {
-        at: at,
-        count: count,
-        time: run.time,
-        clocks: run.clocks,
-    }
+    Run { at, count, ..run }
 }
 
 fn change_word(pin: u64, b: u8) -> u32
     requires { (pin < 256) × (47 < b) × (b < 50) }
     ensures { result ≡ 50331648 + (b - 48) + pin * 256 }
 {
-    50331648 + (b - 48) as u32 + pin as u32 * 256
+    50331648 + u32::from(b - 48) + pin as u32 * 256
 }
 
 // The byte is 0 or 1.
 fn is_level(b: u8) -> bool
     ensures { result ≡ true → (47 < b) × (b < 50) }
 {
-    if b < 48 {
-        return false;
-    }
-    b < 50
+    matches!(b, b'0' | b'1')
 }
 
 // The word of a change to 0 or 1 of a code that stands for one pin; none where it stands for no pin.
@@ -378,16 +494,6 @@ fn write_change(out: &mut [u32], run: Run, list: u64, b: u8, e: usize) -> Run
         return moved(run, e, n + 1);
     }
     run
-}
-
-// A change of a code of one byte.
-fn single_change(text: &[u8], singles: &[u64], out: &mut [u32], run: Run, p: usize) -> Run
-    requires p_in_bounds { (p + 2 < length text.now) × (length singles.now ≡ 256) }
-    requires bound { (47 < get_or text.now p 0) × (get_or text.now p 0 < 50) }
-    ensures { (find : List ℕ → Found) (scale : ℕ) → NextToken text.now run.at p (p + 2) → ((b : ℕ) → b < 256 → meant (get_or singles.now b 0) ≡ find (b ∷ [])) → Leads find scale text.now run out.old result out.new }
-{
-    let b = text[p + 1];
-    write_change(out, run, singles[wide(b)], text[p], p + 2)
 }
 
 fn has_room(room: usize, count: usize, n: u64) -> bool
@@ -416,123 +522,6 @@ fn give_clocks(out: &mut [u32], run: Run, d: Digits, due: u64) -> Run
     run
 }
 
-// A time that does not go back and is not above 64 bits in ps.
-fn short_time(text: &[u8], scale: u64, limit: u64, out: &mut [u32], run: Run, p: usize) -> Run
-    requires p_in_bounds { (p < length text.now) × (get_or text.now p 0 ≡ 35) }
-    requires scale_nonzero { (0 < scale) × (limit ≡ 18446744073709551615 / scale) }
-    ensures { (find : List ℕ → Found) → p ≡ run.at + white_length (drop run.at text.now) → Leads find scale text.now run out.old result out.new }
-{
-    let d = read_digits(text, p + 1);
-    if d.end == p + 1 {
-        return run;
-    }
-    if d.value < run.time {
-        return run;
-    }
-    if limit < d.value {
-        return run;
-    }
-    give_clocks(out, run, d, d.value * scale / 8000000)
-}
-
-// A change to 0 or 1.
-fn short_change(
-    text: &[u8],
-    places: &[usize],
-    pins: &[u8],
-    entries: usize,
-    singles: &[u64],
-    lists: &[u64],
-    slots: &[usize],
-    out: &mut [u32],
-    run: Run,
-    p: usize,
-) -> Run
-    requires tables { Tables text.now places.now pins.now entries singles.now lists.now slots.now }
-    requires p_in_bounds { (p < length text.now) × (47 < get_or text.now p 0) × (get_or text.now p 0 < 50) }
-    ensures { (scale : ℕ) → p ≡ run.at + white_length (drop run.at text.now) → Leads (find (variables text.now places.now pins.now 0 entries)) scale text.now run out.old result out.new }
-{
-    if is_single(text, p + 1) {
-        return single_change(text, singles, out, run, p);
-    }
-    let e = vcd_text::word_end(text, p + 1);
-    let list = found(
-        text,
-        places,
-        pins,
-        entries,
-        singles,
-        lists,
-        slots,
-        &text[p + 1..e],
-    );
-    write_change(out, run, list, text[p], e)
-}
-
-// A token of the run, or none where the next is another.
-fn run_token(
-    text: &[u8],
-    places: &[usize],
-    pins: &[u8],
-    entries: usize,
-    singles: &[u64],
-    lists: &[u64],
-    slots: &[usize],
-    scale: u64,
-    limit: u64,
-    out: &mut [u32],
-    run: Run,
-) -> Run
-    requires tables { Tables text.now places.now pins.now entries singles.now lists.now slots.now }
-    requires scale_nonzero { (0 < scale) × (limit ≡ 18446744073709551615 / scale) }
-    requires at_in_bounds { run.at ≤ length text.now }
-    ensures { Leads (find (variables text.now places.now pins.now 0 entries)) scale text.now run out.old result out.new }
-{
-    let p = token_from(text, run.at);
-    if p < text.len() {
-        if text[p] == 35 {
-            return short_time(text, scale, limit, out, run, p);
-        }
-        if is_level(text[p]) {
-            return short_change(
-                text, places, pins, entries, singles, lists, slots, out, run, p,
-            );
-        }
-    }
-    run
-}
-
-// As many tokens as go on with the run.
-fn run_tokens(
-    text: &[u8],
-    places: &[usize],
-    pins: &[u8],
-    entries: usize,
-    singles: &[u64],
-    lists: &[u64],
-    slots: &[usize],
-    scale: u64,
-    limit: u64,
-    out: &mut [u32],
-    from: Run,
-) -> Run
-    requires tables { Tables text.now places.now pins.now entries singles.now lists.now slots.now }
-    requires scale_nonzero { (0 < scale) × (limit ≡ 18446744073709551615 / scale) }
-    ensures { Leads (find (variables text.now places.now pins.now 0 entries)) scale text.now from out.old result out.new }
-{
-    let mut run = from;
-    while run.at < text.len() {
-        let next = run_token(
-            text, places, pins, entries, singles, lists, slots, scale, limit, out, run,
-        );
-        if next.at == run.at {
-            return next;
-        }
-        run = next;
-    }
-    run
-}
-
 // Where the reader stands before a token: at a place of the file, after so many words, in a state.
 #[derive(Clone, Copy)]
 pub struct Position {
@@ -544,86 +533,7 @@ pub struct Position {
 fn is_plain(s: State) -> bool
     ensures { result ≡ true → (s.mode ≡ Mode.Plain) × (s.inside ≡ false) }
 {
-    if s.inside {
-        return false;
-    }
-    let mode = s.mode;
-    match mode {
-        Mode::Plain => true,
-        Mode::Code => false,
-        Mode::Comment => false,
-    }
-}
-
-fn run_from(
-    text: &[u8],
-    places: &[usize],
-    pins: &[u8],
-    entries: usize,
-    singles: &[u64],
-    lists: &[u64],
-    slots: &[usize],
-    scale: u64,
-    limit: u64,
-    out: &mut [u32],
-    from: Position,
-) -> Position
-    requires tables { Tables text.now places.now pins.now entries singles.now lists.now slots.now }
-    requires scale_nonzero { (0 < scale) × (limit ≡ 18446744073709551615 / scale) }
-    requires mode_value { (from.state.mode ≡ Mode.Plain) × (from.state.inside ≡ false) }
-    ensures { (from.at ≤ result.at) × (pieces (find (variables text.now places.now pins.now 0 entries)) scale result.state 0 result.count out.new (tokens false result.at (drop result.at text.now)) ≡ pieces (find (variables text.now places.now pins.now 0 entries)) scale from.state 0 from.count out.old (tokens false from.at (drop from.at text.now))) }
-{
-    let s = from.state;
-    let start = Run {
-        at: from.at,
-        count: from.count,
-        time: s.time,
-        clocks: s.clocks,
-    };
-    let run = run_tokens(
-        text, places, pins, entries, singles, lists, slots, scale, limit, out, start,
-    );
-    let mut next = s;
-    next.time = run.time;
-    next.clocks = run.clocks;
-    Position {
-        at: run.at,
-        count: run.count,
-        state: next,
-    }
-}
-
-// The run of a position, where it may have one.
-fn pass_run(
-    text: &[u8],
-    places: &[usize],
-    pins: &[u8],
-    entries: usize,
-    singles: &[u64],
-    lists: &[u64],
-    slots: &[usize],
-    scale: u64,
-    limit: u64,
-    done: u64,
-    out: &mut [u32],
-    from: Position,
-) -> Position
-    requires tables { Tables text.now places.now pins.now entries singles.now lists.now slots.now }
-    requires limit_value { 0 < scale → limit ≡ 18446744073709551615 / scale }
-    ensures { (from.at ≤ result.at) × (pieces (find (variables text.now places.now pins.now 0 entries)) scale result.state done result.count out.new (tokens false result.at (drop result.at text.now)) ≡ pieces (find (variables text.now places.now pins.now 0 entries)) scale from.state done from.count out.old (tokens false from.at (drop from.at text.now))) }
-{
-    if 0 < done {
-        return from;
-    }
-    if scale == 0 {
-        return from;
-    }
-    if is_plain(from.state) {
-        return run_from(
-            text, places, pins, entries, singles, lists, slots, scale, limit, out, from,
-        );
-    }
-    from
+    !s.inside && matches!(s.mode, Mode::Plain)
 }
 
 // The greatest time in units that 64 bits hold in ps.
@@ -673,77 +583,6 @@ fn finish(s: State, count: usize) -> Piece
     close(count, e.number, e.place)
 }
 
-fn read_tokens(
-    text: &[u8],
-    places: &[usize],
-    pins: &[u8],
-    entries: usize,
-    singles: &[u64],
-    lists: &[u64],
-    slots: &[usize],
-    scale: u64,
-    out: &mut [u32],
-    from: Cursor,
-) -> Piece
-    requires { Tables text.now places.now pins.now entries singles.now lists.now slots.now }
-    ensures { answer out.new result ≡ pieces (find (variables text.now places.now pins.now 0 entries)) scale from.state from.done 0 out.old (tokens false from.at (drop from.at text.now)) }
-{
-    let mut s = from.state;
-    let mut done = from.done;
-    let mut count = 0;
-    let mut at = from.at;
-    let limit = limit_of(scale);
-    while at < text.len() {
-        let position = Position {
-            at: at,
-            count: count,
-            state: s,
-        };
-        let after = pass_run(
-            text, places, pins, entries, singles, lists, slots, scale, limit, done, out, position,
-        );
-        s = after.state;
-        count = after.count;
-        let p = vcd_text::skip_white(text, after.at);
-        if p < text.len() {
-            let e = vcd_text::word_end(text, p);
-            let mode = s.mode;
-            let step = token(
-                mode,
-                text,
-                places,
-                pins,
-                entries,
-                singles,
-                lists,
-                slots,
-                scale,
-                s,
-                &text[p..e],
-                p,
-            );
-            let turn = perform(step, scale, p, done, out, count);
-            match turn {
-                Turn::Stop(number, place) => {
-                    return close(count, number, place);
-                }
-                Turn::Full(n, given) => {
-                    return pause(n, p, given, s);
-                }
-                Turn::On(next, n) => {
-                    s = next;
-                    count = n;
-                    done = 0;
-                    at = e;
-                }
-            }
-        } else {
-            return finish(s, count);
-        }
-    }
-    finish(s, count)
-}
-
 // The body of a file, from a cursor on, into lent places.
 pub fn read(
     text: &[u8],
@@ -756,13 +595,16 @@ pub fn read(
 ) -> Piece
     ensures { answer out.new result ≡ pieces (find (variables text.now places.now pins.now 0 entries)) scale from.state from.done 0 out.old (tokens false from.at (drop from.at text.now)) }
 {
-    let mut singles = [0u64; 256];
-    fill_singles(text, places, pins, entries, &mut singles);
-    let mut lists = [0u64; 32];
-    fill_lists(text, places, pins, entries, &mut lists);
-    let mut slots = [32usize; 256];
-    fill_slots(text, places, &mut slots);
-    read_tokens(
-        text, places, pins, entries, &singles, &lists, &slots, scale, out, from,
-    )
+    let reader = Reader {
+        text,
+        places,
+        pins,
+        entries,
+        singles: singles_of(text, places, pins, entries),
+        lists: lists_of(text, places, pins, entries),
+        slots: slots_of(text, places),
+        scale,
+        limit: limit_of(scale),
+    };
+    reader.read_tokens(out, from)
 }

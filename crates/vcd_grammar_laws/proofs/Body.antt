@@ -1,5 +1,6 @@
 -- The reader's trace of a text that spells a body is what the body means: `body-read`.
 -- Assumes nothing.
+use Rattle.std.specs.Prelude.{Ok}
 use mathlib.Core.Bool.{Bool, true, false}
 use mathlib.Core.Path.{◌≡◌, refl, sym, ap, ◌∙◌}
 use mathlib.Core.List.{List, [], ◌∷◌, ◌++◌}
@@ -9,7 +10,6 @@ use lib.ListN.{length, drop, get_or, replicate}
 use lib.Dec.{ltb, eqb}
 use borrow.Author.Tests.{lt-ltb, le-ltb, ne_eqb}
 use Rattle.bits.specs.Byte.{pick}
-use Rattle.vcd_text.specs.declared.Number.TheVariants.{Of}
 use Rattle.vcd_text.specs.Token.{Token, tokens, same_bytes, end_word, decimal_of}
 use Rattle.vcd_output.specs.Room.{clock_word, pin_word}
 use Rattle.vcd_codes.specs.Codes.{Found, declared}
@@ -107,7 +107,7 @@ abbrev pub token_at : ℕ → List ℕ → Token
 token_at p b = record { place = p; bytes = b }
 
 module _ (look : List ℕ → Found) (scale : ℕ) (some-unit : 0 < scale) (ts : List Token) (p o t c : ℕ) where
-  body_time : (n : ℕ) (ds : List ℕ) → decimal_of ds ≡ Of n → t ≤ n → n * scale < 18446744073709551616
+  body_time : (n : ℕ) (ds : List ℕ) → decimal_of ds ≡ Ok n → t ≤ n → n * scale < 18446744073709551616
       → body look scale (between o t c false) (token_at p (35 ∷ ds) ∷ ts) ≡ prepended (clock_events p c (clocks_by n scale - c)) (body look scale (between o n (clocks_by n scale) false) ts)
   unfolding body carried token_as item_step time_of time_as advanced
   body_time n ds e h l =

@@ -1,5 +1,8 @@
 -- The converse: a body that the reader does not refuse spells items that mean something: `body-accepts`.
 -- Assumes nothing.
+use Rattle.vcd_text.specs.declared.NumberError.TheVariants.{Bad, Big}
+use Rattle.std.specs.Prelude.{Ok, Err}
+use Rattle.vcd_text.specs.Token.{Number}
 use mathlib.Core.Bool.{Bool, true, false}
 use mathlib.Core.Path.{◌≡◌, refl, sym, ap, ◌∙◌}
 use mathlib.Core.List.{List, [], ◌∷◌, ◌++◌}
@@ -9,8 +12,6 @@ use lib.ListN.{length, drop, get_or}
 use lib.Dec.{ltb, eqb}
 use borrow.Author.Tests.{ltb-true, ltb-false, eqb-true, ne_eqb}
 use Rattle.bits.specs.Byte.{pick}
-use Rattle.vcd_text.specs.declared.Number.{Number}
-use Rattle.vcd_text.specs.declared.Number.TheVariants.{Bad, Big, Of}
 use Rattle.vcd_text.specs.Token.{Token, tokens, same_bytes, end_word, decimal_of}
 use Rattle.vcd_codes.specs.Codes.{Found, undeclared, declared}
 use Rattle.vcd_items.specs.declared.Kind.{Kind}
@@ -179,7 +180,7 @@ module _ (look : List ℕ → Found) (scale : ℕ) where
         record { is = change s code ∷ x.is; ws = _; same = ap (λ (l : List (List ℕ)). (s ∷ code) ∷ l) x.same; means = m_change q k x.means }
 
     -- a time
-    advance_by : (n : ℕ) (ds : List ℕ) (late fits : Bool) (o t c : ℕ) → decimal_of ds ≡ Of n → ltb n t ≡ late → ltb (n * scale) 18446744073709551616 ≡ fits
+    advance_by : (n : ℕ) (ds : List ℕ) (late fits : Bool) (o t c : ℕ) → decimal_of ds ≡ Ok n → ltb n t ≡ late → ltb (n * scale) 18446744073709551616 ≡ fits
         → (carried (pick late (refuse 41 p) (pick fits (proceed (between o n (clocks_by n scale) false) (Rattle.vcd_steps.specs.Events.clock_events p c (clocks_by n scale - c))) (refuse 44 p))) (λ (n : Reader). body look scale n ts)).number ≡ 0
         → Plainly t c false (token_at p (35 ∷ ds) ∷ ts)
     unfolding carried bytes_of body_words item_words
@@ -197,9 +198,9 @@ module _ (look : List ℕ → Found) (scale : ℕ) where
     number_by : (number : Number) (ds : List ℕ) (o t c : ℕ) → number ≡ decimal_of ds → (carried (time_as number scale (between o t c false) p) (λ (n : Reader). body look scale n ts)).number ≡ 0
         → Plainly t c false (token_at p (35 ∷ ds) ∷ ts)
     unfolding time_as advanced
-    number_by Bad ds o t c d e = absurd (unfold carried in (let z : ◌≡◌ {A = ℕ} 40 0 = e in omega arith))
-    number_by Big ds o t c d e = absurd (unfold carried in (let z : ◌≡◌ {A = ℕ} 44 0 = e in omega arith))
-    number_by (Of n) ds o t c d e = advance_by n ds (ltb n t) (ltb (n * scale) 18446744073709551616) o t c (sym d) refl refl e
+    number_by (Err Bad) ds o t c d e = absurd (unfold carried in (let z : ◌≡◌ {A = ℕ} 40 0 = e in omega arith))
+    number_by (Err Big) ds o t c d e = absurd (unfold carried in (let z : ◌≡◌ {A = ℕ} 44 0 = e in omega arith))
+    number_by (Ok n) ds o t c d e = advance_by n ds (ltb n t) (ltb (n * scale) 18446744073709551616) o t c (sym d) refl refl e
 
     time_by : (number : Number) (ds : List ℕ) (inside unitless : Bool) (o t c : ℕ) → number ≡ decimal_of ds
         → (carried (pick inside (refuse 40 p) (pick unitless (refuse 40 p) (time_as number scale (between o t c inside) p))) (λ (n : Reader). body look scale n ts)).number ≡ 0

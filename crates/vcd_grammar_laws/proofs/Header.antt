@@ -1,5 +1,7 @@
 -- The reader's trace of a text that spells a dump is what the dump means: `dump-read`.
 -- Assumes nothing.
+use Rattle.vcd_text.specs.declared.NumberError.TheVariants.{Big}
+use Rattle.std.specs.Prelude.{Ok, Err}
 use mathlib.Core.Bool.{Bool, true, false}
 use mathlib.Core.Path.{◌≡◌, refl, sym, ap, ◌∙◌}
 use mathlib.Core.List.{List, [], ◌∷◌, ◌++◌}
@@ -10,7 +12,6 @@ use lib.Seq.{take-append_seam, drop-append_seam, drop-drop}
 use lib.Dec.{ltb, eqb}
 use borrow.Author.Tests.{lt-ltb, ne_eqb}
 use Rattle.bits.specs.Byte.{pick}
-use Rattle.vcd_text.specs.declared.Number.TheVariants.{Big, Of}
 use Rattle.vcd_text.specs.Token.{white, word_length, Token, tokens, same_bytes, end_word, decimal_of}
 use Rattle.vcd_codes.specs.Codes.{Variable, find}
 use Rattle.vcd_keywords.specs.declared.Keyword.TheVariants as keyword
@@ -225,12 +226,12 @@ module _ (file : List ℕ) (p q u n : ℕ) (vs : List Variable) where
   unfolding settled step_as type_as
   analog ty e = rw e refl
 
-  sized : (size : List ℕ) (k : ℕ) (s : Bool) → decimal_of size ≡ Of k
+  sized : (size : List ℕ) (k : ℕ) (s : Bool) → decimal_of size ≡ Ok k
       → head_token file (at q n vs in-section.VarSize (pending 0 0 0 0 s false) (units u)) (token_at p size) ≡ at q n vs in-section.VarCode (pending 0 0 0 0 (pick (eqb k 1) s false) false) (units u)
   unfolding settled step_as size_as
   sized size k s e = rw e refl
 
-  large : (size : List ℕ) (s : Bool) → decimal_of size ≡ Big
+  large : (size : List ℕ) (s : Bool) → decimal_of size ≡ (Err Big)
       → head_token file (at q n vs in-section.VarSize (pending 0 0 0 0 s false) (units u)) (token_at p size) ≡ at q n vs in-section.VarCode (pending 0 0 0 0 false false) (units u)
   unfolding settled step_as size_as
   large size s e = rw e refl

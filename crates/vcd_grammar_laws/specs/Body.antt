@@ -1,6 +1,6 @@
 -- The body of a dump as a list of items, the words that spell it, and the event words that it means (IEEE 1364, 18.2.3; Wish 10).
+use Rattle.std.specs.Prelude.{Ok}
 use Rattle.std.specs.Prelude.{ℕ, ◌-◌, ◌*◌, ◌<◌, ◌≤◌, Bool, true, false, ◌≡◌, List, [], ◌∷◌, ◌++◌, map, length, replicate}
-use Rattle.vcd_text.specs.declared.Number.TheVariants.{Of}
 use Rattle.vcd_text.specs.Token.{same_bytes, end_word, decimal_of}
 use Rattle.vcd_output.specs.Room.{clock_word, pin_word}
 use Rattle.vcd_codes.specs.Codes.{Found, undeclared, declared}
@@ -77,7 +77,7 @@ module _ (find : List ℕ → Found) (scale : ℕ) where
   pub data Means : ℕ → ℕ → Bool → List Item → List ℕ → Type 0 where
     m_none : {t c : ℕ} → Means t c false [] []
     -- a time makes the clocks up to and at it due, and does not go back or exceed 64 bits in ps
-    m_time : {t c n : ℕ} {ds : List ℕ} {is : List Item} {ws : List ℕ} → decimal_of ds ≡ Of n → t ≤ n → n * scale < 18446744073709551616
+    m_time : {t c n : ℕ} {ds : List ℕ} {is : List Item} {ws : List ℕ} → decimal_of ds ≡ Ok n → t ≤ n → n * scale < 18446744073709551616
         → Means n (clocks_by n scale) false is ws → Means t c false (time n ds ∷ is) (replicate (clocks_by n scale - c) clock_word ++ ws)
     -- a change gives the pins of its code the level
     m_change : {t c s : ℕ} {inside high : Bool} {code pins : List ℕ} {is : List Item} {ws : List ℕ} → State s high → find code ≡ declared pins

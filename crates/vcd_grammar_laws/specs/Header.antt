@@ -1,7 +1,8 @@
 -- The header of a dump as a list of sections, the words that spell it, and the unit and variables that it declares (IEEE 1364, 18.2.3; Wish 10).
+use Rattle.vcd_text.specs.declared.NumberError.TheVariants.{Big}
+use Rattle.std.specs.Prelude.{Ok, Err}
 use Rattle.std.specs.Prelude.{ℕ, ◌*◌, ◌<◌, Bool, true, false, ◌≡◌, List, [], ◌∷◌, ◌++◌, length}
 use Rattle.bits.specs.Byte.{pick}
-use Rattle.vcd_text.specs.declared.Number.TheVariants.{Big, Of}
 use Rattle.vcd_text.specs.Token.{end_word, decimal_of}
 use Rattle.vcd_codes.specs.Codes.{Variable}
 use Rattle.vcd_keywords.specs.declared.Sort.TheVariants.{Digital, Real}
@@ -69,10 +70,10 @@ pub data UnitLetters : ℕ → List ℕ → Type 0 where
 
 -- a type and a size: of a scalar or not
 pub data VariableKind : List ℕ → List ℕ → Bool → Type 0 where
-  k_scalar : {ty size : List ℕ} → sort_of ty ≡ Digital → decimal_of size ≡ Of 1 → VariableKind ty size true
-  k_vector : {ty size : List ℕ} {n : ℕ} → sort_of ty ≡ Digital → decimal_of size ≡ Of n → (n ≡ 1 → ⊥) → VariableKind ty size false
-  k_large : {ty size : List ℕ} → sort_of ty ≡ Digital → decimal_of size ≡ Big → VariableKind ty size false
-  k_real : {ty size : List ℕ} {n : ℕ} → sort_of ty ≡ Real → decimal_of size ≡ Of n → VariableKind ty size false
+  k_scalar : {ty size : List ℕ} → sort_of ty ≡ Digital → decimal_of size ≡ Ok 1 → VariableKind ty size true
+  k_vector : {ty size : List ℕ} {n : ℕ} → sort_of ty ≡ Digital → decimal_of size ≡ Ok n → (n ≡ 1 → ⊥) → VariableKind ty size false
+  k_large : {ty size : List ℕ} → sort_of ty ≡ Digital → decimal_of size ≡ (Err Big) → VariableKind ty size false
+  k_real : {ty size : List ℕ} {n : ℕ} → sort_of ty ≡ Real → decimal_of size ≡ Ok n → VariableKind ty size false
 
 -- the words of an index one after the other
 unfoldable pub index_states : ℕ → List (List ℕ) → ℕ

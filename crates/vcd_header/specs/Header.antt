@@ -1,8 +1,9 @@
 -- The header of a dump, token by token (IEEE 1364, 18.2.3; Wish 10): sections between keywords and `$end`.
-use Rattle.std.specs.Prelude.{ℕ, ◌+◌, ◌*◌, Bool, true, false, List, [], ◌∷◌, length, eqb, ltb}
+use Rattle.vcd_text.specs.declared.NumberError.TheVariants.{Bad, Big}
+use Rattle.std.specs.Prelude.{Ok, Err}
+use Rattle.vcd_text.specs.Token.{Number}
+use Rattle.std.specs.Prelude.{ℕ, Bool, true, false, List, eqb, ltb}
 use Rattle.bits.specs.Byte.{pick}
-use Rattle.vcd_text.specs.declared.Number.{Number}
-use Rattle.vcd_text.specs.declared.Number.TheVariants.{Bad, Big, Of}
 use Rattle.vcd_text.specs.Token.{same_bytes, all_graphic, end_word, decimal_of}
 use Rattle.vcd_keywords.specs.declared.Keyword.{Keyword}
 use Rattle.vcd_keywords.specs.declared.Keyword.TheVariants as keyword
@@ -12,7 +13,6 @@ use Rattle.vcd_header.specs.declared.Section.{Section}
 use Rattle.vcd_header.specs.declared.Section.TheVariants.{Outside, Text, Count, Letters, UnitEnd, ScopeType, ScopeName, VarType, VarSize, VarCode, VarName, VarIndex, Closing, Ending}
 use Rattle.vcd_header.specs.declared.Unit.{Unit}
 use Rattle.vcd_header.specs.declared.Pending.{Pending}
-use Rattle.vcd_header.specs.declared.Close.{Close}
 use Rattle.vcd_header.specs.declared.Head.{Head}
 use Rattle.vcd_keywords.specs.Words.{keyword_of, count_of, letters_of, times_unit, joined_of, is_scope, sort_of, pin_of, index_state}
 
@@ -100,9 +100,9 @@ type_as Neither h = faulty h
 
 -- a scalar has size 1, as a number
 unfoldable pub size_as : Number → Head → Head
-size_as Bad h = faulty h
-size_as Big h = with_variable h VarCode (pending 0 0 0 0 false false)
-size_as (Of n) h = with_variable h VarCode (pending 0 0 0 0 (pick (eqb n 1) h.variable.scalar false) false)
+size_as (Err Bad) h = faulty h
+size_as (Err Big) h = with_variable h VarCode (pending 0 0 0 0 false false)
+size_as (Ok n) h = with_variable h VarCode (pending 0 0 0 0 (pick (eqb n 1) h.variable.scalar false) false)
 
 -- the code is kept as its first place and the place past its last
 unfoldable pub code_step : List ℕ → Head → ℕ → ℕ → Head

@@ -10,7 +10,7 @@ use vcd_keywords::{
     Keyword, Sort, count_of, index_state, is_scope, joined_of, keyword_of, letters_of, pin_of,
     scaled, sort_of,
 };
-use vcd_text::{Number, is_end};
+use vcd_text::{NumberError, is_end};
 
 // What the reader of the header waits for.
 #[derive(Clone, Copy)]
@@ -51,7 +51,7 @@ pub struct Unit {
 pub struct Pending {
     pub from: usize,
     pub to: usize,
-    pub index: u32,
+    pub index: u8,
     pub pin: u8,
     pub scalar: bool,
     pub whole: bool,
@@ -78,13 +78,11 @@ pub struct Head {
 
 // ---- names
 
+#[tactic(auto, unfolding(crate::specs::Header::is_name))]
 fn is_name(t: &[u8]) -> bool
     ensures { result ≡ is_name t.now }
 {
-    if is_end(t) {
-        return false;
-    }
-    vcd_text::all_graphic(t)
+    !is_end(t) && vcd_text::all_graphic(t)
 }
 
 // ---- the head with some parts changed
@@ -92,86 +90,48 @@ fn is_name(t: &[u8]) -> bool
 fn in_section(h: Head, section: Section, mark: usize) -> Head
     ensures { result ≡ in_section h section mark }
 {
-    let unit = h.unit;
-    let variable = h.variable;
-    let close = h.close;
-    Head {
-        mark: mark,
-        entries: h.entries,
-        unit: unit,
-        variable: variable,
-        close: close,
-        section: section,
-    }
+    Head { mark, section, ..h }
 }
 
 fn with_unit(h: Head, section: Section, first: usize, scale: u64, unit: u64) -> Head
     ensures { result ≡ with_unit h section (record { first = first; scale = scale; unit = unit }) }
 {
-    let read = Unit {
-        first: first,
-        scale: scale,
-        unit: unit,
-    };
-    let variable = h.variable;
-    let close = h.close;
-    Head {
-        mark: h.mark,
-        entries: h.entries,
-        unit: read,
-        variable: variable,
-        close: close,
-        section: section,
-    }
+    let unit = Unit { first, scale, unit };
+    Head { unit, section, ..h }
 }
 
-fn variable_read(from: usize, to: usize, pin: u8, index: u32, scalar: bool, whole: bool) -> Pending
+fn variable_read(from: usize, to: usize, pin: u8, index: u8, scalar: bool, whole: bool) -> Pending
     ensures { result ≡ pending_of from to pin index scalar whole }
 {
     Pending {
-        from: from,
-        to: to,
-        index: index,
-        pin: pin,
-        scalar: scalar,
-        whole: whole,
+        from,
+        to,
+        index,
+        pin,
+        scalar,
+        whole,
     }
 }
 
 fn with_variable(h: Head, section: Section, variable: Pending) -> Head
     ensures { result ≡ with_variable h section variable }
 {
-    let unit = h.unit;
-    let close = h.close;
     Head {
-        mark: h.mark,
-        entries: h.entries,
-        unit: unit,
-        variable: variable,
-        close: close,
-        section: section,
+        variable,
+        section,
+        ..h
     }
 }
 
 fn stop_at(h: Head, number: u8, place: usize) -> Head
     ensures { result ≡ stops_at h number place }
 {
-    let unit = h.unit;
-    let variable = h.variable;
-    let section = h.section;
     let close = Close {
-        place: place,
-        number: number,
+        place,
+        number,
         stop: true,
     };
-    Head {
-        mark: h.mark,
-        entries: h.entries,
-        unit: unit,
-        variable: variable,
-        close: close,
-        section: section,
-    }
+    Head { close, ..h }
 }
 
 fn faulty(h: Head) -> Head
@@ -182,6 +142,7 @@ fn faulty(h: Head) -> Head
 
 // ---- sections
 
+#[tactic(auto, unfolding(crate::specs::Header::closed_by))]
 fn closing(t: &[u8], h: Head) -> Head
     ensures { result ≡ closed_by t.now h }
 {
@@ -191,6 +152,7 @@ fn closing(t: &[u8], h: Head) -> Head
     faulty(h)
 }
 
+#[tactic(auto, unfolding(crate::specs::Header::keyword_step))]
 fn keyword_step(keyword: Keyword, h: Head, p: usize) -> Head
     ensures { result ≡ keyword_step keyword h p }
 {
@@ -205,6 +167,7 @@ fn keyword_step(keyword: Keyword, h: Head, p: usize) -> Head
     }
 }
 
+#[tactic(auto, unfolding(crate::specs::Header::text_step))]
 fn text_step(t: &[u8], h: Head) -> Head
     ensures { result ≡ text_step t.now h }
 {
@@ -214,6 +177,7 @@ fn text_step(t: &[u8], h: Head) -> Head
     h
 }
 
+#[tactic(auto, unfolding(crate::specs::Header::count_step))]
 fn count_step(t: &[u8], h: Head, p: usize) -> Head
     ensures { result ≡ count_step t.now h p }
 {
@@ -232,6 +196,7 @@ fn count_step(t: &[u8], h: Head, p: usize) -> Head
     stop_at(h, 40, p)
 }
 
+#[tactic(auto, unfolding(crate::specs::Header::letters_step))]
 fn letters_step(t: &[u8], h: Head) -> Head
     ensures { result ≡ letters_step t.now h }
 {
@@ -249,6 +214,7 @@ fn letters_step(t: &[u8], h: Head) -> Head
     stop_at(h, 40, unit.first)
 }
 
+#[tactic(auto, unfolding(crate::specs::Header::unit_step))]
 fn unit_step(t: &[u8], h: Head) -> Head
     ensures { result ≡ unit_step t.now h }
 {
@@ -259,6 +225,7 @@ fn unit_step(t: &[u8], h: Head) -> Head
     stop_at(h, 40, unit.first)
 }
 
+#[tactic(auto, unfolding(crate::specs::Header::scope_step))]
 fn scope_step(t: &[u8], h: Head) -> Head
     ensures { result ≡ scope_step t.now h }
 {
@@ -268,6 +235,7 @@ fn scope_step(t: &[u8], h: Head) -> Head
     faulty(h)
 }
 
+#[tactic(auto, unfolding(crate::specs::Header::scope_name_step))]
 fn scope_name_step(t: &[u8], h: Head) -> Head
     ensures { result ≡ scope_name_step t.now h }
 {
@@ -277,6 +245,7 @@ fn scope_name_step(t: &[u8], h: Head) -> Head
     faulty(h)
 }
 
+#[tactic(auto, unfolding(crate::specs::Header::type_as))]
 fn type_as(sort: Sort, h: Head) -> Head
     ensures { result ≡ type_as sort h }
 {
@@ -290,17 +259,22 @@ fn type_as(sort: Sort, h: Head) -> Head
 fn size_one(n: u64, scalar: bool) -> bool
     ensures { result ≡ pick (eqb n 1) scalar false }
 {
-    if n == 1 { scalar } else { false }
+    n == 1 && scalar
 }
 
-fn size_as(size: Number, h: Head) -> Head
+#[tactic(auto, unfolding(crate::specs::Header::size_as))]
+fn size_as(size: Result<u64, NumberError>, h: Head) -> Head
     ensures { result ≡ size_as size h }
 {
     let variable = h.variable;
     match size {
-        Number::Bad => faulty(h),
-        Number::Big => with_variable(h, Section::VarCode, variable_read(0, 0, 0, 0, false, false)),
-        Number::Of(n) => with_variable(
+        Err(NumberError::Bad) => faulty(h),
+        Err(NumberError::Big) => with_variable(
+            h,
+            Section::VarCode,
+            variable_read(0, 0, 0, 0, false, false),
+        ),
+        Ok(n) => with_variable(
             h,
             Section::VarCode,
             variable_read(0, 0, 0, 0, size_one(n, variable.scalar), false),
@@ -308,6 +282,7 @@ fn size_as(size: Number, h: Head) -> Head
     }
 }
 
+#[tactic(auto, unfolding(crate::specs::Header::code_step))]
 fn code_step(t: &[u8], h: Head, p: usize, e: usize) -> Head
     ensures { result ≡ code_step t.now h p e }
 {
@@ -331,6 +306,7 @@ fn pin_if(scalar: bool, t: &[u8]) -> u8
     0
 }
 
+#[tactic(auto, unfolding(crate::specs::Header::name_step))]
 fn name_step(t: &[u8], h: Head) -> Head
     ensures { result ≡ name_step t.now h }
 {
@@ -345,6 +321,7 @@ fn name_step(t: &[u8], h: Head) -> Head
     faulty(h)
 }
 
+#[tactic(auto, unfolding(crate::specs::Header::whole_step))]
 fn whole_step(h: Head) -> Head
     ensures { result ≡ whole_step h }
 {
@@ -366,6 +343,7 @@ fn whole_step(h: Head) -> Head
     faulty(h)
 }
 
+#[tactic(auto, unfolding(crate::specs::Header::index_step))]
 fn index_step(t: &[u8], h: Head) -> Head
     ensures { result ≡ index_step t.now h }
 {
@@ -384,6 +362,7 @@ fn index_step(t: &[u8], h: Head) -> Head
     )
 }
 
+#[tactic(auto, unfolding(crate::specs::Header::ending_step))]
 fn ending_step(t: &[u8], h: Head, e: usize) -> Head
     ensures { result ≡ ending_step t.now h e }
 {
@@ -394,6 +373,7 @@ fn ending_step(t: &[u8], h: Head, e: usize) -> Head
 }
 
 // A token from place p to place e, by section.
+#[tactic(auto, unfolding(crate::specs::Header::step_as))]
 pub fn step(section: Section, t: &[u8], h: Head, p: usize, e: usize) -> Head
     ensures { result ≡ step_as section t.now h p e }
 {
@@ -416,26 +396,14 @@ pub fn step(section: Section, t: &[u8], h: Head, p: usize, e: usize) -> Head
 }
 
 // The end of a file of a size.
+#[tactic(auto, unfolding(crate::specs::Header::end_as))]
 pub fn end(h: Head, size: usize) -> Head
     ensures { result ≡ end_as h.section h size }
 {
-    let section = h.section;
-    let unit = h.unit;
-    match section {
+    match h.section {
         Section::Outside => stop_at(h, 0, size),
-        Section::Text => faulty(h),
-        Section::Count => faulty(h),
-        Section::Letters => stop_at(h, 40, unit.first),
-        Section::UnitEnd => faulty(h),
-        Section::ScopeType => faulty(h),
-        Section::ScopeName => faulty(h),
-        Section::VarType => faulty(h),
-        Section::VarSize => faulty(h),
-        Section::VarCode => faulty(h),
-        Section::VarName => faulty(h),
-        Section::VarIndex => faulty(h),
-        Section::Closing => faulty(h),
-        Section::Ending => faulty(h),
+        Section::Letters => stop_at(h, 40, h.unit.first),
+        _ => faulty(h),
     }
 }
 
@@ -457,9 +425,9 @@ pub fn fresh() -> Head
     Head {
         mark: 0,
         entries: 0,
-        unit: unit,
-        variable: variable,
-        close: close,
+        unit,
+        variable,
+        close,
         section: Section::Outside,
     }
 }

@@ -1,7 +1,6 @@
 -- What a token of the body is (IEEE 1364, 18.2.3 and 18.2.4; Wish 10): a change, a time or a keyword, by its bytes alone.
-use Rattle.std.specs.Prelude.{ℕ, suc, ◌+◌, ◌*◌, Bool, true, false, List, [], ◌∷◌, length, drop, get_or, eqb, ltb}
+use Rattle.std.specs.Prelude.{ℕ, ◌+◌, ◌*◌, Bool, true, false, List, [], ◌∷◌, length, drop, get_or, eqb, ltb}
 use Rattle.bits.specs.Byte.{pick}
-use Rattle.vcd_text.specs.declared.Number.{Number}
 use Rattle.vcd_text.specs.Token.{same_bytes, end_word, decimal_of}
 use Rattle.vcd_items.specs.declared.Kind.{Kind}
 use Rattle.vcd_items.specs.declared.Kind.TheVariants.{Low, High, Vector, Real, Hash, Dollar, Other}

@@ -1,10 +1,10 @@
 // What a token of a dump's body is, by its bytes alone.
 #![tactic(auto)]
 
-ghost use Rattle.std.specs.Prelude.{◌≡◌, ◌<◌, length, get_or};
+ghost use Rattle.std.specs.Prelude.{◌≡◌, ◌<◌, length};
 ghost use Rattle.vcd_items.specs.Items.{four_state, all_states, is_vector, letter_class, real_class, real_next, real_state, whole_real, is_real, kind_of, is_dump, keyword_of, item_as, item_of};
 
-use vcd_text::{Number, same};
+use vcd_text::{NumberError, same};
 
 // What a token is by its first byte.
 #[derive(Clone, Copy)]
@@ -25,7 +25,7 @@ pub enum Item {
     Scalar(bool),
     // a well formed b or r change, before its code
     Value,
-    Time(Number),
+    Time(Result<u64, NumberError>),
     Dump,
     End,
     Comment,
@@ -34,83 +34,60 @@ pub enum Item {
 
 // ---- vectors
 
+#[tactic(auto, unfolding(crate::specs::Items::four_state))]
 fn is_state(b: u8) -> bool
     ensures { result ≡ four_state b }
 {
-    match b {
-        48 => true,
-        49 => true,
-        120 => true,
-        88 => true,
-        122 => true,
-        90 => true,
-        _ => false,
-    }
+    matches!(b, b'0' | b'1' | b'x' | b'X' | b'z' | b'Z')
 }
 
 fn states(t: &[u8]) -> bool
     ensures { result ≡ all_states t.now }
 {
-    let mut i = 0;
-    while i < t.len() {
-        if is_state(t[i]) {
-            i += 1;
-        } else {
-            return false;
-        }
-    }
-    true
+    t.iter().all(|b| is_state(*b))
 }
 
+#[tactic(auto, unfolding(crate::specs::Items::is_vector))]
 fn is_vector(t: &[u8]) -> bool
     ensures { result ≡ is_vector t.now }
 {
-    if t.len() == 0 {
-        return false;
-    }
-    states(t)
+    !t.is_empty() && states(t)
 }
 
 // ---- reals
 
-fn letter_class(b: u8) -> u32
+#[tactic(auto, unfolding(crate::specs::Items::letter_class))]
+fn letter_class(b: u8) -> u8
     ensures { (result ≡ letter_class b) × (result < 16) }
 {
     match b {
-        43 => 1,
-        45 => 1,
-        46 => 2,
-        69 => 3,
-        101 => 3,
-        78 => 4,
-        110 => 4,
-        65 => 5,
-        97 => 5,
-        73 => 6,
-        105 => 6,
-        70 => 7,
-        102 => 7,
+        b'+' | b'-' => 1,
+        b'.' => 2,
+        b'E' | b'e' => 3,
+        b'N' | b'n' => 4,
+        b'A' | b'a' => 5,
+        b'I' | b'i' => 6,
+        b'F' | b'f' => 7,
         _ => 8,
     }
 }
 
-fn real_class(b: u8) -> u32
+#[tactic(auto, unfolding(crate::specs::Items::real_class))]
+fn real_class(b: u8) -> u8
     ensures { (result ≡ real_class b) × (result < 16) }
 {
-    if b < 48 {
-        return letter_class(b);
+    if b.is_ascii_digit() {
+        0
+    } else {
+        letter_class(b)
     }
-    if b < 58 {
-        return 0;
-    }
-    letter_class(b)
 }
 
-fn real_next(q: u32, c: u32) -> u32
-    requires { (q < 16) × (c < 16) }
+#[tactic(auto, unfolding(crate::specs::Items::real_next))]
+fn real_next(q: u8, c: u8) -> u8
     ensures { (result ≡ real_next q c) × (result < 16) }
 {
-    match q * 16 + c {
+    match u16::from(q) * 16 + u16::from(c) {
         0 => 2,
         1 => 1,
         4 => 8,
@@ -136,73 +113,51 @@ fn real_next(q: u32, c: u32) -> u32
     }
 }
 
-fn real_state(t: &[u8]) -> u32
+fn real_state(t: &[u8]) -> u8
     ensures { result ≡ real_state 0 t.now }
 {
-    let mut q: u32 = 0;
-    let mut i = 0;
-    while i < t.len() {
-        q = real_next(q, real_class(t[i]));
-        i += 1;
-    }
-    q
+    t.iter().fold(0, |q, b| real_next(q, real_class(*b)))
 }
 
+#[tactic(auto, unfolding(crate::specs::Items::is_real))]
 fn is_real(t: &[u8]) -> bool
     ensures { result ≡ is_real t.now }
 {
     whole_real(real_state(t))
 }
 
-fn whole_real(q: u32) -> bool
+#[tactic(auto, unfolding(crate::specs::Items::whole_real))]
+fn whole_real(q: u8) -> bool
     ensures { result ≡ whole_real q }
 {
-    match q {
-        2 => true,
-        4 => true,
-        7 => true,
-        12 => true,
-        _ => false,
-    }
+    matches!(q, 2 | 4 | 7 | 12)
 }
 
 // ---- tokens
 
+#[tactic(auto, unfolding(crate::specs::Items::kind_of))]
 fn kind_of(b: u8) -> Kind
     ensures { result ≡ kind_of b }
 {
     match b {
-        48 => Kind::Low,
-        49 => Kind::High,
-        120 => Kind::High,
-        88 => Kind::High,
-        122 => Kind::High,
-        90 => Kind::High,
-        35 => Kind::Hash,
-        36 => Kind::Dollar,
-        98 => Kind::Vector,
-        66 => Kind::Vector,
-        114 => Kind::Real,
-        82 => Kind::Real,
+        b'0' => Kind::Low,
+        b'1' | b'x' | b'X' | b'z' | b'Z' => Kind::High,
+        b'#' => Kind::Hash,
+        b'$' => Kind::Dollar,
+        b'b' | b'B' => Kind::Vector,
+        b'r' | b'R' => Kind::Real,
         _ => Kind::Other,
     }
 }
 
+#[tactic(auto, unfolding(crate::specs::Items::is_dump))]
 fn is_dump(t: &[u8]) -> bool
     ensures { result ≡ is_dump t.now }
 {
-    if same(t, b"$dumpvars") {
-        return true;
-    }
-    if same(t, b"$dumpall") {
-        return true;
-    }
-    if same(t, b"$dumpon") {
-        return true;
-    }
-    same(t, b"$dumpoff")
+    same(t, b"$dumpvars") || same(t, b"$dumpall") || same(t, b"$dumpon") || same(t, b"$dumpoff")
 }
 
+#[tactic(auto, unfolding(crate::specs::Items::keyword_of))]
 fn keyword(t: &[u8]) -> Item
     ensures { result ≡ keyword_of t.now }
 {
@@ -218,6 +173,7 @@ fn keyword(t: &[u8]) -> Item
     Item::Bad
 }
 
+#[tactic(auto, unfolding(crate::specs::Items::item_as))]
 fn vector(t: &[u8]) -> Item
     requires { 0 < length t.now }
     ensures { result ≡ item_as Kind.Vector t.now }
@@ -229,6 +185,7 @@ fn vector(t: &[u8]) -> Item
     }
 }
 
+#[tactic(auto, unfolding(crate::specs::Items::item_as))]
 fn real(t: &[u8]) -> Item
     requires { 0 < length t.now }
     ensures { result ≡ item_as Kind.Real t.now }
@@ -240,6 +197,7 @@ fn real(t: &[u8]) -> Item
     }
 }
 
+#[tactic(auto, unfolding(crate::specs::Items::item_as))]
 fn time(t: &[u8]) -> Item
     requires { 0 < length t.now }
     ensures { result ≡ item_as Kind.Hash t.now }
@@ -247,6 +205,7 @@ fn time(t: &[u8]) -> Item
     Item::Time(vcd_text::decimal(&t[1..]))
 }
 
+#[tactic(auto, unfolding(crate::specs::Items::item_as))]
 fn item_as(kind: Kind, t: &[u8]) -> Item
     requires { 0 < length t.now }
     ensures { result ≡ item_as kind t.now }
@@ -263,11 +222,12 @@ fn item_as(kind: Kind, t: &[u8]) -> Item
 }
 
 // What a token is.
+#[tactic(auto, unfolding(crate::specs::Items::item_of))]
 pub fn item_of(t: &[u8]) -> Item
     ensures { result ≡ item_of t.now }
 {
-    if t.len() == 0 {
-        return Item::Bad;
+    match t.first() {
+        None => Item::Bad,
+        Some(b) => item_as(kind_of(*b), t),
     }
-    item_as(kind_of(t[0]), t)
 }

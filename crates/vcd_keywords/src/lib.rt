@@ -28,13 +28,15 @@ pub enum Sort {
 
 // ---- keywords
 
+#[tactic(auto, unfolding(crate::specs::Words::is_text))]
 fn is_text(t: &[u8]) -> bool
     ensures { result ≡ is_text t.now }
 {
-    same(t, b"$comment") | (same(t, b"$date") | same(t, b"$version"))
+    same(t, b"$comment") || same(t, b"$date") || same(t, b"$version")
 }
 
 // The keyword that opens a section.
+#[tactic(auto, unfolding(crate::specs::Words::keyword_of))]
 pub fn keyword_of(t: &[u8]) -> Keyword
     ensures { result ≡ keyword_of t.now }
 {
@@ -62,6 +64,7 @@ pub fn keyword_of(t: &[u8]) -> Keyword
 // ---- units
 
 // The number of a unit; 0 for another word.
+#[tactic(auto, unfolding(crate::specs::Words::count_of))]
 pub fn count_of(t: &[u8]) -> u64
     ensures { result ≡ count_of t.now }
 {
@@ -78,6 +81,7 @@ pub fn count_of(t: &[u8]) -> u64
 }
 
 // The letters of a unit, in ps; 0 for another word.
+#[tactic(auto, unfolding(crate::specs::Words::letters_of))]
 pub fn letters_of(t: &[u8]) -> u64
     ensures { (result ≡ letters_of t.now) × (result ≤ 1000000) }
 {
@@ -93,6 +97,7 @@ pub fn letters_of(t: &[u8]) -> u64
     0
 }
 
+#[tactic(auto, unfolding(crate::specs::Words::times_unit))]
 fn times_unit(count: u64, letters: u64) -> u64
     requires { letters ≤ 1000000 }
     ensures { result ≡ times_unit count letters }
@@ -117,59 +122,71 @@ pub fn scaled(count: u64, t: &[u8]) -> u64
 }
 
 // Number and letters in one word; 0 for another word.
+#[tactic(auto, unfolding(crate::specs::Words::joined_of))]
 pub fn joined_of(t: &[u8]) -> u64
     ensures { result ≡ joined_of t.now }
 {
     if t.len() < 3 {
         return 0;
     }
-    let begin = 0;
-    let cut = t.len() - 2;
-    scaled(count_of(&t[begin..cut]), &t[cut..])
+    let (count, letters) = t.split_at(t.len() - 2);
+    scaled(count_of(count), letters)
 }
 
 // ---- types
 
+#[tactic(auto, unfolding(crate::specs::Words::is_scope))]
 pub fn is_scope(t: &[u8]) -> bool
     ensures { result ≡ is_scope t.now }
 {
     same(t, b"begin")
-        | (same(t, b"fork") | (same(t, b"function") | (same(t, b"module") | same(t, b"task"))))
+        || same(t, b"fork")
+        || same(t, b"function")
+        || same(t, b"module")
+        || same(t, b"task")
 }
 
+#[tactic(auto, unfolding(crate::specs::Words::is_net))]
 fn is_net(t: &[u8]) -> bool
     ensures { result ≡ is_net t.now }
 {
     same(t, b"wire")
-        | (same(t, b"tri")
-            | (same(t, b"triand")
-                | (same(t, b"trior")
-                    | (same(t, b"trireg")
-                        | (same(t, b"tri0")
-                            | (same(t, b"tri1")
-                                | (same(t, b"wand")
-                                    | (same(t, b"wor")
-                                        | (same(t, b"supply0") | same(t, b"supply1"))))))))))
+        || same(t, b"tri")
+        || same(t, b"triand")
+        || same(t, b"trior")
+        || same(t, b"trireg")
+        || same(t, b"tri0")
+        || same(t, b"tri1")
+        || same(t, b"wand")
+        || same(t, b"wor")
+        || same(t, b"supply0")
+        || same(t, b"supply1")
 }
 
+#[tactic(auto, unfolding(crate::specs::Words::is_discrete))]
 fn is_discrete(t: &[u8]) -> bool
     ensures { result ≡ is_discrete t.now }
 {
     same(t, b"reg")
-        | (same(t, b"event") | (same(t, b"integer") | (same(t, b"parameter") | same(t, b"time"))))
+        || same(t, b"event")
+        || same(t, b"integer")
+        || same(t, b"parameter")
+        || same(t, b"time")
 }
 
+#[tactic(auto, unfolding(crate::specs::Words::is_real))]
 fn is_real(t: &[u8]) -> bool
     ensures { result ≡ is_real t.now }
 {
-    same(t, b"real") | same(t, b"realtime")
+    same(t, b"real") || same(t, b"realtime")
 }
 
 // The sort of a type.
+#[tactic(auto, unfolding(crate::specs::Words::sort_of))]
 pub fn sort_of(t: &[u8]) -> Sort
     ensures { result ≡ sort_of t.now }
 {
-    if is_net(t) | is_discrete(t) {
+    if is_net(t) || is_discrete(t) {
         return Sort::Digital;
     }
     if is_real(t) {
@@ -181,6 +198,7 @@ pub fn sort_of(t: &[u8]) -> Sort
 // ---- names and indices
 
 // The pin with this name; 0 for another name.
+#[tactic(auto, unfolding(crate::specs::Words::pin_of))]
 pub fn pin_of(t: &[u8]) -> u8
     ensures { result ≡ pin_of t.now }
 {
@@ -199,47 +217,25 @@ pub fn pin_of(t: &[u8]) -> u8
     0
 }
 
-fn index_class(b: u8) -> u64
-    ensures { (result ≡ index_class b) × (result < 8) }
+#[tactic(auto, unfolding(crate::specs::Words::index_class))]
+fn index_class(b: u8) -> u8
+    ensures { result ≡ index_class b }
 {
-    if b < 48 {
-        if b == 45 {
-            return 1;
-        }
-        return 5;
+    match b {
+        b'0'..=b'9' => 0,
+        b'-' => 1,
+        b':' => 2,
+        b'[' => 3,
+        b']' => 4,
+        _ => 5,
     }
-    if b < 58 {
-        return 0;
-    }
-    if b == 58 {
-        return 2;
-    }
-    if b == 91 {
-        return 3;
-    }
-    if b == 93 {
-        return 4;
-    }
-    5
 }
 
-fn wide(q: u32) -> u64
-    ensures { (result ≡ q) × (result < 4294967296) }
-{
-    q as u64
-}
-
-fn index_next(q: u32, c: u64) -> u32
-    requires { c < 8 }
+#[tactic(auto, unfolding(crate::specs::Words::index_by))]
+fn index_next(q: u8, c: u8) -> u8
     ensures { result ≡ index_next q c }
 {
-    index_by(wide(q) * 8 + c)
-}
-
-fn index_by(n: u64) -> u32
-    ensures { result ≡ index_by n }
-{
-    match n {
+    match u16::from(q) * 8 + u16::from(c) {
         3 => 1,
         8 => 3,
         9 => 2,
@@ -257,14 +253,8 @@ fn index_by(n: u64) -> u32
 }
 
 // How far an index is read, from a state on.
-pub fn index_state(from: u32, t: &[u8]) -> u32
+pub fn index_state(from: u8, t: &[u8]) -> u8
     ensures { result ≡ index_state from t.now }
 {
-    let mut q = from;
-    let mut i = 0;
-    while i < t.len() {
-        q = index_next(q, index_class(t[i]));
-        i += 1;
-    }
-    q
+    t.iter().fold(from, |q, b| index_next(q, index_class(*b)))
 }

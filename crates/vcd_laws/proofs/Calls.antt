@@ -1,5 +1,8 @@
 -- A call writes the words of the trace, one after the other, and tells the first refusal: `call-gives`.
 -- Assumes nothing.
+use Rattle.vcd_text.specs.declared.NumberError.TheVariants.{Bad, Big}
+use Rattle.std.specs.Prelude.{Ok, Err}
+use Rattle.vcd_text.specs.Token.{Number}
 use mathlib.Core.Bool.{Bool, true, false}
 use mathlib.Core.Path.{◌≡◌, refl, sym, ap, ◌∙◌}
 use mathlib.Core.List.{List, [], ◌∷◌, ◌++◌}
@@ -11,8 +14,6 @@ use lib.Dec.{ltb, eqb}
 use borrow.Author.Tests.{lt-ltb}
 use Rattle.bits.specs.Byte.{pick}
 use Rattle.vcd_text.specs.Token.{Token, same_bytes, end_word, tokens}
-use Rattle.vcd_text.specs.declared.Number.{Number}
-use Rattle.vcd_text.specs.declared.Number.TheVariants.{Bad, Big, Of}
 use Rattle.vcd_output.specs.declared.Put.{Put}
 use Rattle.vcd_output.specs.Room.{Written, wrote, put}
 use Rattle.vcd_codes.specs.Codes.{Found, undeclared, declared, find}
@@ -62,9 +63,9 @@ either_at p false x y a b = b
 module _ (scale : ℕ) (s : State) (p : ℕ) where
   number_at : (n : Number) → At p (time_as n scale s p)
   unfolding time_as advanced
-  number_at Bad = at_refuse
-  number_at Big = at_refuse
-  number_at (Of n) =
+  number_at (Err Bad) = at_refuse
+  number_at (Err Big) = at_refuse
+  number_at (Ok n) =
       either_at p (ltb n s.time) _ _ at_refuse (either_at p (ltb (n * scale) 18446744073709551616) _ _ (at_proceed (clocks_at p s.clocks (clocks_by n scale - s.clocks))) at_refuse)
 
   time_at : (n : Number) → At p (time_of n scale s p)

@@ -1,5 +1,8 @@
 -- Clocks and changes come in the order of time, a clock before the changes of its time, and in the file's order: `trace-ordered`.
 -- Assumes nothing.
+use Rattle.vcd_text.specs.declared.NumberError.TheVariants.{Bad, Big}
+use Rattle.std.specs.Prelude.{Ok, Err}
+use Rattle.vcd_text.specs.Token.{Number}
 use mathlib.Core.Bool.{Bool, true, false}
 use mathlib.Core.Path.{◌≡◌, refl, sym, ap, ◌∙◌}
 use mathlib.Core.List.{List, [], ◌∷◌, ◌++◌}
@@ -11,8 +14,6 @@ use lib.Dec.{ltb, eqb}
 use borrow.Author.Tests.{ltb-false}
 use Rattle.bits.specs.Byte.{pick}
 use Rattle.vcd_text.specs.Token.{Token, white, word_length, tokens, same_bytes, end_word}
-use Rattle.vcd_text.specs.declared.Number.{Number}
-use Rattle.vcd_text.specs.declared.Number.TheVariants.{Bad, Big, Of}
 use Rattle.vcd_output.specs.Room.{clock_word, pin_word}
 use Rattle.vcd_codes.specs.Codes.{Found, undeclared, declared, find}
 use Rattle.vcd_items.specs.declared.Item.{Item}
@@ -106,9 +107,9 @@ module _ (scale : ℕ) where
 
     number_leads : (n : Number) → Leads s p (time_as n scale s p)
     unfolding time_as advanced
-    number_leads Bad = leads_refuse
-    number_leads Big = leads_refuse
-    number_leads (Of n) = advance_leads n (ltb n s.time) refl
+    number_leads (Err Bad) = leads_refuse
+    number_leads (Err Big) = leads_refuse
+    number_leads (Ok n) = advance_leads n (ltb n s.time) refl
 
     change_leads : (f : Found) (high : Bool) → Leads s p (change_of f high scale s p)
     unfolding change_of

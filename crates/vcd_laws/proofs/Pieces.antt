@@ -2,6 +2,9 @@
 -- (`left_after`), two pieces joined are one call with the room of both (`pieces-joined`, `words-joined`), and so are any number
 -- (`pieces-all`, `pieces-words`).
 -- Assumes nothing.
+use Rattle.vcd_text.specs.declared.NumberError.TheVariants.{Bad, Big}
+use Rattle.std.specs.Prelude.{Ok, Err}
+use Rattle.vcd_text.specs.Token.{Number}
 use mathlib.Core.Bool.{Bool, true, false}
 use mathlib.Core.Path.{◌≡◌, refl, sym, ap, ◌∙◌}
 use mathlib.Core.List.{List, [], ◌∷◌, ◌++◌, append-nil, append_assoc}
@@ -14,8 +17,6 @@ use lib.Dec.{ltb, eqb}
 use borrow.Author.Tests.{lt-ltb, le-ltb, ltb-true, ltb-false, eqb-true, eqb-false}
 use Rattle.bits.specs.Byte.{pick}
 use Rattle.vcd_text.specs.Token.{Token, same_bytes, end_word, white_length, word_length, tokens}
-use Rattle.vcd_text.specs.declared.Number.{Number}
-use Rattle.vcd_text.specs.declared.Number.TheVariants.{Bad, Big, Of}
 use Rattle.vcd_text.proofs.Laws.{tokens_skip, no_token_lem, next_token, word_some}
 use Rattle.vcd_output.specs.declared.Put.{Put}
 use Rattle.vcd_output.specs.Room.{Written, wrote, put}
@@ -126,9 +127,9 @@ forty_four = other_refuse (λ (e : ◌≡◌ {A = ℕ} 44 43). omega arith)
 module _ (scale : ℕ) (s : State) (p : ℕ) where
   number_other : (n : Number) → Other (time_as n scale s p)
   unfolding time_as advanced
-  number_other Bad = forty
-  number_other Big = forty_four
-  number_other (Of n) =
+  number_other (Err Bad) = forty
+  number_other (Err Big) = forty_four
+  number_other (Ok n) =
       either_other (ltb n s.time) _ _ (other_refuse (λ (e : ◌≡◌ {A = ℕ} 41 43). omega arith))
       (either_other (ltb (n * scale) 18446744073709551616) _ _ other_proceed forty_four)
 

@@ -6,6 +6,9 @@ ghost use Rattle.vcd_output.specs.Room.{wrote, put, clock_word, pin_word, pin_wo
 
 pub const CLOCK: u32 = 0x04000000;
 
+// The word of pin 0's change to 0.
+const PIN: u32 = 0x03000000;
+
 // How many words stand in the places; whether one found no place; and then how many words of its token are written.
 #[derive(Clone, Copy)]
 pub struct Put {
@@ -19,22 +22,20 @@ pub fn clocks(out: &mut [u32], from: usize, due: u64, done: u64) -> Put
     ensures { wrote out.new result ≡ put (replicate (due - done) clock_word) out.old from done }
 {
     let mut count = from;
-    let mut given = done;
-    while given < due {
+    for given in done..due {
         if count < out.len() {
             out[count] = CLOCK;
             count += 1;
-            given += 1;
         } else {
             return Put {
-                count: count,
+                count,
                 done: given,
                 full: true,
             };
         }
     }
     Put {
-        count: count,
+        count,
         done: 0,
         full: false,
     }
@@ -45,11 +46,7 @@ fn pin_word(high: bool, pin: u32) -> u32
     requires { pin ≤ 255 }
     ensures { result ≡ pin_word high pin }
 {
-    if high {
-        50331649 + pin * 256
-    } else {
-        50331648 + pin * 256
-    }
+    PIN + u32::from(high) + pin * 256
 }
 
 // A list of pins without the first ones.
@@ -58,13 +55,11 @@ fn passed(list: u32, done: u64) -> u32
     ensures { (high : Bool) → pin_words (4 - done) result high ≡ drop done (pin_words 4 list high) }
 {
     let mut rest = list;
-    let mut i: u64 = 0;
-    while i < done {
+    for i in 0..done {
         if rest % 256 == 0 {
             return 0;
         }
-        rest = rest / 256;
-        i += 1;
+        rest /= 256;
     }
     rest
 }
@@ -89,12 +84,11 @@ fn rest_of_pins(out: &mut [u32], from: usize, list: u32, high: bool, done: u64) 
 {
     let mut count = from;
     let mut rest = list;
-    let mut given = done;
-    while given < 4 {
+    for given in done..4 {
         let pin = rest % 256;
         if pin == 0 {
             return Put {
-                count: count,
+                count,
                 done: 0,
                 full: false,
             };
@@ -102,18 +96,17 @@ fn rest_of_pins(out: &mut [u32], from: usize, list: u32, high: bool, done: u64) 
         if count < out.len() {
             out[count] = pin_word(high, pin);
             count += 1;
-            rest = rest / 256;
-            given += 1;
+            rest /= 256;
         } else {
             return Put {
-                count: count,
+                count,
                 done: given,
                 full: true,
             };
         }
     }
     Put {
-        count: count,
+        count,
         done: 0,
         full: false,
     }

@@ -1,8 +1,9 @@
 -- What each token of the body does (IEEE 1364, 18.2.3; Wish 10): it is refused, or it moves the reader and brings events.
-use Rattle.std.specs.Prelude.{ℕ, ◌+◌, ◌-◌, ◌*◌, Bool, true, false, List, [], eqb, ltb}
+use Rattle.vcd_text.specs.declared.NumberError.TheVariants.{Bad, Big}
+use Rattle.std.specs.Prelude.{Ok, Err}
+use Rattle.vcd_text.specs.Token.{Number}
+use Rattle.std.specs.Prelude.{ℕ, ◌-◌, ◌*◌, Bool, true, false, List, [], eqb, ltb}
 use Rattle.bits.specs.Byte.{pick}
-use Rattle.vcd_text.specs.declared.Number.{Number}
-use Rattle.vcd_text.specs.declared.Number.TheVariants.{Bad, Big, Of}
 use Rattle.vcd_output.specs.Room.{unpacked}
 use Rattle.vcd_codes.specs.Codes.{Found, undeclared, declared}
 use Rattle.vcd_items.specs.declared.Item.{Item}
@@ -43,9 +44,9 @@ advanced scale s time p =
 
 -- 40 for a time that is no number; a number above 64 bits is 44 in any unit
 unfoldable pub time_as : Number → ℕ → State → ℕ → Effect
-time_as Bad scale s p = refuse 40 p
-time_as Big scale s p = refuse 44 p
-time_as (Of n) scale s p = advanced scale s n p
+time_as (Err Bad) scale s p = refuse 40 p
+time_as (Err Big) scale s p = refuse 44 p
+time_as (Ok n) scale s p = advanced scale s n p
 
 -- 40 for a time inside a dump, or before a unit is declared
 unfoldable pub time_of : Number → ℕ → State → ℕ → Effect

@@ -6,7 +6,7 @@ ghost use Rattle.vcd_codes.specs.Codes.{meant};
 ghost use Rattle.vcd_steps.specs.Steps.{at_mode, in_dump, at_time, advanced, time_of, change_of, code_of, dump_of, end_of, comment_of, commented, item_step, ends_as, meaning};
 
 use vcd_items::Item;
-use vcd_text::Number;
+use vcd_text::NumberError;
 
 // What the reader waits for.
 #[derive(Clone, Copy)]
@@ -53,42 +53,23 @@ pub struct Ending {
 fn at_mode(s: State, mode: Mode, mark: usize) -> State
     ensures { result ≡ at_mode s mode mark }
 {
-    State {
-        mark: mark,
-        opened: s.opened,
-        time: s.time,
-        clocks: s.clocks,
-        mode: mode,
-        inside: s.inside,
-    }
+    State { mark, mode, ..s }
 }
 
 fn in_dump(s: State, inside: bool, opened: usize) -> State
     ensures { result ≡ in_dump s inside opened }
 {
-    let mode = s.mode;
     State {
-        mark: s.mark,
-        opened: opened,
-        time: s.time,
-        clocks: s.clocks,
-        mode: mode,
-        inside: inside,
+        opened,
+        inside,
+        ..s
     }
 }
 
 fn at_time(s: State, time: u64, clocks: u64) -> State
     ensures { result ≡ at_time s time clocks }
 {
-    let mode = s.mode;
-    State {
-        mark: s.mark,
-        opened: s.opened,
-        time: time,
-        clocks: clocks,
-        mode: mode,
-        inside: s.inside,
-    }
+    State { time, clocks, ..s }
 }
 
 // ---- times
@@ -107,24 +88,23 @@ fn advance(scale: u64, s: State, time: u64, p: usize) -> Step
     Step::Timed(at_time(s, time, time * scale / 8000000), s.clocks)
 }
 
-fn time(number: Number, scale: u64, s: State, p: usize) -> Step
+#[tactic(auto, unfolding(crate::specs::Steps::time_of, crate::specs::Steps::time_as, crate::specs::Steps::meaning))]
+fn time(number: Result<u64, NumberError>, scale: u64, s: State, p: usize) -> Step
     ensures { meaning scale p result ≡ time_of number scale s p }
 {
-    if s.inside {
-        return Step::Refused(40, p);
-    }
-    if scale == 0 {
+    if s.inside || scale == 0 {
         return Step::Refused(40, p);
     }
     match number {
-        Number::Bad => Step::Refused(40, p),
-        Number::Big => Step::Refused(44, p),
-        Number::Of(n) => advance(scale, s, n, p),
+        Err(NumberError::Bad) => Step::Refused(40, p),
+        Err(NumberError::Big) => Step::Refused(44, p),
+        Ok(n) => advance(scale, s, n, p),
     }
 }
 
 // ---- changes
 
+#[tactic(auto, unfolding(crate::specs::Steps::change_of, crate::specs::Steps::meaning, vcd_codes::specs::Codes::meant))]
 fn change(found: u64, high: bool, scale: u64, s: State, p: usize) -> Step
     ensures { meaning scale p result ≡ change_of (meant found) high scale s p }
 {
@@ -135,6 +115,7 @@ fn change(found: u64, high: bool, scale: u64, s: State, p: usize) -> Step
 }
 
 // The code of a b or r change.
+#[tactic(auto, unfolding(crate::specs::Steps::code_of, crate::specs::Steps::meaning, vcd_codes::specs::Codes::meant))]
 pub fn step_code(found: u64, scale: u64, s: State, p: usize) -> Step
     ensures { meaning scale p result ≡ code_of (meant found) s }
 {
@@ -146,6 +127,7 @@ pub fn step_code(found: u64, scale: u64, s: State, p: usize) -> Step
 
 // ---- keywords
 
+#[tactic(auto, unfolding(crate::specs::Steps::dump_of, crate::specs::Steps::meaning))]
 fn dump(scale: u64, s: State, p: usize) -> Step
     ensures { meaning scale p result ≡ dump_of s p }
 {
@@ -155,6 +137,7 @@ fn dump(scale: u64, s: State, p: usize) -> Step
     Step::Silent(in_dump(s, true, p))
 }
 
+#[tactic(auto, unfolding(crate::specs::Steps::end_of, crate::specs::Steps::meaning))]
 fn end(scale: u64, s: State, p: usize) -> Step
     ensures { meaning scale p result ≡ end_of s p }
 {
@@ -164,6 +147,7 @@ fn end(scale: u64, s: State, p: usize) -> Step
     Step::Refused(40, p)
 }
 
+#[tactic(auto, unfolding(crate::specs::Steps::comment_of, crate::specs::Steps::meaning))]
 fn comment(scale: u64, s: State, p: usize) -> Step
     ensures { meaning scale p result ≡ comment_of s p }
 {
@@ -174,6 +158,7 @@ fn comment(scale: u64, s: State, p: usize) -> Step
 }
 
 // A token of a comment, and whether it is `$end`.
+#[tactic(auto, unfolding(crate::specs::Steps::commented, crate::specs::Steps::meaning))]
 pub fn step_comment(end: bool, scale: u64, s: State, p: usize) -> Step
     ensures { meaning scale p result ≡ commented end s }
 {
@@ -186,6 +171,7 @@ pub fn step_comment(end: bool, scale: u64, s: State, p: usize) -> Step
 // ---- a token
 
 // A token that stands by itself; what its code stands for, where it is a scalar change.
+#[tactic(auto, unfolding(crate::specs::Steps::item_step, crate::specs::Steps::meaning))]
 pub fn step_item(item: Item, found: u64, scale: u64, s: State, p: usize) -> Step
     ensures { meaning scale p result ≡ item_step item (meant found) scale s p }
 {
@@ -202,6 +188,7 @@ pub fn step_item(item: Item, found: u64, scale: u64, s: State, p: usize) -> Step
 
 // ---- the end of the file
 
+#[tactic(auto, unfolding(crate::specs::Steps::ends_as))]
 fn plain_end(s: State) -> Ending
     ensures { result ≡ ends_as Mode.Plain s }
 {
@@ -218,17 +205,13 @@ fn plain_end(s: State) -> Ending
 }
 
 // What the end of the file cuts off.
+#[tactic(auto, unfolding(crate::specs::Steps::ends_as))]
 pub fn ended(s: State) -> Ending
     ensures { result ≡ ends_as s.mode s }
 {
-    let mode = s.mode;
-    match mode {
+    match s.mode {
         Mode::Plain => plain_end(s),
-        Mode::Code => Ending {
-            place: s.mark,
-            number: 40,
-        },
-        Mode::Comment => Ending {
+        Mode::Code | Mode::Comment => Ending {
             place: s.mark,
             number: 40,
         },

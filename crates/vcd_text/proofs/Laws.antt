@@ -1,22 +1,46 @@
 -- Laws of tokens: a byte more of a token, and the next token of a text.
 -- Assumes nothing.
-use mathlib.Core.Bool.{Bool, true, false}
-use mathlib.Core.Path.{◌≡◌, refl, sym, ap, ◌∙◌}
+use mathlib.Core.Bool.{Bool, true, false, ◌&&◌, not, cond}
+use Rattle.std.specs.Prelude.{Ok, Err}
+use Rattle.std.specs.List.{prefix_len, list_all, fold}
+use Rattle.std.specs.Str.{bytes_eq}
+use Rattle.std.specs.Char.{is_ascii_graphic}
+use mathlib.Core.Path.{◌≡◌, refl, ap, ◌∙◌}
 use mathlib.Core.List.{List, [], ◌∷◌}
-use Prim.Native.Nat.{ℕ, zero, suc, ◌+◌, ◌-◌, ◌<◌, ◌≤◌}
+use Prim.Native.Nat.{ℕ, suc, ◌+◌, ◌-◌, ◌<◌, ◌≤◌}
 use native.Mathlib.Omega.{arith}
 use native.Mathlib.Numerals.{add-one}
 use lib.ListN.{length, take, drop, get_or, length-take, length-drop, drop_of_length-le}
 use lib.Seq.{drop-cons, drop-drop, get_or-drop, take_all}
-use lib.Dec.{eqb, ltb}
-use borrow.Author.Tests.{eq-eqb, ne_eqb}
+use lib.Dec.{eqb}
+use Rattle.std.proofs.lemmas.Bool.Decides.{nat_tests}
 use Rattle.bits.specs.Byte.{pick}
-use Rattle.vcd_text.specs.declared.Number.{Number}
-use Rattle.vcd_text.specs.declared.Number.TheVariants.{Bad, Big, Of}
-use Rattle.vcd_text.specs.Token.{white, white_length, word_length, Token, tokens, same_bytes, graphic, all_graphic, longer_by, digits_from, decimal_of}
+use Rattle.vcd_text.specs.declared.NumberError.TheVariants.{Bad}
+use Rattle.vcd_text.specs.Token.{white, white_length, word_length, Token, tokens, same_bytes, graphic, all_graphic, Number, longer_by, digits_from, decimal_of}
 
 -- ---- white space and its end
 
+-- the bytes that a chain takes while they are white, or while they are not
+pub white_run : (bs : List ℕ) → prefix_len white bs ≡ white_length bs
+unfolding white_length
+white_run [] = refl
+white_run (b ∷ rest) = white_run_step b rest (white b) (white_run rest)
+  where
+    white_run_step : (b : ℕ) (rest : List ℕ) (w : Bool) → prefix_len white rest ≡ white_length rest → cond w (1 + prefix_len white rest) 0 ≡ pick w (suc (white_length rest)) 0
+    white_run_step b rest true e = omega (arith, e)
+    white_run_step b rest false e = refl
+
+pub word_run : (bs : List ℕ) → prefix_len (λ b. not (white b)) bs ≡ word_length bs
+unfolding word_length
+word_run [] = refl
+word_run (b ∷ rest) = word_run_step b rest (white b) (word_run rest)
+  where
+    word_run_step : (b : ℕ) (rest : List ℕ) (w : Bool) → prefix_len (λ c. not (white c)) rest ≡ word_length rest
+        → cond (not w) (1 + prefix_len (λ c. not (white c)) rest) 0 ≡ pick w 0 (suc (word_length rest))
+    word_run_step b rest true e = refl
+    word_run_step b rest false e = omega (arith, e)
+
+-- a byte more, for those who read byte by byte
 module _ (text : List ℕ) (i : ℕ) (h : i < length text) where
   pub blank_more : white (get_or text i 0) ≡ true → (i + 1) + white_length (drop (i + 1) text) ≡ i + white_length (drop i text)
   unfolding white_length
@@ -34,72 +58,47 @@ module _ (text : List ℕ) (i : ℕ) (h : i < length text) where
   unfolding word_length
   word_stops w = rw (drop-cons text i 0 h) (simp w (omega arith))
 
-pub blank_end : (text : List ℕ) (i : ℕ) → length text ≤ i → i ≡ i + white_length (drop i text)
-unfolding white_length
-blank_end text i h = rw (drop_of_length-le text {i = i} h) (omega arith)
-
 pub word_ends : (text : List ℕ) (i : ℕ) → length text ≤ i → i ≡ i + word_length (drop i text)
 unfolding word_length
 word_ends text i h = rw (drop_of_length-le text {i = i} h) (omega arith)
 
 -- ---- equal texts
 
-module _ (a b : List ℕ) (i : ℕ) where
-  pub same_more : i < length a → i < length b → get_or a i 0 ≡ get_or b i 0
-      → same_bytes (drop (i + 1) a) (drop (i + 1) b) ≡ same_bytes (drop i a) (drop i b)
-  unfolding same_bytes
-  same_more h k e = rw (drop-cons a i 0 h, drop-cons b i 0 k, add-one) (simp (eq-eqb _ _ e))
+same_step : (t : Bool) {f g : Bool} → f ≡ g → (t && f) ≡ pick t g false
+same_step true e = e
+same_step false e = refl
 
-  pub same_less : i < length a → i < length b → (get_or a i 0 ≡ get_or b i 0 → ⊥) → false ≡ same_bytes (drop i a) (drop i b)
-  unfolding same_bytes
-  same_less h k e = rw (drop-cons a i 0 h, drop-cons b i 0 k) (simp (ne_eqb _ _ e))
-
-  pub same_end : length a ≤ i → length b ≤ i → true ≡ same_bytes (drop i a) (drop i b)
-  unfolding same_bytes
-  same_end h k = rw (drop_of_length-le a {i = i} h, drop_of_length-le b {i = i} k)
-
-both_false : (t : Bool) (f : Bool) → false ≡ f → false ≡ pick t f false
-both_false true f e = e
-both_false false f e = refl
-
-pub other_length : (a b : List ℕ) → (length a ≡ length b → ⊥) → false ≡ same_bytes a b
+pub same_pointwise : (a b : List ℕ) → bytes_eq a b ≡ same_bytes a b
 unfolding same_bytes
-other_length [] [] h = absurd (h refl)
-other_length [] (b ∷ bs) h = refl
-other_length (a ∷ l) [] h = refl
-other_length (a ∷ l) (b ∷ bs) h = both_false (eqb a b) (same_bytes l bs) (other_length l bs (λ e. h (ap suc e)))
+same_pointwise [] [] = refl
+same_pointwise [] (y ∷ ys) = refl
+same_pointwise (x ∷ xs) [] = refl
+same_pointwise (x ∷ xs) (y ∷ ys) = same_step (eqb x y) (same_pointwise xs ys)
 
 -- ---- bytes of codes and names
 
-module _ (t : List ℕ) (i : ℕ) where
-  pub graphic_more : i < length t → graphic (get_or t i 0) ≡ true → all_graphic (drop (i + 1) t) ≡ all_graphic (drop i t)
-  unfolding all_graphic
-  graphic_more h w = rw (drop-cons t i 0 h, add-one) (simp w)
+graphic_ascii : (b : ℕ) → is_ascii_graphic b ≡ graphic b
+unfolding graphic
+graphic_ascii b = grind (arith, nat_tests)
 
-  pub graphic_stop : i < length t → graphic (get_or t i 0) ≡ false → false ≡ all_graphic (drop i t)
-  unfolding all_graphic
-  graphic_stop h w = rw (drop-cons t i 0 h) (simp w)
-
-  pub graphic_end : length t ≤ i → true ≡ all_graphic (drop i t)
-  unfolding all_graphic
-  graphic_end h = rw (drop_of_length-le t {i = i} h) refl
+pub all_graphic_list : (t : List ℕ) → list_all is_ascii_graphic t ≡ all_graphic t
+unfolding all_graphic
+all_graphic_list [] = refl
+all_graphic_list (b ∷ rest) = rw (graphic_ascii b) (same_step (graphic b) (all_graphic_list rest))
 
 -- ---- decimal numbers
 
-pub digit_more : (n : Number) (t : List ℕ) (i : ℕ) → i < length t → digits_from (longer_by n (get_or t i 0)) (drop (i + 1) t) ≡ digits_from n (drop i t)
+pub digits_fold : (n : Number) (t : List ℕ) → fold longer_by n t ≡ digits_from n t
 unfolding digits_from
-digit_more n t i h = rw (drop-cons t i 0 h, add-one)
+digits_fold n [] = refl
+digits_fold n (b ∷ rest) = digits_fold (longer_by n b) rest
 
-pub digit_end : (n : Number) (t : List ℕ) (i : ℕ) → length t ≤ i → n ≡ digits_from n (drop i t)
-unfolding digits_from
-digit_end n t i h = rw (drop_of_length-le t {i = i} h)
-
-pub decimal_none : (t : List ℕ) → length t ≡ 0 → Bad ≡ decimal_of t
+pub decimal_none : (t : List ℕ) → length t ≡ 0 → Err Bad ≡ decimal_of t
 unfolding decimal_of
 decimal_none [] h = refl
 decimal_none (b ∷ rest) h = absurd (omega arith)
 
-pub decimal_some : (t : List ℕ) → (length t ≡ 0 → ⊥) → digits_from (Of 0) t ≡ decimal_of t
+pub decimal_some : (t : List ℕ) → (length t ≡ 0 → ⊥) → digits_from (Ok 0) t ≡ decimal_of t
 unfolding decimal_of
 decimal_some [] h = absurd (h refl)
 decimal_some (b ∷ rest) h = refl

@@ -1,8 +1,8 @@
 -- The text of a value change dump as tokens (IEEE 1364, 18.2.1): white space stands between tokens and means nothing else.
-use Rattle.std.specs.Prelude.{ℕ, suc, ◌+◌, ◌-◌, ◌*◌, Bool, true, false, List, [], ◌∷◌, take, eqb, ltb}
+use Rattle.std.specs.Prelude.{ℕ, suc, ◌+◌, ◌-◌, ◌*◌, Bool, true, false, List, [], ◌∷◌, take, eqb, ltb, Result, Ok, Err}
 use Rattle.bits.specs.Byte.{pick}
-use Rattle.vcd_text.specs.declared.Number.{Number}
-use Rattle.vcd_text.specs.declared.Number.TheVariants.{Bad, Big, Of}
+use Rattle.vcd_text.specs.declared.NumberError.{NumberError}
+use Rattle.vcd_text.specs.declared.NumberError.TheVariants.{Bad, Big}
 
 -- white space: tab, line feed, vertical tab, form feed, carriage return (9 to 13) and blank (32)
 unfoldable pub white : ℕ → Bool
@@ -53,18 +53,21 @@ end_word = 36 ∷ 101 ∷ 110 ∷ 100 ∷ []
 
 -- ---- decimal numbers of any length
 
+-- a number that 64 bits hold, or why there is none
+abbrev pub Number : Type 0
+Number = Result ℕ NumberError
+
 -- a number that 64 bits hold, or one that they don't
 unfoldable pub number_of : ℕ → Number
-number_of n = pick (ltb n 18446744073709551616) (Of n) Big
+number_of n = pick (ltb n 18446744073709551616) (Ok n) (Err Big)
 
 unfoldable pub grown_by : Number → ℕ → Number
-grown_by Bad d = Bad
-grown_by Big d = Big
-grown_by (Of n) d = number_of (n * 10 + d)
+grown_by (Err e) d = Err e
+grown_by (Ok n) d = number_of (n * 10 + d)
 
 -- a number with one byte more, which has to be a digit
 unfoldable pub longer_by : Number → ℕ → Number
-longer_by n b = pick (ltb b 48) Bad (pick (ltb b 58) (grown_by n (b - 48)) Bad)
+longer_by n b = pick (ltb b 48) (Err Bad) (pick (ltb b 58) (grown_by n (b - 48)) (Err Bad))
 
 unfoldable pub digits_from : Number → List ℕ → Number
 digits_from n [] = n
@@ -72,5 +75,5 @@ digits_from n (b ∷ rest) = digits_from (longer_by n b) rest
 
 -- the number that a text of one or more digits is
 unfoldable pub decimal_of : List ℕ → Number
-decimal_of [] = Bad
-decimal_of (b ∷ rest) = digits_from (Of 0) (b ∷ rest)
+decimal_of [] = Err Bad
+decimal_of (b ∷ rest) = digits_from (Ok 0) (b ∷ rest)

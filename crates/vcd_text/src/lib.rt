@@ -20,52 +20,40 @@ pub fn white(b: u8) -> bool
     b < 14
 }
 
+// What stands from a place on: nothing past the end of the text.
+fn rest_from(text: &[u8], from: usize) -> &[u8]
+    ensures { result.now ≡ drop from text.now }
+{
+    text.get(from..).unwrap_or(&[])
+}
+
 // The first place, from a place on, that is not white, or the end of the text.
 pub fn skip_white(text: &[u8], from: usize) -> usize
     ensures { result ≡ from + white_length (drop from text.now) }
 {
-    let mut i = from;
-    while i < text.len() {
-        if white(text[i]) {
-            i += 1;
-        } else {
-            return i;
-        }
-    }
-    i
+    from + rest_from(text, from)
+        .iter()
+        .take_while(|b| white(**b))
+        .count()
 }
 
 // The first white place from a place on, or the end of the text.
 pub fn word_end(text: &[u8], from: usize) -> usize
     ensures { result ≡ from + word_length (drop from text.now) }
 {
-    let mut i = from;
-    while i < text.len() {
-        if white(text[i]) {
-            return i;
-        }
-        i += 1;
-    }
-    i
+    from + rest_from(text, from)
+        .iter()
+        .take_while(|b| !white(**b))
+        .count()
 }
 
-// Two texts are equal, byte for byte.
+// Two texts are equal, byte for byte. Kept beside `==`, which asks for `.as_slice()` after each byte string that a text is compared
+// with: here the call makes a slice of it.
+#[tactic(auto, using(crate::proofs::Laws::same_pointwise))]
 pub fn same(a: &[u8], b: &[u8]) -> bool
     ensures { result ≡ same_bytes a.now b.now }
 {
-    if a.len() == b.len() {
-        let mut i = 0;
-        while i < a.len() {
-            if a[i] == b[i] {
-                i += 1;
-            } else {
-                return false;
-            }
-        }
-        true
-    } else {
-        false
-    }
+    a == b
 }
 
 // The token is `$end`.
@@ -75,97 +63,48 @@ pub fn is_end(t: &[u8]) -> bool
     same(t, b"$end")
 }
 
-fn graphic(b: u8) -> bool
-    ensures { result ≡ graphic_of b }
-{
-    if b < 33 {
-        return false;
-    }
-    b < 127
-}
-
 // Every byte is one that codes and names are made of.
 pub fn all_graphic(t: &[u8]) -> bool
     ensures { result ≡ all_graphic t.now }
 {
-    let mut i = 0;
-    while i < t.len() {
-        if graphic(t[i]) {
-            i += 1;
-        } else {
-            return false;
-        }
-    }
-    true
+    t.iter().all(u8::is_ascii_graphic)
 }
 
-// A decimal number of any length, or none.
-#[derive(Clone, Copy)]
-pub enum Number {
+// Why a text is no number that 64 bits hold.
+#[derive(Clone, Copy, PartialEq, Eq, Debug)]
+pub enum NumberError {
+    // it is empty, or a byte is no digit
     Bad,
     // 2^64 or more
     Big,
-    Of(u64),
-}
-
-fn wide(b: u8) -> u64
-    ensures { result ≡ b }
-{
-    b as u64
 }
 
 // A number with one byte more.
-fn longer(n: Number, b: u8) -> Number
+#[tactic(auto, unfolding(crate::specs::Token::longer_by, crate::specs::Token::grown_by))]
+fn longer(n: Result<u64, NumberError>, b: u8) -> Result<u64, NumberError>
     ensures { result ≡ longer_by n b }
 {
-    if b < 48 {
-        return Number::Bad;
+    if !b.is_ascii_digit() {
+        return Err(NumberError::Bad);
     }
-    if b < 58 {
-        return grown(n, wide(b - 48));
-    }
-    Number::Bad
+    appended(n?, u64::from(b - b'0'))
 }
 
-fn grown(n: Number, d: u64) -> Number
-    requires { d < 10 }
-    ensures { result ≡ grown_by n d }
-{
-    match n {
-        Number::Bad => Number::Bad,
-        Number::Big => Number::Big,
-        Number::Of(v) => appended(v, d),
-    }
-}
-
-// Tested before it is multiplied, so that no number wraps.
-fn appended(v: u64, d: u64) -> Number
-    requires { d < 10 }
+#[tactic(auto, unfolding(crate::specs::Token::number_of))]
+fn appended(v: u64, d: u64) -> Result<u64, NumberError>
     ensures { result ≡ number_of (v * 10 + d) }
 {
-    if v < 1844674407370955161 {
-        return Number::Of(v * 10 + d);
-    }
-    if v == 1844674407370955161 {
-        if d < 6 {
-            return Number::Of(v * 10 + d);
-        }
-    }
-    Number::Big
+    v.checked_mul(10)
+        .and_then(|tens| tens.checked_add(d))
+        .ok_or(NumberError::Big)
 }
 
 // The number that a text is.
-pub fn decimal(t: &[u8]) -> Number
+pub fn decimal(t: &[u8]) -> Result<u64, NumberError>
     ensures { result ≡ decimal_of t.now }
 {
-    if t.len() == 0 {
-        return Number::Bad;
+    if t.is_empty() {
+        return Err(NumberError::Bad);
     }
-    let mut n = Number::Of(0);
-    let mut i = 0;
-    while i < t.len() {
-        n = longer(n, t[i]);
-        i += 1;
-    }
-    n
+    t.iter().fold(Ok(0), |n, b| longer(n, *b))
 }

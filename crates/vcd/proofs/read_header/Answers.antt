@@ -1,7 +1,5 @@
 -- `vcd::read_header` meets its contract. What is left of the tokens, from here, comes to what all of them come to.
 -- Assumes nothing.
-use Prim.Native.Nat.{◌-◌}
-use mathlib.Core.Bool.{false}
 use Rattle.vcd_text.proofs.Laws.{word_some, word_within}
 use Rattle.vcd_codes.specs.Codes.{variables}
 use Rattle.vcd.specs.Header.{heading}

@@ -3,4 +3,4 @@
 use Rattle.vcd.proofs.refused.Goals as goal
 
 pub returns : goal.returns
-returns c = simp c.start-next.ensures
+returns c = simp c.start.ensures

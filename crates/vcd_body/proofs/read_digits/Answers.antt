@@ -1,7 +1,7 @@
 -- `vcd_body::read_digits` meets its contract.
 -- Assumes nothing.
-use mathlib.Core.Path.{refl, sym, ◌∙◌}
-use Prim.Native.Nat.{◌-◌}
+use mathlib.Core.Path.{◌≡◌, refl, sym, ◌∙◌}
+use lib.ListN.{length}
 use native.Mathlib.Omega.{arith}
 use Rattle.vcd_text.proofs.Laws.{word_more, word_stops, word_ends}
 use Rattle.vcd_body.proofs.Running.{digit_on, digits_done, digits_whole}
@@ -23,13 +23,13 @@ pub overflow_sub-b : goal.overflow_sub-b
 overflow_sub-b c = omega (arith, (c.is_plain_digit.ensures c.if-is_plain_digit.true).0)
 
 pub overflow_add-v : goal.overflow_add-v
-overflow_add-v c = record { fits = omega (arith, c.long.ensures, (c.is_plain_digit.ensures c.if-is_plain_digit.true).0, (c.is_plain_digit.ensures c.if-is_plain_digit.true).1, (c.is_plain_digit.ensures c.if-is_plain_digit.true).2) }
+overflow_add-v c = record { fits = omega (arith, c.from.ensures, (c.is_plain_digit.ensures c.if-is_plain_digit.true).0, (c.is_plain_digit.ensures c.if-is_plain_digit.true).1, (c.is_plain_digit.ensures c.if-is_plain_digit.true).2) }
 
 pub loop-i-preserved : goal.loop-i-preserved
 loop-i-preserved c =
     let a = c.args in
     let d = c.is_plain_digit.ensures c.if-is_plain_digit.true in
-    (omega (arith, c.loop-i.invariant.0), search rules, word_more a.text.now c.loop-i.i (search rules) (sym c.white.ensures ∙ c.if-white.false) ∙ c.loop-i.invariant.2, rw c.long.ensures (digit_on a.text.now c.loop-i.i c.loop-i.v (search rules) (sym c.white.ensures ∙ c.if-white.false) d.0 d.1 d.2) ∙ c.loop-i.invariant.3)
+    (omega (arith, c.loop-i.invariant.0), omega arith, word_more a.text.now c.loop-i.i (search rules) (sym c.white.ensures ∙ c.if-white.false) ∙ c.loop-i.invariant.2, rw c.from.ensures (digit_on a.text.now c.loop-i.i c.loop-i.v (search rules) (sym c.white.ensures ∙ c.if-white.false) d.0 d.1 d.2) ∙ c.loop-i.invariant.3)
 
 pub returns-else-is_plain_digit : goal.returns-else-is_plain_digit
 returns-else-is_plain_digit c = (search rules, λ l. absurd (omega arith))
@@ -37,4 +37,5 @@ returns-else-is_plain_digit c = (search rules, λ l. absurd (omega arith))
 pub returns : goal.returns
 returns c =
     let a = c.args in
-    (c.loop-i.invariant.0, λ l. ((word_ends a.text.now c.loop-i.i (search rules)) ∙ c.loop-i.invariant.2, digits_whole a.text.now a.from c.loop-i.i c.loop-i.v l ((word_ends a.text.now c.loop-i.i (search rules)) ∙ c.loop-i.invariant.2) c.loop-i.invariant.1 (sym c.loop-i.invariant.3 ∙ digits_done a.text.now c.loop-i.i c.loop-i.v (word_ends a.text.now c.loop-i.i (search rules)))))
+    let last : c.loop-i.i ≡ length a.text.now = omega arith in
+    rw (← last) (c.loop-i.invariant.0, λ l. ((word_ends a.text.now c.loop-i.i (search rules)) ∙ c.loop-i.invariant.2, digits_whole a.text.now a.from c.loop-i.i c.loop-i.v l ((word_ends a.text.now c.loop-i.i (search rules)) ∙ c.loop-i.invariant.2) c.loop-i.invariant.1 (sym c.loop-i.invariant.3 ∙ digits_done a.text.now c.loop-i.i c.loop-i.v (word_ends a.text.now c.loop-i.i (search rules)))))

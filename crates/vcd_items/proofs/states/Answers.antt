@@ -1,19 +1,13 @@
 -- `vcd_items::states` meets its contract.
 -- Assumes nothing.
-use Prim.Native.Nat.{◌-◌}
-use Rattle.vcd_items.proofs.Values.{state_more, state_stop, state_end}
-use mathlib.Core.Path.{refl, sym, ◌∙◌}
-use borrow.Author.Rules.{rules}
+use Rattle.std.proofs.Common.{rules, tests, ◌∙◌}
+use Rattle.std.proofs.lemmas.Iterator.{YieldsList-from_slice}
+use Rattle.std.proofs.lemmas.Iterator.Search.{all_from_yields_List}
+use Rattle.vcd_items.specs.Items.{four_state}
+use Rattle.vcd_items.proofs.Values.{states_list}
 use Rattle.vcd_items.proofs.states.Goals as goal
 
-pub loop-i-init : goal.loop-i-init
-loop-i-init c = refl
-
-pub loop-i-preserved : goal.loop-i-preserved
-loop-i-preserved c = state_more c.args.t.now c.loop-i.i (search rules) (sym c.is_state.ensures ∙ c.if-is_state.true) ∙ c.loop-i.invariant
-
-pub returns-else-is_state : goal.returns-else-is_state
-returns-else-is_state c = state_stop c.args.t.now c.loop-i.i (search rules) (sym c.is_state.ensures ∙ c.if-is_state.false) ∙ c.loop-i.invariant
-
 pub returns : goal.returns
-returns c = state_end _ c.loop-i.i (search rules) ∙ c.loop-i.invariant
+returns c =
+    all_from_yields_List four_state _ _ c.all.result c.all.ensures.ran (YieldsList-from_slice c.args.t.now (cc)) (λ x b q k. search (rules, tests))
+    ∙ states_list _

@@ -1,6 +1,5 @@
 -- `vcd_output::clocks` meets its contract.
 -- Assumes nothing.
-use Prim.Native.Nat.{◌-◌}
 use lib.ListN.{length-set}
 use Rattle.vcd_output.proofs.Writing.{clock_more, clock_full, clock_end}
 use mathlib.Core.Path.{refl, ◌∙◌}

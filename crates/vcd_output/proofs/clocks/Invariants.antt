@@ -7,6 +7,3 @@ use Rattle.vcd_output.proofs.clocks.Given as goal
 
 abbrev pub invariant-loop-given : goal.invariant-loop-given
 invariant-loop-given l = (length l.out ≡ length l.initial.out) × (put (replicate (l.due - l.given) clock_word) l.out l.count l.given ≡ put (replicate (l.due - l.done) clock_word) l.initial.out l.from l.done)
-
-abbrev pub decreases-loop-given : goal.decreases-loop-given
-decreases-loop-given l = l.due - l.given

@@ -8,6 +8,3 @@ use Rattle.vcd_output.proofs.passed.Given as goal
 
 abbrev pub invariant-loop-i : goal.invariant-loop-i
 invariant-loop-i l = (l.i ≤ l.done) × ((high : Bool) → drop (l.done - l.i) (pin_words (4 - l.i) l.rest high) ≡ drop l.done (pin_words 4 l.list high))
-
-abbrev pub decreases-loop-i : goal.decreases-loop-i
-decreases-loop-i l = l.done - l.i

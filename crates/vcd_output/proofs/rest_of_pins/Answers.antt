@@ -1,8 +1,6 @@
 -- `vcd_output::rest_of_pins` meets its contract.
 -- Assumes nothing.
-use Prim.Native.Nat.{◌-◌}
 use lib.ListN.{length-set}
-use Rattle.vcd_output.specs.Room.{pin_word}
 use Rattle.vcd_output.proofs.Writing.{pin_more, pin_full, pin_none, pin_end}
 use mathlib.Core.Path.{refl, ◌∙◌}
 use borrow.Author.Rules.{rules}

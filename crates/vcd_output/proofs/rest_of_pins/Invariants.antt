@@ -7,6 +7,3 @@ use Rattle.vcd_output.proofs.rest_of_pins.Given as goal
 
 abbrev pub invariant-loop-given : goal.invariant-loop-given
 invariant-loop-given l = (length l.out ≡ length l.initial.out) × (put (pin_words (4 - l.given) l.rest l.high) l.out l.count l.given ≡ put (pin_words (4 - l.done) l.list l.high) l.initial.out l.from l.done)
-
-abbrev pub decreases-loop-given : goal.decreases-loop-given
-decreases-loop-given l = 4 - l.given

@@ -1,30 +1,18 @@
 -- `vcd_text::decimal` meets its contract.
 -- Assumes nothing.
-use mathlib.Core.Path.{refl, ap, ◌∙◌}
-use Prim.Native.Nat.{◌+◌, ◌-◌}
-use native.Mathlib.Omega.{arith}
-use lib.ListN.{drop}
-use Rattle.vcd_text.specs.declared.Number.{Number}
-use Rattle.vcd_text.specs.Token.{digits_from}
-use Rattle.vcd_text.proofs.Laws.{digit_more, digit_end, decimal_none, decimal_some}
-use borrow.Author.Rules.{rules}
+use Rattle.std.proofs.Common.{rules, tests, ◌∙◌, Ok}
+use Rattle.std.proofs.lemmas.Iterator.{YieldsList-from_slice}
+use Rattle.std.proofs.lemmas.Iterator.Consumers.{fold_from_yields_List}
+use Rattle.vcd_text.specs.Token.{longer_by, Number}
+use Rattle.vcd_text.proofs.Laws.{digits_fold, decimal_none, decimal_some}
 use Rattle.vcd_text.proofs.decimal.Goals as goal
 
-pub returns-then-t-eq0 : goal.returns-then-t-eq0
-returns-then-t-eq0 c = decimal_none _ c.if-t-eq0.true
-
-pub loop-i-init : goal.loop-i-init
-loop-i-init c = (search rules, refl)
-
-pub overflow_add-i : goal.overflow_add-i
-overflow_add-i c = omega arith
-
-pub loop-i-smaller : goal.loop-i-smaller
-loop-i-smaller c = omega arith
-
-pub loop-i-preserved : goal.loop-i-preserved
-loop-i-preserved c = let t = c.args.t.now in
-    (omega arith, ap (λ (n : Number). digits_from n (drop (c.loop-i.i + 1) t)) c.longer-n.ensures ∙ digit_more c.loop-i.n t c.loop-i.i (search rules) ∙ c.loop-i.invariant.1)
+pub returns-then-is_empty : goal.returns-then-is_empty
+returns-then-is_empty c = decimal_none _ (search rules)
 
 pub returns : goal.returns
-returns c = digit_end _ _ c.loop-i.i (search rules) ∙ c.loop-i.invariant.1 ∙ decimal_some _ c.if-t-eq0.false
+returns c =
+    let zero : Number = Ok 0 in
+    fold_from_yields_List _ longer_by zero c.fold.result c.fold.ensures.ran (YieldsList-from_slice c.args.t.now (cc)) (λ a x b q k. search (rules, tests))
+    ∙ digits_fold zero c.args.t.now
+    ∙ decimal_some c.args.t.now (search rules)

@@ -1,30 +1,20 @@
--- `vcd_text::skip_white` meets its contract. What is left from here comes to what the whole comes to.
+-- `vcd_text::skip_white` meets its contract: the chain takes as many bytes as the definition counts.
 -- Assumes nothing.
-use mathlib.Core.Path.{refl, sym, ◌∙◌}
-use Prim.Native.Nat.{◌-◌}
-use native.Mathlib.Omega.{arith}
-use Rattle.vcd_text.proofs.Laws.{blank_more, blank_stop, blank_end}
-use borrow.Author.Rules.{rules}
+use Rattle.std.proofs.Common.{rules, tests, ◌≡◌, ◌+◌, ◌∙◌, ap}
+use Rattle.std.proofs.lemmas.Iterator.{YieldsList-from_slice}
+use Rattle.std.proofs.lemmas.Iterator.Search.{YieldsList-from_take_while}
+use Rattle.std.proofs.lemmas.Iterator.Consumers.{count_from_yields_List}
+use Rattle.std.proofs.lemmas.List.Folds.{length-prefix_len}
+use Rattle.vcd_text.specs.Token.{white, white_length}
+use Rattle.vcd_text.proofs.Laws.{white_run}
 use Rattle.vcd_text.proofs.skip_white.Goals as goal
 
-pub loop-i-init : goal.loop-i-init
-loop-i-init c = refl
-
-pub overflow_add-i : goal.overflow_add-i
-overflow_add-i c = omega arith
-
-pub loop-i-smaller : goal.loop-i-smaller
-loop-i-smaller c = omega arith
-
-pub loop-i-preserved : goal.loop-i-preserved
-loop-i-preserved c = let text = c.args.text.now in
-    let w = sym c.white.ensures ∙ c.if-white.true in
-    blank_more text c.loop-i.i (search rules) w ∙ c.loop-i.invariant
-
-pub returns-else-white : goal.returns-else-white
-returns-else-white c = let text = c.args.text.now in
-    let w = sym c.white.ensures ∙ c.if-white.false in
-    blank_stop text c.loop-i.i (search rules) w ∙ c.loop-i.invariant
-
 pub returns : goal.returns
-returns c = blank_end _ c.loop-i.i (search rules) ∙ c.loop-i.invariant
+returns c =
+    let rest = c.rest_from.result.now in
+    let n : c.count.result ≡ white_length rest =
+    count_from_yields_List c.take_while.result c.count.result c.count.ensures.ran
+    (YieldsList-from_take_while _ white (YieldsList-from_slice rest (search rules)) c.take_while.ensures.closure c.take_while.ensures.done (λ x b q k. search (rules, tests)))
+    ∙ length-prefix_len white rest
+    ∙ white_run rest in
+    ap (λ k. c.args.from + k) (n ∙ ap white_length c.rest_from.ensures)

@@ -1,30 +1,20 @@
--- `vcd_text::word_end` meets its contract. What is left from here comes to what the whole comes to.
+-- `vcd_text::word_end` meets its contract: the chain takes as many bytes as the definition counts.
 -- Assumes nothing.
-use mathlib.Core.Path.{refl, sym, ◌∙◌}
-use Prim.Native.Nat.{◌-◌}
-use native.Mathlib.Omega.{arith}
-use Rattle.vcd_text.proofs.Laws.{word_more, word_stops, word_ends}
-use borrow.Author.Rules.{rules}
+use Rattle.std.proofs.Common.{rules, tests, ◌≡◌, ◌+◌, ◌∙◌, ap, not}
+use Rattle.std.proofs.lemmas.Iterator.{YieldsList-from_slice}
+use Rattle.std.proofs.lemmas.Iterator.Search.{YieldsList-from_take_while}
+use Rattle.std.proofs.lemmas.Iterator.Consumers.{count_from_yields_List}
+use Rattle.std.proofs.lemmas.List.Folds.{length-prefix_len}
+use Rattle.vcd_text.specs.Token.{white, word_length}
+use Rattle.vcd_text.proofs.Laws.{word_run}
 use Rattle.vcd_text.proofs.word_end.Goals as goal
 
-pub loop-i-init : goal.loop-i-init
-loop-i-init c = refl
-
-pub returns-then-white : goal.returns-then-white
-returns-then-white c = let text = c.args.text.now in
-    let w = sym c.white.ensures ∙ c.if-white.true in
-    word_stops text c.loop-i.i (search rules) w ∙ c.loop-i.invariant
-
-pub overflow_add-i : goal.overflow_add-i
-overflow_add-i c = omega arith
-
-pub loop-i-smaller : goal.loop-i-smaller
-loop-i-smaller c = omega arith
-
-pub loop-i-preserved : goal.loop-i-preserved
-loop-i-preserved c = let text = c.args.text.now in
-    let w = sym c.white.ensures ∙ c.if-white.false in
-    word_more text c.loop-i.i (search rules) w ∙ c.loop-i.invariant
-
 pub returns : goal.returns
-returns c = word_ends _ c.loop-i.i (search rules) ∙ c.loop-i.invariant
+returns c =
+    let rest = c.rest_from.result.now in
+    let n : c.count.result ≡ word_length rest =
+    count_from_yields_List c.take_while.result c.count.result c.count.ensures.ran
+    (YieldsList-from_take_while _ (λ b. not (white b)) (YieldsList-from_slice rest (search rules)) c.take_while.ensures.closure c.take_while.ensures.done (λ x b q k. search (rules, tests)))
+    ∙ length-prefix_len (λ b. not (white b)) rest
+    ∙ word_run rest in
+    ap (λ k. c.args.from + k) (n ∙ ap word_length c.rest_from.ensures)
