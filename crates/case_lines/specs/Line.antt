@@ -1,27 +1,24 @@
 -- A line of a case, byte by byte: an event, behind `N *` where it is given N times, and the answer that it must get. The answer stands behind
 -- `=>`, in names or as eight digits; or right behind the event as eight digits, and what follows these is a comment. An event without an
 -- answer is given, and its answer is not looked at. A line without a token is passed over.
-use Rattle.std.specs.Prelude.{ℕ, Bool, true, false, eqb}
+use Rattle.std.specs.Prelude.{Option, Some, None, Result, Ok, Err, ℕ, Bool, true, false, eqb}
 use Rattle.bits.specs.Byte.{pick}
 use Rattle.events.specs.Word.{kind}
 use Rattle.line_tokens.specs.declared.Token.{Token}
+use Rattle.line_tokens.specs.declared.BadToken.{BadToken}
 use Rattle.line_tokens.specs.declared.Scanner.{Scanner}
 use Rattle.line_tokens.specs.Scan.{start, scan}
 use Rattle.event_text_read.specs.declared.Event.{Event}
 use Rattle.event_text_read.specs.declared.Event.TheVariants as event
 use Rattle.answer_text.specs.declared.Answer.{Answer}
 use Rattle.answer_text.specs.declared.Answer.TheVariants as answer
-use Rattle.answer_text.specs.declared.Ended.{Ended}
-use Rattle.answer_text.specs.declared.Ended.TheVariants.{Whole, Stopped}
 use Rattle.answer_text.specs.Answer.{take, ended}
 use Rattle.case_words.specs.declared.Case.{Case}
-use Rattle.case_words.specs.declared.Found.{Found}
-use Rattle.case_words.specs.declared.Found.TheVariants as found
+use Rattle.case_words.specs.declared.Listed.{Listed}
 use Rattle.case_words.specs.Case.{case_start, take_case, case_end}
 use Rattle.case_lines.specs.declared.Tokens.{Tokens}
 use Rattle.case_lines.specs.declared.Reader.{Reader}
-use Rattle.case_lines.specs.declared.Entry.{Entry}
-use Rattle.case_lines.specs.declared.Entry.TheVariants.{Nothing, Given, Refused}
+use Rattle.case_lines.specs.declared.Given.{Given}
 
 -- ---- tokens
 
@@ -60,8 +57,9 @@ unfoldable pub take_token : Tokens → Token → Tokens
 take_token l t = pick l.case.answer (answer_token l t) (event_token (take_case l.case t) t)
 
 -- the token that a byte ended, if any
-unfoldable pub taken : Tokens → Token → Tokens
-taken l t = pick (eqb t.value 0) l (take_token l t)
+unfoldable pub taken : Tokens → Option Token → Tokens
+taken l None = l
+taken l (Some t) = take_token l t
 
 -- ---- bytes
 
@@ -74,17 +72,24 @@ next r b = record { scanner = scan r.scanner b; tokens = taken r.tokens (scan r.
 
 -- ---- the end of the line
 
-unfoldable pub answer_end : ℕ → ℕ → Ended → Entry
-answer_end times word (Whole expected) = Given times word true expected
-answer_end times word (Stopped place) = Refused place
+-- what a line says
+abbrev pub Entry : Type 0
+Entry = Result (Option Given) BadToken
 
-unfoldable pub word_end : Tokens → ℕ → ℕ → ℕ → Entry
-word_end l times word end = pick l.case.answer (answer_end times word (ended l.answer end)) (Given times word false 0)
+abbrev pub given : Listed → Option ℕ → Given
+given listed expected = record { times = listed.times; word = listed.word; expected = expected }
 
-unfoldable pub found_end : Tokens → Found → ℕ → Entry
-found_end l found.Nothing end = Nothing
-found_end l (found.Entry times word) end = word_end l times word end
-found_end l (found.Refused place) end = Refused place
+unfoldable pub answer_end : Listed → Result ℕ BadToken → Entry
+answer_end listed (Ok expected) = Ok (Some (given listed (Some expected)))
+answer_end listed (Err bad) = Err bad
+
+unfoldable pub word_end : Tokens → Listed → ℕ → Entry
+word_end l listed end = pick l.case.answer (answer_end listed (ended l.answer end)) (Ok (Some (given listed None)))
+
+unfoldable pub found_end : Tokens → Result (Option Listed) BadToken → ℕ → Entry
+found_end l (Ok None) end = Ok None
+found_end l (Ok (Some listed)) end = word_end l listed end
+found_end l (Err bad) end = Err bad
 
 -- the tokens of a line of so many bytes
 unfoldable pub tokens_end : Tokens → ℕ → Entry

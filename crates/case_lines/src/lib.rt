@@ -2,12 +2,12 @@
 #![tactic(auto)]
 
 ghost use Rattle.std.specs.Prelude.{◌≡◌};
-ghost use Rattle.case_lines.specs.Line.{is_read, unanswered as unanswered_of, asked as asked_of, begun as begun_of, event_token, answer_token, take_token, taken as taken_of, line_start, next as next_of, answer_end, word_end, found_end, tokens_end, line_end};
+ghost use Rattle.case_lines.specs.Line.{is_read, unanswered as unanswered_of, asked as asked_of, begun as begun_of, event_token, answer_token, take_token, taken as taken_of, line_start, next as next_of, answer_end, word_end, tokens_end, line_end};
 
-use answer_text::{Answer, Ended};
-use case_words::{Case, Found};
+use answer_text::Answer;
+use case_words::{ARROW, Case, Listed};
 use event_text_read::Event;
-use line_tokens::{Scanner, Token};
+use line_tokens::{BadToken, Scanner, Token};
 
 // The tokens of a line so far: the event, the answer, and whether the rest is a comment.
 #[derive(Clone, Copy)]
@@ -24,17 +24,17 @@ pub struct Reader {
     pub tokens: Tokens,
 }
 
-// A line: nothing; how often a word is given, the word, whether its answer is looked at, and the answer that it must get; or the place of
-// a bad or missing token.
+// A word, how often it is given, and the answer that it must get, if it is looked at.
 #[derive(Clone, Copy)]
-pub enum Entry {
-    Nothing,
-    Given(u64, u32, bool, u32),
-    Refused(u64),
+pub struct Given {
+    pub times: u64,
+    pub word: u32,
+    pub expected: Option<u32>,
 }
 
 // ---- tokens
 
+#[tactic(auto, unfolding(crate::specs::Line::unanswered))]
 fn unanswered(c: Case) -> Tokens
     ensures { result ≡ unanswered_of c }
 {
@@ -46,29 +46,32 @@ fn unanswered(c: Case) -> Tokens
 }
 
 // The word is a read, so that its answer has a byte.
+#[tactic(auto, unfolding(crate::specs::Line::is_read))]
 pub fn is_read(word: u32) -> bool
     ensures { result ≡ is_read word }
 {
     word / 16777216 == 1
 }
 
+#[tactic(auto, unfolding(crate::specs::Line::asked))]
 fn asked(e: Event) -> bool
     ensures { result ≡ asked_of e }
 {
     match e {
+        Event::Word(w) => is_read(w),
         Event::Start => false,
         Event::Kind(_) => false,
         Event::Place(_, _) => false,
         Event::Other => false,
-        Event::Word(w) => is_read(w),
         Event::Bad(_) => false,
     }
 }
 
+#[tactic(auto, unfolding(crate::specs::Line::begun))]
 fn begun(c: Case, t: Token) -> Tokens
     ensures { result ≡ begun_of c t }
 {
-    if t.value == 0x3D3E {
+    if t.value == ARROW {
         return unanswered(c);
     }
     Tokens {
@@ -78,53 +81,51 @@ fn begun(c: Case, t: Token) -> Tokens
     }
 }
 
+#[tactic(auto, unfolding(crate::specs::Line::event_token))]
 fn event_token(c: Case, t: Token) -> Tokens
     ensures { result ≡ event_token c t }
 {
-    if c.answer {
-        return begun(c, t);
-    }
-    unanswered(c)
+    if c.answer { begun(c, t) } else { unanswered(c) }
 }
 
+#[tactic(auto, unfolding(crate::specs::Line::answer_token))]
 fn answer_token(l: Tokens, t: Token) -> Tokens
     ensures { result ≡ answer_token l t }
 {
     if l.remark {
         return l;
     }
-    let c = l.case;
-    let a = l.answer;
-    let e = c.event;
     Tokens {
-        case: c,
-        answer: answer_text::take(asked(e), a, t),
+        case: l.case,
+        answer: answer_text::take(asked(l.case.event), l.answer, t),
         remark: false,
     }
 }
 
+#[tactic(auto, unfolding(crate::specs::Line::take_token))]
 fn take_token(l: Tokens, t: Token) -> Tokens
     ensures { result ≡ take_token l t }
 {
-    let c = l.case;
-    if c.answer {
+    if l.case.answer {
         return answer_token(l, t);
     }
-    event_token(case_words::take_case(c, t), t)
+    event_token(case_words::take_case(l.case, t), t)
 }
 
-fn taken(l: Tokens, t: Token) -> Tokens
-    ensures { result ≡ taken_of l t }
+#[tactic(auto, unfolding(crate::specs::Line::taken))]
+fn taken(l: Tokens, token: Option<Token>) -> Tokens
+    ensures { result ≡ taken_of l token }
 {
-    if t.value == 0 {
-        return l;
+    match token {
+        Some(t) => take_token(l, t),
+        None => l,
     }
-    take_token(l, t)
 }
 
 // ---- bytes
 
 // Before the first byte of a line.
+#[tactic(auto, unfolding(crate::specs::Line::line_start))]
 pub fn line_start() -> Reader
     ensures { result ≡ line_start }
 {
@@ -135,64 +136,62 @@ pub fn line_start() -> Reader
 }
 
 // A byte of a line, which is no newline.
+#[tactic(auto, unfolding(crate::specs::Line::next))]
 pub fn next(r: Reader, b: u8) -> Reader
     ensures { result ≡ next_of r b }
 {
-    let before = r.scanner;
-    let l = r.tokens;
-    let s = line_tokens::scan(before, b);
-    let done = s.done;
+    let scanner = line_tokens::scan(r.scanner, b);
     Reader {
-        scanner: s,
-        tokens: taken(l, done),
+        scanner,
+        tokens: taken(r.tokens, scanner.done),
     }
 }
 
 // ---- the end of the line
 
-fn answer_end(times: u64, word: u32, e: Ended) -> Entry
-    ensures { result ≡ answer_end times word e }
+#[tactic(auto, unfolding(crate::specs::Line::answer_end))]
+fn answer_end(listed: Listed, answer: Result<u32, BadToken>) -> Result<Option<Given>, BadToken>
+    ensures { result ≡ answer_end listed answer }
 {
-    match e {
-        Ended::Whole(expected) => Entry::Given(times, word, true, expected),
-        Ended::Stopped(place) => Entry::Refused(place),
+    match answer {
+        Ok(expected) => Ok(Some(Given {
+            times: listed.times,
+            word: listed.word,
+            expected: Some(expected),
+        })),
+        Err(bad) => Err(bad),
     }
 }
 
-fn word_end(l: Tokens, times: u64, word: u32, end: u64) -> Entry
-    ensures { result ≡ word_end l times word end }
+#[tactic(auto, unfolding(crate::specs::Line::word_end))]
+fn word_end(l: Tokens, listed: Listed, end: u64) -> Result<Option<Given>, BadToken>
+    ensures { result ≡ word_end l listed end }
 {
-    let c = l.case;
-    let a = l.answer;
-    if c.answer {
-        return answer_end(times, word, answer_text::answer_end(a, end));
+    if l.case.answer {
+        return answer_end(listed, answer_text::answer_end(l.answer, end));
     }
-    Entry::Given(times, word, false, 0)
+    Ok(Some(Given {
+        times: listed.times,
+        word: listed.word,
+        expected: None,
+    }))
 }
 
-fn found_end(l: Tokens, f: Found, end: u64) -> Entry
-    ensures { result ≡ found_end l f end }
-{
-    match f {
-        Found::Nothing => Entry::Nothing,
-        Found::Entry(times, word) => word_end(l, times, word, end),
-        Found::Refused(place) => Entry::Refused(place),
-    }
-}
-
-fn tokens_end(l: Tokens, end: u64) -> Entry
+#[tactic(auto, unfolding(crate::specs::Line::tokens_end, crate::specs::Line::found_end))]
+fn tokens_end(l: Tokens, end: u64) -> Result<Option<Given>, BadToken>
     ensures { result ≡ tokens_end l end }
 {
-    let c = l.case;
-    found_end(l, case_words::case_end(c, end), end)
+    match case_words::case_end(l.case, end) {
+        Ok(Some(listed)) => word_end(l, listed, end),
+        Ok(None) => Ok(None),
+        Err(bad) => Err(bad),
+    }
 }
 
-// The end of a line.
-pub fn line_end(r: Reader) -> Entry
+// The end of a line: what it gives, nothing, or the place of a bad or missing token.
+#[tactic(auto, unfolding(crate::specs::Line::line_end))]
+pub fn line_end(r: Reader) -> Result<Option<Given>, BadToken>
     ensures { result ≡ line_end r }
 {
-    let s = r.scanner;
-    let l = r.tokens;
-    let last = s.pending;
-    tokens_end(taken(l, last), s.at)
+    tokens_end(taken(r.tokens, r.scanner.pending), r.scanner.at)
 }

@@ -12,41 +12,30 @@ use Rattle.events.specs.Word.{decode}
 use Rattle.step.specs.declared.Stepped.{Stepped}
 use Rattle.step.specs.Step.{advance}
 use Rattle.case_run.specs.declared.Progress.{Progress}
-use Rattle.case_run.specs.declared.Verdict.TheVariants.{Differs}
+use Rattle.std.specs.Prelude.{Option}
 use Rattle.case_run.specs.Run.{goes, meets, answered_as, stopped, given, given_at, repeated, byte_read, read}
 
--- the answer is as it must be, or not
-module _ (p : Progress) (word : ℕ) (looked : Bool) (expected : ℕ) (r : Stepped) (e : r ≡ advance p.chip (decode word)) where
-  pub same : meets looked expected r.answer ≡ true → answered_as p r ≡ given p word looked expected
-  unfolding given
-  same h = rw (← e) (simp h)
-
-  pub other : meets looked expected r.answer ≡ false
-      → stopped p (Differs word expected r.answer) ≡ given p word looked expected
-  unfolding given
-  other h = rw (← e) (simp h)
-
 -- one of the times left, where reading goes on
-pub once : (n : ℕ) (p : Progress) (word : ℕ) (looked : Bool) (expected : ℕ) → 0 < n → goes p.verdict ≡ true
-    → repeated (n - 1) (given p word looked expected) word looked expected ≡ repeated n p word looked expected
+pub once : (n : ℕ) (p : Progress) (word : ℕ) (expected : Option ℕ) → 0 < n → goes p.failure ≡ true
+    → repeated (n - 1) (given p word expected) word expected ≡ repeated n p word expected
 unfolding repeated given_at
-once zero p word looked expected h g = absurd (omega arith)
-once (suc n) p word looked expected h g =
+once zero p word expected h g = absurd (omega arith)
+once (suc n) p word expected h g =
     let left : suc n - 1 ≡ n = omega arith in
-    rw (g) (ap (λ (k : ℕ). repeated k (given p word looked expected) word looked expected) left)
+    rw (g) (ap (λ (k : ℕ). repeated k (given p word expected) word expected) left)
 
 -- where it has stopped, all of them change nothing
-pub stays : (n : ℕ) (p : Progress) (word : ℕ) (looked : Bool) (expected : ℕ) → goes p.verdict ≡ false
-    → p ≡ repeated n p word looked expected
+pub stays : (n : ℕ) (p : Progress) (word : ℕ) (expected : Option ℕ) → goes p.failure ≡ false
+    → p ≡ repeated n p word expected
 unfolding repeated given_at
-stays zero p word looked expected g = refl
-stays (suc n) p word looked expected g = rw (g) (stays n p word looked expected g)
+stays zero p word expected g = refl
+stays (suc n) p word expected g = rw (g) (stays n p word expected g)
 
 -- none is left
-pub none : (n : ℕ) (p : Progress) (word : ℕ) (looked : Bool) (expected : ℕ) → n ≤ 0 → p ≡ repeated n p word looked expected
+pub none : (n : ℕ) (p : Progress) (word : ℕ) (expected : Option ℕ) → n ≤ 0 → p ≡ repeated n p word expected
 unfolding repeated
-none zero p word looked expected h = refl
-none (suc n) p word looked expected h = absurd (omega arith)
+none zero p word expected h = refl
+none (suc n) p word expected h = absurd (omega arith)
 
 -- the byte with index i, and the end
 pub read_next : (p : Progress) (text : List ℕ) (i : ℕ) → i < length text

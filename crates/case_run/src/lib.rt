@@ -2,44 +2,41 @@
 #![tactic(auto)]
 
 ghost use Rattle.std.specs.Prelude.{◌≡◌};
-ghost use Rattle.case_run.specs.Run.{goes, opened as opened_of, stopped as stopped_of, meets as meets_of, given as given_of, repeated as repeated_of, next_line, line_done, entered as entered_of, within as within_of, byte_taken, byte_read, read as read_of, concluded as concluded_of, closed as closed_of};
+ghost use Rattle.case_lines.specs.Line.{Entry};
+ghost use Rattle.case_run.specs.Run.{goes, opened as opened_of, stopped as stopped_of, differs as differs_of, given as given_of, repeated as repeated_of, next_line, line_done, entered as entered_of, within as within_of, byte_taken, byte_read, read as read_of, concluded as concluded_of, closed as closed_of};
 
-use case_lines::{Entry, Reader};
+use case_lines::{Given, Reader};
 use chip::Chip;
+use line_tokens::BadToken;
 
-// What is known of a case so far. A malformed line has the place of its bad or missing token, a difference the word, the expected answer and
-// the one given. A case that has ended without an event is empty.
+// Why a case does not pass: a line that is no event with its answer; a word, the expected answer and the one given; or no event at all.
 #[derive(Clone, Copy)]
-pub enum Verdict {
-    Agrees,
-    Malformed(u64),
+pub enum Failure {
+    Malformed(BadToken),
     Differs(u32, u32, u32),
     Empty,
 }
 
-// The chip, the line in reading, its number, the words that were answered as expected, and the verdict.
+// The chip, the line in reading, its number, the words that were answered as expected, and the failure at which reading has stopped.
 #[derive(Clone, Copy)]
 pub struct Progress {
     pub chip: Chip,
     pub reader: Reader,
     pub line: u64,
     pub words: u64,
-    pub verdict: Verdict,
+    pub failure: Option<Failure>,
 }
 
 // Whether reading goes on.
-pub fn goes_on(v: Verdict) -> bool
-    ensures { result ≡ goes v }
+#[tactic(auto, unfolding(crate::specs::Run::goes))]
+pub fn goes_on(failure: Option<Failure>) -> bool
+    ensures { result ≡ goes failure }
 {
-    match v {
-        Verdict::Agrees => true,
-        Verdict::Malformed(_) => false,
-        Verdict::Differs(_, _, _) => false,
-        Verdict::Empty => false,
-    }
+    failure.is_none()
 }
 
 // Before the first byte of a case.
+#[tactic(auto, unfolding(crate::specs::Run::opened))]
 pub fn opened() -> Progress
     ensures { result ≡ opened_of }
 {
@@ -48,69 +45,63 @@ pub fn opened() -> Progress
         reader: case_lines::line_start(),
         line: 1,
         words: 0,
-        verdict: Verdict::Agrees,
+        failure: None,
     }
 }
 
-fn stopped(p: Progress, v: Verdict) -> Progress
-    ensures { result ≡ stopped_of p v }
+fn stopped(p: Progress, failure: Failure) -> Progress
+    ensures { result ≡ stopped_of p failure }
 {
-    let chip = p.chip;
-    let reader = p.reader;
     Progress {
-        chip: chip,
-        reader: reader,
+        chip: p.chip,
+        reader: p.reader,
         line: p.line,
         words: p.words,
-        verdict: v,
+        failure: Some(failure),
     }
 }
 
 // ---- events
 
-fn meets(looked: bool, expected: u32, answer: u32) -> bool
-    ensures { result ≡ meets_of looked expected answer }
+// The failure of an answer that is another than expected.
+fn differs(word: u32, expected: Option<u32>, answer: u32) -> Option<Failure>
+    ensures { result ≡ differs_of word expected answer }
 {
-    if looked {
-        return answer == expected;
+    match expected {
+        Some(expected) if answer != expected => Some(Failure::Differs(word, expected, answer)),
+        Some(_) => None,
+        None => None,
     }
-    true
 }
 
 // A word to the chip, and its answer against the expected one.
-fn given(p: Progress, word: u32, looked: bool, expected: u32) -> Progress
-    ensures { result ≡ given_of p word looked expected }
+#[tactic(auto, unfolding(crate::specs::Run::given))]
+fn given(p: Progress, word: u32, expected: Option<u32>) -> Progress
+    ensures { result ≡ given_of p word expected }
 {
-    let before = p.chip;
-    let done = step::advance(before, events::decode(word));
-    let reader = p.reader;
-    if meets(looked, expected, done.answer) {
-        let after = done.chip;
-        return Progress {
-            chip: after,
-            reader: reader,
+    let done = step::advance(p.chip, events::decode(word));
+    match differs(word, expected, done.answer) {
+        Some(failure) => stopped(p, failure),
+        None => Progress {
+            chip: done.chip,
+            reader: p.reader,
             line: p.line,
             words: line_tokens::one_more(p.words),
-            verdict: Verdict::Agrees,
-        };
+            failure: None,
+        },
     }
-    stopped(p, Verdict::Differs(word, expected, done.answer))
 }
 
 // A word as often as its line says.
-fn repeated(times: u64, start: Progress, word: u32, looked: bool, expected: u32) -> Progress
-    ensures { result ≡ repeated_of times start word looked expected }
+fn repeated(times: u64, start: Progress, word: u32, expected: Option<u32>) -> Progress
+    ensures { result ≡ repeated_of times start word expected }
 {
     let mut p = start;
-    let mut left = times;
-    while left > 0 {
-        let verdict = p.verdict;
-        if goes_on(verdict) {
-            p = given(p, word, looked, expected);
-            left -= 1;
-        } else {
+    for _i in 0..times {
+        if !goes_on(p.failure) {
             return p;
         }
+        p = given(p, word, expected);
     }
     p
 }
@@ -120,73 +111,66 @@ fn repeated(times: u64, start: Progress, word: u32, looked: bool, expected: u32)
 fn next_line(p: Progress) -> Progress
     ensures { result ≡ next_line p }
 {
-    let chip = p.chip;
-    let verdict = p.verdict;
     Progress {
-        chip: chip,
+        chip: p.chip,
         reader: case_lines::line_start(),
         line: line_tokens::one_more(p.line),
         words: p.words,
-        verdict: verdict,
+        failure: p.failure,
     }
 }
 
+#[tactic(auto, unfolding(crate::specs::Run::line_done))]
 fn line_done(p: Progress) -> Progress
     ensures { result ≡ line_done p }
 {
-    let verdict = p.verdict;
-    if goes_on(verdict) {
-        return next_line(p);
-    }
-    p
+    if goes_on(p.failure) { next_line(p) } else { p }
 }
 
-fn entered(p: Progress, e: Entry) -> Progress
-    ensures { result ≡ entered_of p e }
+#[tactic(auto, unfolding(crate::specs::Run::entered))]
+fn entered(p: Progress, entry: Result<Option<Given>, BadToken>) -> Progress
+    ensures { result ≡ entered_of p entry }
 {
-    match e {
-        Entry::Nothing => next_line(p),
-        Entry::Given(times, word, looked, expected) => {
-            line_done(repeated(times, p, word, looked, expected))
-        }
-        Entry::Refused(place) => stopped(p, Verdict::Malformed(place)),
+    match entry {
+        Ok(Some(g)) => line_done(repeated(g.times, p, g.word, g.expected)),
+        Ok(None) => next_line(p),
+        Err(bad) => stopped(p, Failure::Malformed(bad)),
     }
 }
 
 fn within(p: Progress, r: Reader) -> Progress
     ensures { result ≡ within_of p r }
 {
-    let chip = p.chip;
-    let verdict = p.verdict;
     Progress {
-        chip: chip,
+        chip: p.chip,
         reader: r,
         line: p.line,
         words: p.words,
-        verdict: verdict,
+        failure: p.failure,
     }
 }
 
 // ---- the text
 
+#[tactic(auto, unfolding(crate::specs::Run::byte_taken))]
 fn byte_taken(p: Progress, b: u8) -> Progress
     ensures { result ≡ byte_taken p b }
 {
-    let reader = p.reader;
-    if b == 10 {
-        return entered(p, case_lines::line_end(reader));
+    if b == b'\n' {
+        return entered(p, case_lines::line_end(p.reader));
     }
-    within(p, case_lines::next(reader, b))
+    within(p, case_lines::next(p.reader, b))
 }
 
+#[tactic(auto, unfolding(crate::specs::Run::byte_read))]
 fn byte_read(p: Progress, b: u8) -> Progress
     ensures { result ≡ byte_read p b }
 {
-    let verdict = p.verdict;
-    if goes_on(verdict) {
-        return byte_taken(p, b);
+    if goes_on(p.failure) {
+        byte_taken(p, b)
+    } else {
+        p
     }
-    p
 }
 
 // A part of a case's text.
@@ -194,30 +178,26 @@ pub fn read(start: Progress, text: &[u8]) -> Progress
     ensures { result ≡ read_of start text.now }
 {
     let mut p = start;
-    let mut i = 0;
-    while i < text.len() {
-        p = byte_read(p, text[i]);
-        i += 1;
+    for b in text {
+        p = byte_read(p, *b);
     }
     p
 }
 
+#[tactic(auto, unfolding(crate::specs::Run::concluded))]
 fn concluded(p: Progress) -> Progress
     ensures { result ≡ concluded_of p }
 {
-    let verdict = p.verdict;
-    if goes_on(verdict) {
-        if p.words == 0 {
-            return stopped(p, Verdict::Empty);
-        }
-        return p;
+    if goes_on(p.failure) && p.words == 0 {
+        return stopped(p, Failure::Empty);
     }
     p
 }
 
 // The end of the text, which ends its last line.
+#[tactic(auto, unfolding(crate::specs::Run::closed))]
 pub fn closed(p: Progress) -> Progress
     ensures { result ≡ closed_of p }
 {
-    concluded(byte_read(p, 10))
+    concluded(byte_read(p, b'\n'))
 }

@@ -13,16 +13,23 @@ use Rattle.bits.proofs.Level.{pick_by}
 use Rattle.line_tokens.specs.Written.{pieces, line_of}
 use Rattle.line_text.proofs.Parts.{pieces_length}
 use Rattle.line_text.specs.Line.{size, content, line_size, line_content}
-use Rattle.event_text_read.specs.Event.{is_line}
-use Rattle.event_text_write.specs.Event.{kind_tokens, event_tokens}
+use Rattle.std.specs.Prelude.{Option, Some, None}
+use Rattle.event_names.specs.declared.Kind.{Kind}
+use Rattle.event_text_read.specs.Event.{line_kind}
+use Rattle.event_text_write.specs.Event.{kind_tokens, tokens_by, event_tokens}
 use Rattle.answer_text.specs.Answer.{is_answer, answer_parts, answer_tokens}
 use Rattle.case_lines.specs.Line.{is_read}
 use Rattle.case_text.specs.Text.{ARROW, three, twelve, joined, case_tokens, case_text, answer_text}
 
 -- the tokens of an event are three, those of an answer twelve
+three_by : (k : Option Kind) (w : ℕ) → tokens_by k w ≡ three (tokens_by k w)
+unfolding tokens_by kind_tokens
+three_by None w = refl
+three_by (Some k) w = refl
+
 pub event_three : (w : ℕ) → event_tokens w ≡ three (event_tokens w)
-unfolding event_tokens kind_tokens
-event_three w = pick_by (λ (l : List ℕ). l ≡ three l) (is_line w) (λ _. refl) (λ _. refl)
+unfolding event_tokens
+event_three w = three_by (line_kind w) w
 
 pub answer_twelve : (asked : Bool) (a : ℕ) → answer_tokens asked a ≡ twelve (answer_tokens asked a)
 unfolding answer_tokens answer_parts
@@ -67,10 +74,12 @@ pub as_case : (w answer : ℕ) (tokens out new : List ℕ) (r : ℕ) → tokens 
     → (r ≡ size (case_text w answer) out) × ((new ≡ content (case_text w answer) out) × (r ≤ 144))
 as_case w answer tokens out new r e n g = rw (e) at (as_line tokens out new r (omega (arith, n)) g)
 
-pub as_answer : (w answer : ℕ) (read : Bool) (tokens out new : List ℕ) (r : ℕ) → read ≡ is_read w → (tokens ≡ answer_tokens read answer) × (12 ≡ length tokens)
+pub as_answer : (w answer : ℕ) (read : Bool) (tokens out new : List ℕ) (r : ℕ) → read ≡ is_read w → tokens ≡ answer_tokens read answer
     → (r ≡ line_size tokens out) × (new ≡ line_content tokens out)
     → (r ≡ size (answer_text w answer) out) × ((new ≡ content (answer_text w answer) out) × (r ≤ 144))
-as_answer w answer read tokens out new r hr e g = rw (e.0, hr) at (as_line tokens out new r (omega (arith, e.1)) g)
+as_answer w answer read tokens out new r hr e g =
+    let few : length tokens ≡ 12 = ap length (e ∙ answer_twelve read answer) in
+    rw (e, hr) at (as_line tokens out new r (omega arith) g)
 
 -- what is written is within the buffer
 pub fits : (text out new : List ℕ) (r : ℕ) → r ≡ size text out → new ≡ content text out → r ≤ length new

@@ -5,7 +5,7 @@ ghost use Rattle.std.specs.Prelude.{◌≡◌, ◌≤◌, length};
 ghost use Rattle.line_text.specs.Line.{size, content};
 ghost use Rattle.case_text.specs.Text.{joined as joined_of, case_text, answer_text};
 
-const ARROW: u64 = 0x3D3E;
+use case_words::ARROW;
 
 fn joined(e: [u64; 3], a: [u64; 12]) -> [u64; 16]
     ensures { (result ≡ joined_of e a) × (16 ≡ length result) }

@@ -3,19 +3,13 @@
 // many did not. A malformed line, a case that cannot be read and output that cannot be written are told on standard error.
 #![tactic(auto)]
 
-use case_run::{Progress, Verdict};
+use case_run::{Failure, Progress};
+use line_tokens::BadToken;
 use std::env::FillError;
 use std::io::{Error, Print, Read};
 use std::process::ExitCode;
 use std::rt::{Env, Files};
 use std::{fs, io, str};
-
-// A case so far, and whether more of it is to be read.
-#[derive(Clone, Copy)]
-struct Turn {
-    progress: Progress,
-    more: bool,
-}
 
 // How many cases passed and how many did not.
 #[derive(Clone, Copy)]
@@ -29,23 +23,14 @@ const NO_TEXT: i32 = 84;
 
 // ---- reading
 
-fn read_part<R: Read>(p: Progress, from: &mut R) -> io::Result<Turn> {
-    let mut block = [0u8; 65536];
-    let n = from.read(&mut block)?;
-    let next = case_run::read(p, &block[..n]);
-    Ok(Turn {
-        progress: next,
-        more: (n > 0) & case_run::goes_on(next.verdict),
-    })
-}
-
 // A case to its end, or to where it fails. The loop counts its turns, since nothing says that a file ends.
 fn read_all<R: Read>(from: &mut R) -> io::Result<Progress> {
+    let mut block = [0u8; 65536];
     let mut p = case_run::opened();
     for _ in 0..u64::MAX {
-        let t = read_part(p, from)?;
-        p = t.progress;
-        if !t.more {
+        let n = from.read(&mut block)?;
+        p = case_run::read(p, &block[..n]);
+        if n == 0 || !case_run::goes_on(p.failure) {
             return Ok(p);
         }
     }
@@ -107,14 +92,15 @@ fn print_difference<P: Print>(
     println!(out; " (word {place})")
 }
 
-fn write_malformed<Q: Print>(err: &Q, path: &[u8], line: u64, place: u64) -> io::Result<()> {
+fn write_malformed<Q: Print>(err: &Q, path: &[u8], line: u64, bad: BadToken) -> io::Result<()> {
+    let place = bad.at;
     err.write_all(b"check_cases: ")?;
     err.write_all(path)?;
     println!(err; ":{line}: at byte {place}: not an event with its answer")
 }
 
-fn tell_malformed<Q: Print>(err: &Q, path: &[u8], line: u64, place: u64) -> ExitCode {
-    input::status(write_malformed(err, path, line, place))
+fn tell_malformed<Q: Print>(err: &Q, path: &[u8], line: u64, bad: BadToken) -> ExitCode {
+    input::status(write_malformed(err, path, line, bad))
 }
 
 // ---- cases
@@ -156,15 +142,14 @@ fn judged<P: Print, Q: Print>(
     path: &[u8],
     end: Progress,
 ) -> Result<Counts, ExitCode> {
-    let words = end.words;
-    match end.verdict {
-        Verdict::Agrees => counted(err, print_passed(out, path, words), passed(c)),
-        Verdict::Malformed(place) => told(tell_malformed(err, path, end.line, place), failed(c)),
-        Verdict::Differs(word, expected, given) => {
+    match end.failure {
+        None => counted(err, print_passed(out, path, end.words), passed(c)),
+        Some(Failure::Malformed(bad)) => told(tell_malformed(err, path, end.line, bad), failed(c)),
+        Some(Failure::Differs(word, expected, given)) => {
             let printed = print_difference(out, path, end, word, expected, given);
             counted(err, printed, failed(c))
         }
-        Verdict::Empty => counted(err, print_empty(out, path), failed(c)),
+        Some(Failure::Empty) => counted(err, print_empty(out, path), failed(c)),
     }
 }
 

@@ -1,16 +1,20 @@
 -- Hex digits both ways, over the count of digits.
 -- Assumes nothing.
 use mathlib.Core.Path.{◌≡◌, refl, sym, ap, ◌∙◌}
-use mathlib.Core.Bool.{Bool, true, false}
+use mathlib.Core.Bool.{Bool, false}
 use Prim.Native.Nat.{ℕ, zero, suc, ◌+◌, ◌-◌, ◌*◌, ◌/◌, ◌%◌, ◌<◌, ◌≤◌}
 use native.Mathlib.Omega.{arith}
-use lib.Dec.{T, eqb, ltb, eqb→eq}
+use lib.Dec.{eqb, ltb, eqb→eq}
 use borrow.Author.Tests.{eqb-true, ltb-true, ltb-false, lt-ltb, le-ltb, ne_eqb}
-use Rattle.bits.specs.Byte.{pick}
 use Rattle.bits.proofs.Level.{pick_by}
 use Rattle.bits.proofs.Finite.{at_each, T_true}
+use Rattle.std.specs.Prelude.{Option, Some, None, Result, Ok, Err}
+use mathlib.Core.Logic.{⊎_elim}
+use Rattle.bits.proofs.Finite.{lt_or_le}
+use Rattle.std.specs.Result.{OkIff, result_ok}
+use Rattle.std.proofs.lemmas.Result.{OkIff-at_ok, OkIff-at_err}
 use Rattle.hex_digits.specs.Hex.{hex_digit}
-use Rattle.event_names.specs.Digits.{digit_of, hex, joined, unhex}
+use Rattle.event_names.specs.Digits.{below, digit_of, hex, joined, unhex}
 
 same_digit : ℕ → Bool
 same_digit d = eqb (digit_of (hex_digit d)) d
@@ -151,3 +155,46 @@ few n = ltb (tokens_of n) 72057594037927937
 pub hex_fits : (n w : ℕ) → n < 8 → hex n w < 72057594037927936
 unfolding few
 hex_fits n w h = omega (arith, hex_below n w, ltb-true (tokens_of n) 72057594037927937 (T_true (few n) (at_each few 8 tt n h)))
+
+-- ---- as the code meets them, with an option for a number that is none
+
+ltb-not : (x l : ℕ) → (x < l → ⊥) → ltb x l ≡ false
+ltb-not x l f = ⊎_elim (λ (h : x < l). absurd (f h)) (λ (h : l ≤ x). le-ltb x l h) (lt_or_le x l)
+
+-- a number that is tried as a smaller type
+pub fitting : {E : Type 0} (l x : ℕ) (r : Result ℕ E) → OkIff r (x < l) x → result_ok r ≡ below l x
+fitting {E} l x (Ok y) h = let p : (x < l) × (y ≡ x) = OkIff-at_ok {E = E} (Ok y) (x < l) x y h refl in rw (p.1, lt-ltb x l p.0) refl
+fitting {E} l x (Err e) h = rw (ltb-not x l (OkIff-at_err {E = E} (Err e) (x < l) x e h refl)) refl
+
+pub some_below : (l x n : ℕ) → Some x ≡ below l n → (n < l) × (x ≡ n)
+some_below l x n = pick_by (λ (o : Option ℕ). Some x ≡ o → (n < l) × (x ≡ n)) (ltb n l) (λ t e. (ltb-true n l t, cc)) (λ _ e. absurd (let z : ◌≡◌ {A = ℕ} 0 1 = cc in omega arith))
+
+pub none_below : (l n : ℕ) → None ≡ below l n → l ≤ n
+none_below l n = pick_by (λ (o : Option ℕ). None ≡ o → l ≤ n) (ltb n l) (λ _ e. absurd (let z : ◌≡◌ {A = ℕ} 0 1 = cc in omega arith)) (λ t _. ltb-false n l t)
+
+above : (l n : ℕ) → l ≤ n → None ≡ below l n
+above l n h = rw (le-ltb n l h) refl
+
+joined_high : (x y : ℕ) → 268435456 ≤ x → 4294967296 ≤ joined x y
+unfolding joined
+joined_high x y h = rw (le-ltb x 268435456 h) (omega arith)
+
+joined_low : (x y : ℕ) → 16 ≤ y → 4294967296 ≤ joined x y
+unfolding joined
+joined_low x y h = pick_by (λ (j : ℕ). 4294967296 ≤ j) (ltb x 268435456) (λ _. rw (le-ltb y 16 h) (omega arith)) (λ _. omega arith)
+
+-- the digits before the last one are none
+pub unhex_high : (n t : ℕ) → (n ≡ 0 → ⊥) → None ≡ below 4294967296 (unhex (n - 1) (t / 256)) → None ≡ below 4294967296 (unhex n t)
+unhex_high n t f e = above _ _ (rw (unhex_one n t f) at (joined_high (unhex (n - 1) (t / 256)) (digit_of (t % 256)) (omega (arith, none_below _ _ e))))
+
+-- the last digit is none
+pub unhex_low : (n t : ℕ) → (n ≡ 0 → ⊥) → None ≡ below 16 (digit_of (t % 256)) → None ≡ below 4294967296 (unhex n t)
+unhex_low n t f e = above _ _ (rw (unhex_one n t f) at (joined_low (unhex (n - 1) (t / 256)) (digit_of (t % 256)) (none_below _ _ e)))
+
+pub unhex_both : (n t x y : ℕ) (r : Option ℕ) → (n ≡ 0 → ⊥) → Some x ≡ below 4294967296 (unhex (n - 1) (t / 256)) → Some y ≡ below 16 (digit_of (t % 256))
+    → r ≡ below 4294967296 (joined x y) → r ≡ below 4294967296 (unhex n t)
+unhex_both n t x y r f a b e =
+    rw ((some_below _ _ _ a).1, (some_below _ _ _ b).1, unhex_one n t f) at e
+
+pub digit_small : (c y : ℕ) → Some y ≡ below 16 (digit_of c) → y < 16
+digit_small c y e = let p = some_below _ _ _ e in omega arith

@@ -1,7 +1,11 @@
 -- Hex digits as a token: so many digits in upper case, the highest first, as bytes in base 256.
-use Rattle.std.specs.Prelude.{ℕ, zero, suc, ◌+◌, ◌-◌, ◌*◌, ◌/◌, ◌%◌, eqb, ltb}
+use Rattle.std.specs.Prelude.{Option, Some, None, ℕ, zero, suc, ◌+◌, ◌-◌, ◌*◌, ◌/◌, ◌%◌, eqb, ltb}
 use Rattle.bits.specs.Byte.{pick}
 use Rattle.hex_digits.specs.Hex.{hex_digit}
+
+-- a number below a limit; none where it is not below it
+abbrev pub below : ℕ → ℕ → Option ℕ
+below limit n = pick (ltb n limit) (Some n) None
 
 -- the digit with this code, or 16
 unfoldable pub digit_of : ℕ → ℕ

@@ -1,7 +1,11 @@
 -- The names in lines of text (document 01, "Event words" and "Registers"): a name is one number, its bytes in base 256, the first one
 -- highest, letters in upper case. A table for each of the four things that a field A numbers; 0 stands where there is no name.
-use Rattle.std.specs.Prelude.{ℕ, zero, suc, ◌+◌, ◌*◌, ◌/◌, ◌%◌, List, [], ◌∷◌, get_or, eqb, ltb}
+use Rattle.std.specs.Prelude.{Option, Some, None, ℕ, zero, suc, ◌+◌, ◌*◌, ◌/◌, ◌%◌, List, [], ◌∷◌, get_or, eqb, ltb}
 use Rattle.bits.specs.Byte.{pick}
+use Rattle.event_names.specs.declared.Kind.{Kind}
+use Rattle.event_names.specs.declared.Kind.TheVariants.{Read, Write, Pin, Clock, Polarity}
+use Rattle.event_names.specs.declared.Keyword.{Keyword}
+use Rattle.event_names.specs.declared.Keyword.TheVariants as keyword
 use Rattle.event_names.specs.Digits.{hex, unhex}
 
 -- ---- the tables
@@ -100,12 +104,33 @@ polarities =
     ∷ []
 
 -- the table of a kind; reads and writes are of registers
-unfoldable pub names : ℕ → List ℕ
-names kind = pick (eqb kind 3) pins (pick (eqb kind 4) clocks (pick (eqb kind 5) polarities registers))
+unfoldable pub names : Kind → List ℕ
+names Read = registers
+names Write = registers
+names Pin = pins
+names Clock = clocks
+names Polarity = polarities
 
 -- ---- kinds
 
--- the kinds 1 to 5, and 6 for `word`
+-- "Event words", the table: the number of each kind
+unfoldable pub number_of : Kind → ℕ
+number_of Read = 1
+number_of Write = 2
+number_of Pin = 3
+number_of Clock = 4
+number_of Polarity = 5
+
+-- the kind with a number
+unfoldable pub kind_with : ℕ → Option Kind
+kind_with n =
+    pick (eqb n 1) (Some Read)
+    (pick (eqb n 2) (Some Write)
+    (pick (eqb n 3) (Some Pin)
+    (pick (eqb n 4) (Some Clock)
+    (pick (eqb n 5) (Some Polarity) None))))
+
+-- the kinds, and `word`
 abbrev pub READ : ℕ
 READ = 0x52454144
 
@@ -124,24 +149,24 @@ POLARITY = 0x504F4C4152495459
 abbrev pub WORD : ℕ
 WORD = 0x574F5244
 
--- the kind with this name, or 0
-unfoldable pub kind_of : ℕ → ℕ
+-- the keyword with this name
+unfoldable pub kind_of : ℕ → Option Keyword
 kind_of v =
-    pick (eqb v READ) 1
-    (pick (eqb v WRITE) 2
-    (pick (eqb v PIN) 3
-    (pick (eqb v CLOCK) 4
-    (pick (eqb v POLARITY) 5
-    (pick (eqb v WORD) 6 0)))))
+    pick (eqb v READ) (Some (keyword.Event Read))
+    (pick (eqb v WRITE) (Some (keyword.Event Write))
+    (pick (eqb v PIN) (Some (keyword.Event Pin))
+    (pick (eqb v CLOCK) (Some (keyword.Event Clock))
+    (pick (eqb v POLARITY) (Some (keyword.Event Polarity))
+    (pick (eqb v WORD) (Some keyword.Word) None)))))
 
--- the name of a kind; that of any other number is `word`
-unfoldable pub kind_name : ℕ → ℕ
-kind_name kind =
-    pick (eqb kind 1) READ
-    (pick (eqb kind 2) WRITE
-    (pick (eqb kind 3) PIN
-    (pick (eqb kind 4) CLOCK
-    (pick (eqb kind 5) POLARITY WORD))))
+-- the name of a keyword
+unfoldable pub kind_name : Keyword → ℕ
+kind_name (keyword.Event Read) = READ
+kind_name (keyword.Event Write) = WRITE
+kind_name (keyword.Event Pin) = PIN
+kind_name (keyword.Event Clock) = CLOCK
+kind_name (keyword.Event Polarity) = POLARITY
+kind_name keyword.Word = WORD
 
 -- ---- a field A as text, and back
 
@@ -170,14 +195,14 @@ unfoldable pub field_in : List ℕ → ℕ → ℕ
 field_in table v = pick (ltb (named table v) 256) (named table v) (unnamed table (unhex 2 v))
 
 -- the field A that a token stands for in a line of this kind, or none
-abbrev pub field_of : ℕ → ℕ → ℕ
+abbrev pub field_of : Kind → ℕ → ℕ
 field_of kind v = field_in (names kind) v
 
 unfoldable pub token_in : List ℕ → ℕ → ℕ
 token_in table a = pick (eqb (name_in table a) 0) (hex 2 a) (name_in table a)
 
 -- the token of a field A in a line of this kind: its name, or two digits where it has none
-abbrev pub token_of : ℕ → ℕ → ℕ
+abbrev pub token_of : Kind → ℕ → ℕ
 token_of kind a = token_in (names kind) a
 
 -- ---- tokens as they are written
@@ -192,8 +217,12 @@ lower zero v = 0
 lower (suc n) v = pick (eqb v 0) 0 (lower n (v / 256) * 256 + lowered (v % 256))
 
 -- names of kinds and of clocks are written in lower case, all else in upper case
-abbrev pub kind_shown : ℕ → ℕ
-kind_shown kind = lower 8 (kind_name kind)
+abbrev pub kind_shown : Keyword → ℕ
+kind_shown k = lower 8 (kind_name k)
 
-unfoldable pub shown_of : ℕ → ℕ → ℕ
-shown_of kind a = pick (eqb kind 4) (pick (ltb a 4) (lower 8 (name_in clocks a)) (token_of kind a)) (token_of kind a)
+unfoldable pub shown_of : Kind → ℕ → ℕ
+shown_of Clock a = pick (ltb a 4) (lower 8 (name_in clocks a)) (token_of Clock a)
+shown_of Read a = token_of Read a
+shown_of Write a = token_of Write a
+shown_of Pin a = token_of Pin a
+shown_of Polarity a = token_of Polarity a

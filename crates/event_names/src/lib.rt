@@ -2,10 +2,10 @@
 // 256, the first one highest, letters in upper case.
 #![tactic(auto)]
 
-ghost use Rattle.std.specs.Prelude.{◌≡◌, ◌≤◌, ◌<◌};
+ghost use Rattle.std.specs.Prelude.{◌≡◌, ◌==◌, ◌≤◌, ◌<◌, position};
 ghost use Rattle.hex_digits.specs.Hex.{hex_digit};
-ghost use Rattle.event_names.specs.Digits.{digit_of, joined as joined_of, hex as hex_of, unhex as unhex_of};
-ghost use Rattle.event_names.specs.Names.{registers, pins, clocks, polarities, names, kind_of, named, name_in, unnamed as unnamed_of, field_of, token_of, lower, kind_shown, shown_of};
+ghost use Rattle.event_names.specs.Digits.{below, digit_of, joined as joined_of, hex as hex_of, unhex as unhex_of};
+ghost use Rattle.event_names.specs.Names.{number_of, kind_with, names, kind_of, named, name_in, unnamed as unnamed_of, field_of, token_of, clocks, lower, kind_shown, shown_of};
 
 const READ: u64 = 0x52454144;
 
@@ -33,78 +33,115 @@ const WORD_SHOWN: u64 = 0x776F7264;
 
 // ---- kinds
 
-// The kind with this name: 1 to 5, 6 for `word`, 0 for any other token.
-pub fn kind_of(v: u64) -> u8
-    ensures { result ≡ kind_of v }
-{
-    match v {
-        READ => 1,
-        WRITE => 2,
-        PIN => 3,
-        CLOCK => 4,
-        POLARITY => 5,
-        WORD => 6,
-        _ => 0,
+// What happens in an event.
+#[derive(Clone, Copy)]
+pub enum Kind {
+    Read,
+    Write,
+    Pin,
+    Clock,
+    Polarity,
+}
+
+impl Kind {
+    // The number of the kind in a word.
+    #[tactic(auto, unfolding(crate::specs::Names::number_of))]
+    pub fn number(self) -> u8
+        ensures { result ≡ number_of self }
+    {
+        match self {
+            Kind::Read => 1,
+            Kind::Write => 2,
+            Kind::Pin => 3,
+            Kind::Clock => 4,
+            Kind::Polarity => 5,
+        }
+    }
+
+    // The kind with this number in a word.
+    #[tactic(auto, unfolding(crate::specs::Names::kind_with))]
+    pub fn with_number(number: u8) -> Option<Kind>
+        ensures { result ≡ kind_with number }
+    {
+        match number {
+            1 => Some(Kind::Read),
+            2 => Some(Kind::Write),
+            3 => Some(Kind::Pin),
+            4 => Some(Kind::Clock),
+            5 => Some(Kind::Polarity),
+            _ => None,
+        }
     }
 }
 
-// The name of a kind as it is written, in lower case, and `word` for any other number.
-pub fn kind_shown(kind: u8) -> u64
-    ensures { result ≡ kind_shown kind }
+// The first token of a line: a kind, or `word`.
+#[derive(Clone, Copy)]
+pub enum Keyword {
+    Event(Kind),
+    Word,
+}
+
+// The keyword with this name.
+#[tactic(auto, unfolding(crate::specs::Names::kind_of))]
+pub fn kind_of(v: u64) -> Option<Keyword>
+    ensures { result ≡ kind_of v }
 {
-    match kind {
-        1 => READ_SHOWN,
-        2 => WRITE_SHOWN,
-        3 => PIN_SHOWN,
-        4 => CLOCK_SHOWN,
-        5 => POLARITY_SHOWN,
-        _ => WORD_SHOWN,
+    match v {
+        READ => Some(Keyword::Event(Kind::Read)),
+        WRITE => Some(Keyword::Event(Kind::Write)),
+        PIN => Some(Keyword::Event(Kind::Pin)),
+        CLOCK => Some(Keyword::Event(Kind::Clock)),
+        POLARITY => Some(Keyword::Event(Kind::Polarity)),
+        WORD => Some(Keyword::Word),
+        _ => None,
+    }
+}
+
+// The name of a keyword as it is written, in lower case.
+#[tactic(auto, unfolding(crate::specs::Names::kind_name, crate::specs::Names::lower, crate::specs::Names::lowered))]
+pub fn kind_shown(keyword: Keyword) -> u64
+    ensures { result ≡ kind_shown keyword }
+{
+    match keyword {
+        Keyword::Event(Kind::Read) => READ_SHOWN,
+        Keyword::Event(Kind::Write) => WRITE_SHOWN,
+        Keyword::Event(Kind::Pin) => PIN_SHOWN,
+        Keyword::Event(Kind::Clock) => CLOCK_SHOWN,
+        Keyword::Event(Kind::Polarity) => POLARITY_SHOWN,
+        Keyword::Word => WORD_SHOWN,
     }
 }
 
 // ---- hex digits
 
-fn digit_of(c: u64) -> u64
-    ensures { result ≡ digit_of c }
+#[tactic(auto, unfolding(crate::specs::Digits::digit_of))]
+fn digit_of(c: u8) -> Option<u32>
+    ensures { result ≡ below 16 (digit_of c) }
 {
-    if c < 48 {
-        return 16;
+    match c {
+        b'0'..=b'9' => Some(u32::from(c) - 48),
+        b'A'..=b'F' => Some(u32::from(c) - 55),
+        _ => None,
     }
-    if c < 58 {
-        return c - 48;
-    }
-    if c < 65 {
-        return 16;
-    }
-    if c < 71 {
-        return c - 55;
-    }
-    16
 }
 
-fn joined(high: u64, low: u64) -> u64
-    ensures { (result ≡ joined_of high low) × (result ≤ 4294967296) }
+// A number with one digit more, where it has eight digits at most.
+#[tactic(auto, unfolding(crate::specs::Digits::joined))]
+fn joined(high: u32, low: u32) -> Option<u32>
+    requires { low < 16 }
+    ensures { result ≡ below 4294967296 (joined_of high low) }
 {
-    if high < 268435456 {
-        if low < 16 {
-            return high * 16 + low;
-        }
-        return 4294967296;
-    }
-    4294967296
+    Some(high.checked_mul(16)? + low)
 }
 
-// The number of a token of n hex digits; 2^32 for any other token.
-pub fn unhex(n: u32, t: u64) -> u64
-    ensures { result ≡ unhex_of n t }
+// The number of a token of n hex digits.
+pub fn unhex(n: u32, t: u64) -> Option<u32>
+    ensures { result ≡ below 4294967296 (unhex_of n t) }
 {
     if n == 0 {
-        if t == 0 {
-            return 0;
-        }
-        return 4294967296;
+        return if t == 0 { Some(0) } else { None };
     }
-    joined(unhex(n - 1, t / 256), digit_of(t % 256))
+    joined(unhex(n - 1, t / 256)?, digit_of((t % 256) as u8)?)
 }
 
 fn hex_digit(d: u64) -> u64
@@ -125,162 +162,28 @@ fn hex(n: u32, w: u64) -> u64
     hex(n - 1, w / 16) * 256 + hex_digit(w % 16)
 }
 
-fn widened(w: u32) -> u64
-    ensures { result ≡ w }
-{
-    w as u64
-}
-
-fn wide(b: u8) -> u64
-    ensures { result ≡ b }
-{
-    b as u64
-}
-
 // Eight digits of a word.
 pub fn word_token(w: u32) -> u64
     ensures { result ≡ hex_of 8 w }
 {
-    hex(8, widened(w))
+    hex(8, u64::from(w))
 }
 
 // Two digits of a byte.
 pub fn byte_token(b: u8) -> u64
     ensures { result ≡ hex_of 2 b }
 {
-    hex(2, wide(b))
+    hex(2, u64::from(b))
 }
 
 // The last digit of a byte.
 pub fn digit_token(d: u8) -> u64
     ensures { result ≡ hex_of 1 d }
 {
-    hex(1, wide(d))
+    hex(1, u64::from(d))
 }
 
-// ---- from a name to its number: a choice, not a search
-
-fn register_of(v: u64) -> u32
-    ensures { result ≡ named registers v }
-{
-    match v {
-        0 => 256,
-        0x505430 => 0,
-        0x505431 => 1,
-        0x505432444952 => 2,
-        0x505432 => 3,
-        0x505433 => 4,
-        0x4D44434F4E => 5,
-        0x4856434F4E => 6,
-        0x48434E544C => 7,
-        0x48434E5448 => 8,
-        0x56434E544C => 9,
-        0x56434E5448 => 10,
-        0x53594E434F4E => 11,
-        0x454E444143 => 12,
-        0x414430 => 13,
-        0x414431 => 14,
-        0x494558 => 15,
-        0x49525158 => 16,
-        0x434C52464C47 => 17,
-        0x434C52574454 => 18,
-        0x4949414452 => 19,
-        0x4949444154 => 20,
-        0x4949535453 => 21,
-        0x4254 => 22,
-        0x4254434F4E => 23,
-        0x4441434830 => 24,
-        0x4441434831 => 25,
-        0x4441434832 => 26,
-        0x4441434833 => 27,
-        0x4441434834 => 28,
-        0x4441434835 => 29,
-        0x4441434836 => 30,
-        0x4441434837 => 31,
-        0x4441434838 => 32,
-        0x4441434839 => 33,
-        0x444143483130 => 34,
-        0x444143483131 => 35,
-        0x444143483132 => 36,
-        0x444143483133 => 37,
-        _ => 256,
-    }
-}
-
-fn pin_of(v: u64) -> u32
-    ensures { result ≡ named pins v }
-{
-    match v {
-        0 => 256,
-        0x503030 => 0,
-        0x503031 => 1,
-        0x503032 => 2,
-        0x503033 => 3,
-        0x503034 => 4,
-        0x503035 => 5,
-        0x503036 => 6,
-        0x503037 => 7,
-        0x503130 => 8,
-        0x503131 => 9,
-        0x503132 => 10,
-        0x503133 => 11,
-        0x503134 => 12,
-        0x503135 => 13,
-        0x503136 => 14,
-        0x503230 => 16,
-        0x503231 => 17,
-        0x503232 => 18,
-        0x503233 => 19,
-        0x503234 => 20,
-        0x503235 => 21,
-        0x503236 => 22,
-        0x503237 => 23,
-        0x534441 => 24,
-        0x53434C => 25,
-        0x4853594E4349 => 26,
-        0x5653594E4349 => 27,
-        0x5245534554 => 28,
-        _ => 256,
-    }
-}
-
-fn clock_of(v: u64) -> u32
-    ensures { result ≡ named clocks v }
-{
-    match v {
-        0 => 256,
-        0x385553 => 0,
-        0x4241534530 => 1,
-        0x4241534531 => 2,
-        0x5741544348444F47 => 3,
-        _ => 256,
-    }
-}
-
-fn polarity_of(v: u64) -> u32
-    ensures { result ≡ named polarities v }
-{
-    match v {
-        0 => 256,
-        0x48 => 0,
-        0x56 => 1,
-        _ => 256,
-    }
-}
-
-// The number with this name, for a line of this kind; 256 for none.
-fn named_of(kind: u8, v: u64) -> u32
-    ensures { result ≡ named (names kind) v }
-{
-    match kind {
-        3 => pin_of(v),
-        4 => clock_of(v),
-        5 => polarity_of(v),
-        _ => register_of(v),
-    }
-}
-
-// ---- from a number to its name
+// ---- the names of a field A, each at its number
 
 const REGISTERS: [u64; 38] = [
     0x505430, // PT0
@@ -323,16 +226,6 @@ const REGISTERS: [u64; 38] = [
     0x444143483133, // DACH13
 ];
 
-fn register_name(a: u8) -> u64
-    ensures { result ≡ name_in registers a }
-{
-    if a < 38 {
-        let at = a as usize;
-        return REGISTERS[at];
-    }
-    0
-}
-
 const PINS: [u64; 29] = [
     0x503030, // P00
     0x503031, // P01
@@ -365,16 +258,6 @@ const PINS: [u64; 29] = [
     0x5245534554, // RESET
 ];
 
-fn pin_name(a: u8) -> u64
-    ensures { result ≡ name_in pins a }
-{
-    if a < 29 {
-        let at = a as usize;
-        return PINS[at];
-    }
-    0
-}
-
 const CLOCKS: [u64; 4] = [
     0x385553, // 8US
     0x4241534530, // BASE0
@@ -382,71 +265,75 @@ const CLOCKS: [u64; 4] = [
     0x5741544348444F47, // WATCHDOG
 ];
 
-fn clock_name(a: u8) -> u64
-    ensures { result ≡ name_in clocks a }
-{
-    if a < 4 {
-        let at = a as usize;
-        return CLOCKS[at];
-    }
-    0
-}
-
 const POLARITIES: [u64; 2] = [
     0x48, // H
     0x56, // V
 ];
 
-fn polarity_name(a: u8) -> u64
-    ensures { result ≡ name_in polarities a }
+// The names in a line of this kind; 0 where a number has none.
+#[tactic(auto, unfolding(crate::specs::Names::names, crate::specs::Names::registers, crate::specs::Names::pins, crate::specs::Names::clocks, crate::specs::Names::polarities))]
+fn names_of(kind: Kind) -> &'static [u64]
+    ensures { result.now ≡ names kind }
 {
-    if a < 2 {
-        let at = a as usize;
-        return POLARITIES[at];
+    match kind {
+        Kind::Read => &REGISTERS,
+        Kind::Write => &REGISTERS,
+        Kind::Pin => &PINS,
+        Kind::Clock => &CLOCKS,
+        Kind::Polarity => &POLARITIES,
     }
-    0
 }
 
 // The name of a number in a line of this kind; 0 where it has none.
-fn name_of(kind: u8, a: u8) -> u64
+fn name_of(kind: Kind, a: u8) -> u64
     ensures { result ≡ name_in (names kind) a }
 {
-    match kind {
-        3 => pin_name(a),
-        4 => clock_name(a),
-        5 => polarity_name(a),
-        _ => register_name(a),
+    match names_of(kind).get(usize::from(a)) {
+        Some(name) => *name,
+        None => 0,
     }
+}
+
+// The place of a name in a table.
+fn place_of(table: &[u64], v: u64) -> Option<usize>
+    ensures { result ≡ position (λ n. v == n) table.now }
+{
+    table.iter().position(|n| v == *n)
+}
+
+// The number with this name in a line of this kind.
+fn named_of(kind: Kind, v: u64) -> Option<u8>
+    ensures { result ≡ below 256 (named (names kind) v) }
+{
+    if v == 0 {
+        return None;
+    }
+    u8::try_from(place_of(names_of(kind), v)?).ok()
 }
 
 // ---- a field A as a token, and back
 
 // A number given by its digits has no name.
-fn unnamed(kind: u8, a: u64) -> u32
-    ensures { result ≡ unnamed_of (names kind) a }
+#[tactic(auto, unfolding(crate::specs::Names::unnamed))]
+fn unnamed(kind: Kind, a: u8) -> Option<u8>
+    ensures { result ≡ below 256 (unnamed_of (names kind) a) }
 {
-    if a < 256 {
-        if name_of(kind, a as u8) == 0 {
-            return a as u32;
-        }
-        return 256;
-    }
-    256
+    if name_of(kind, a) == 0 { Some(a) } else { None }
 }
 
-// The field A of a token in a line of this kind: a name, or two digits of a number without one; 256 for any other token.
-pub fn field_of(kind: u8, v: u64) -> u32
-    ensures { result ≡ field_of kind v }
+// The field A of a token in a line of this kind: a name, or two digits of a number without one.
+pub fn field_of(kind: Kind, v: u64) -> Option<u8>
+    ensures { result ≡ below 256 (field_of kind v) }
 {
-    let found = named_of(kind, v);
-    if found < 256 {
-        return found;
+    match named_of(kind, v) {
+        Some(a) => Some(a),
+        None => unnamed(kind, u8::try_from(unhex(2, v)?).ok()?),
     }
-    unnamed(kind, unhex(2, v))
 }
 
 // The token of a field A in a line of this kind: its name, or two digits where it has none.
-fn token_of(kind: u8, a: u8) -> u64
+#[tactic(auto, unfolding(crate::specs::Names::token_in))]
+fn token_of(kind: Kind, a: u8) -> u64
     ensures { result ≡ token_of kind a }
 {
     let name = name_of(kind, a);
@@ -469,14 +356,12 @@ fn clock_shown(a: u8) -> u64
 }
 
 // The same as it is written: names of clocks in lower case.
-pub fn shown_of(kind: u8, a: u8) -> u64
+#[tactic(auto, unfolding(crate::specs::Names::shown_of))]
+pub fn shown_of(kind: Kind, a: u8) -> u64
     ensures { result ≡ shown_of kind a }
 {
-    if kind == 4 {
-        if a < 4 {
-            return clock_shown(a);
-        }
-        return token_of(kind, a);
+    match kind {
+        Kind::Clock if a < 4 => clock_shown(a),
+        _ => token_of(kind, a),
     }
-    token_of(kind, a)
 }

@@ -7,13 +7,15 @@ use Prim.Native.Nat.{ℕ, zero, suc, ◌+◌, ◌-◌, ◌*◌, ◌/◌, ◌%◌
 use native.Mathlib.Omega.{arith}
 use lib.Dec.{T, eqb, ltb, eqb→eq}
 use lib.ListN.{drop}
-use borrow.Author.Tests.{eqb-true, eqb-false, ltb-true, not-true, ne_eqb, eq-eqb, lt-ltb}
+use borrow.Author.Tests.{eqb-true, eqb-false, ltb-true, ltb-false, not-true, ne_eqb, eq-eqb, lt-ltb}
+use Rattle.std.specs.Prelude.{Option, Some, None}
+use Rattle.std.specs.Bool.{⊤}
 use Rattle.bits.specs.Byte.{pick}
 use Rattle.bits.proofs.Finite.{T_true, and_left, and_right}
 use Rattle.bits.proofs.Level.{pick_by}
 use Rattle.line_tokens.specs.declared.Token.{Token}
 use Rattle.line_tokens.specs.declared.Scanner.{Scanner}
-use Rattle.line_tokens.specs.Scan.{blank, fold, grown, no_token, longer, start, ended, within, scanned, scan, before, tokens_from, tokens, values}
+use Rattle.line_tokens.specs.Scan.{blank, fold, grown, longer, start, moved, ended, within, is_star, scanned, scan, before, tokens_from, tokens, values}
 use Rattle.line_tokens.specs.Written.{written, piece, pieces, line_of}
 use Rattle.event_text_laws.specs.Shown.{upper, valued, shown}
 
@@ -84,45 +86,79 @@ module _ (b : ℕ) (t : T (solid b)) where
   not_star = not-true (eqb b 42) (T_true (not (eqb b 42)) (and_right (not (eqb b 35)) (not (eqb b 42)) signs))
 
   -- it goes on with the token that is pending
-  pub goes_on : (s : Scanner) → s.remark ≡ false → eqb s.pending.value 42 ≡ false → scan s b ≡ within s b
+  pub goes_on : (s : Scanner) → s.remark ≡ false → is_star s.pending ≡ false → scan s b ≡ within s b
   unfolding scan scanned
   goes_on s r p = simp (r, no_blank, no_hash, not_star, p)
+
+-- the number of a token, 0 where there is none
+unfoldable pub held : Option Token → ℕ
+held None = 0
+held (Some t) = t.value
+
+-- no token has the number 0
+unfoldable pub Real : Option Token → Type 0
+Real None = ⊤
+Real (Some t) = eqb t.value 0 ≡ false
+
+no_star_held : (o : Option Token) → eqb (held o) 42 ≡ false → is_star o ≡ false
+unfolding held is_star
+no_star_held None e = refl
+no_star_held (Some t) e = e
 
 -- bytes that leave one token pending, and no other: its number, and what is read from there
 pub record Scanned (s : Scanner) (bytes : List ℕ) (v : ℕ) : Type 0 where
   pub state : Scanner
-  pub value : state.pending.value ≡ v
+  pub value : held state.pending ≡ v
+  pub real : Real state.pending
   pub clear : state.remark ≡ false
   pub rest : (tail : List ℕ) → tokens_from s (bytes ++ tail) ≡ tokens_from state tail
 
-within_value : (s : Scanner) (u b : ℕ) → s.pending.value ≡ u → u < 72057594037927936 → (within s b).pending.value ≡ u * 256 + fold b
-unfolding within longer grown
-within_value s u b e h = rw (e, lt-ltb u 72057594037927936 h) refl
+longer_value : (o : Option Token) (at u b : ℕ) → held o ≡ u → u < 72057594037927936 → (longer o at b).value ≡ u * 256 + fold b
+unfolding held longer grown
+longer_value None at u b e h = rw (← e) refl
+longer_value (Some t) at u b e h = rw (e, lt-ltb u 72057594037927936 h) refl
+
+fold_some : (b : ℕ) → 0 < fold b
+unfolding fold
+fold_some b =
+    pick_by (λ (x : ℕ). 0 < x) (ltb b 33) (λ _. omega arith)
+    (λ e. let h = ltb-false b 33 e in pick_by (λ (x : ℕ). 0 < x) (ltb b 97) (λ _. omega arith)
+    (λ f. let k = ltb-false b 97 f in pick_by (λ (x : ℕ). 0 < x) (ltb b 123) (λ _. omega arith) (λ _. omega arith)))
+
+within_value : (s : Scanner) (u b : ℕ) → held s.pending ≡ u → u < 72057594037927936 → held (within s b).pending ≡ u * 256 + fold b
+unfolding held within moved
+within_value s u b e h = longer_value s.pending s.at u b e h
+
+within_real : (s : Scanner) (u b : ℕ) → held s.pending ≡ u → u < 72057594037927936 → Real (within s b).pending
+unfolding Real within moved
+within_real s u b e h = rw (longer_value s.pending s.at u b e h) (ne_eqb (u * 256 + fold b) 0 (λ z. omega (arith, fold_some b)))
 
 within_open : (s : Scanner) (b : ℕ) → (within s b).remark ≡ false
-unfolding within
+unfolding within moved
 within_open s b = refl
 
 within_rest : (s : Scanner) (b : ℕ) (tail : List ℕ) → scan s b ≡ within s b → tokens_from s (b ∷ tail) ≡ tokens_from (within s b) tail
-unfolding tokens_from before within
+unfolding tokens_from before within moved
 within_rest s b tail e = rw e refl
 
 scanned_more : (s : Scanner) (bytes : List ℕ) (u b : ℕ) → Scanned s bytes u → u < 72057594037927936 → eqb u 42 ≡ false → T (solid b) → Scanned s (bytes ++ (b ∷ [])) (u * 256 + fold b)
 scanned_more s bytes u b p h f t =
     let q = p.state in
-    let e : scan q b ≡ within q b = goes_on b t q p.clear (ap (λ (x : ℕ). eqb x 42) p.value ∙ f) in
+    let e : scan q b ≡ within q b = goes_on b t q p.clear (no_star_held q.pending (ap (λ (x : ℕ). eqb x 42) p.value ∙ f)) in
     record {
       state = within q b;
       value = within_value q u b p.value h;
+      real = within_real q u b p.value h;
       clear = within_open q b;
       rest = λ tail. ap (tokens_from s) (append_assoc bytes (b ∷ []) tail) ∙ p.rest (b ∷ tail) ∙ within_rest q b tail e;
     }
 
-scanned_none : (s : Scanner) → s.remark ≡ false → s.pending.value ≡ 0 → Scanned s [] 0
-scanned_none s r e = record { state = s; value = e; clear = r; rest = λ tail. refl }
+scanned_none : (s : Scanner) → s.remark ≡ false → s.pending ≡ None → Scanned s [] 0
+unfolding held Real
+scanned_none s r e = record { state = s; value = rw e refl; real = rw e tt; clear = r; rest = λ tail. refl }
 
 -- a token that is written, from a scanner that has none pending
-pub scanned_written : (n v : ℕ) (s : Scanner) → s.remark ≡ false → s.pending.value ≡ 0 → T (plain n v) → Scanned s (written n v) (upper n v)
+pub scanned_written : (n v : ℕ) (s : Scanner) → s.remark ≡ false → s.pending ≡ None → T (plain n v) → Scanned s (written n v) (upper n v)
 unfolding written upper
 scanned_written zero v s r e t = scanned_none s r e
 scanned_written (suc n) v s r e t =
@@ -140,56 +176,57 @@ blank_ends : (s : Scanner) → s.remark ≡ false → scan s 32 ≡ ended s fals
 unfolding scan scanned blank
 blank_ends s r = rw r refl
 
-values_before : (t : Token) (rest : List Token) → values (before t rest) ≡ valued t.value (values rest)
-unfolding before valued values
-values_before t rest = by (eqb t.value 0) (λ z. rw z refl) (λ z. rw z refl)
+values_before : (t : Option Token) (rest : List Token) → Real t → values (before t rest) ≡ valued (held t) (values rest)
+unfolding before held Real valued values
+values_before None rest r = refl
+values_before (Some t) rest r = rw r refl
 
-values_end : (t : Token) → values (before t []) ≡ valued t.value []
+values_end : (t : Option Token) → Real t → values (before t []) ≡ valued (held t) []
 unfolding values
-values_end t = values_before t []
+values_end t r = values_before t [] r
 
-after_blank : (s : Scanner) (tail : List ℕ) → s.remark ≡ false → values (tokens_from s (32 ∷ tail)) ≡ valued s.pending.value (values (tokens_from (ended s false) tail))
-unfolding tokens_from ended
-after_blank s tail r = rw (blank_ends s r) (values_before s.pending (tokens_from (ended s false) tail))
+after_blank : (s : Scanner) (tail : List ℕ) → s.remark ≡ false → Real s.pending → values (tokens_from s (32 ∷ tail)) ≡ valued (held s.pending) (values (tokens_from (ended s false) tail))
+unfolding tokens_from ended moved
+after_blank s tail r p = rw (blank_ends s r) (values_before s.pending (tokens_from (ended s false) tail) p)
 
 ended_open : (s : Scanner) → (ended s false).remark ≡ false
-unfolding ended
+unfolding ended moved
 ended_open s = refl
 
-ended_none : (s : Scanner) → (ended s false).pending.value ≡ 0
-unfolding ended
+ended_none : (s : Scanner) → (ended s false).pending ≡ None
+unfolding ended moved
 ended_none s = refl
 
-read_zero : (v : ℕ) (rest : List ℕ) (s : Scanner) → eqb v 0 ≡ true → values (tokens_from s (pieces rest)) ≡ valued s.pending.value (shown rest)
-    → values (tokens_from s (piece v ++ pieces rest)) ≡ valued s.pending.value (valued (upper 8 v) (shown rest))
+read_zero : (v : ℕ) (rest : List ℕ) (s : Scanner) → eqb v 0 ≡ true → values (tokens_from s (pieces rest)) ≡ valued (held s.pending) (shown rest)
+    → values (tokens_from s (piece v ++ pieces rest)) ≡ valued (held s.pending) (valued (upper 8 v) (shown rest))
 unfolding piece upper valued
 read_zero v rest s z e = rw z e
 
-read_some : (v : ℕ) (rest : List ℕ) (s : Scanner) → eqb v 0 ≡ false → s.remark ≡ false → (q : Scanned (ended s false) (written 8 v) (upper 8 v))
-    → values (tokens_from q.state (pieces rest)) ≡ valued q.state.pending.value (shown rest)
-    → values (tokens_from s (piece v ++ pieces rest)) ≡ valued s.pending.value (valued (upper 8 v) (shown rest))
+read_some : (v : ℕ) (rest : List ℕ) (s : Scanner) → eqb v 0 ≡ false → s.remark ≡ false → Real s.pending → (q : Scanned (ended s false) (written 8 v) (upper 8 v))
+    → values (tokens_from q.state (pieces rest)) ≡ valued (held q.state.pending) (shown rest)
+    → values (tokens_from s (piece v ++ pieces rest)) ≡ valued (held s.pending) (valued (upper 8 v) (shown rest))
 unfolding piece
-read_some v rest s z r q e =
+read_some v rest s z r p q e =
     rw z
-    (after_blank s (written 8 v ++ pieces rest) r
-    ∙ ap (λ (l : List ℕ). valued s.pending.value l) (ap values (q.rest (pieces rest)) ∙ e ∙ ap (λ (x : ℕ). valued x (shown rest)) q.value))
+    (after_blank s (written 8 v ++ pieces rest) r p
+    ∙ ap (λ (l : List ℕ). valued (held s.pending) l) (ap values (q.rest (pieces rest)) ∙ e ∙ ap (λ (x : ℕ). valued x (shown rest)) q.value))
 
 -- what follows a token that is pending
-pub read_pieces : (l : List ℕ) → Plain l → (s : Scanner) → s.remark ≡ false → values (tokens_from s (pieces l)) ≡ valued s.pending.value (shown l)
+pub read_pieces : (l : List ℕ) → Plain l → (s : Scanner) → s.remark ≡ false → Real s.pending → values (tokens_from s (pieces l)) ≡ valued (held s.pending) (shown l)
 unfolding pieces shown tokens_from
-read_pieces [] nil s r = values_end s.pending
-read_pieces (v ∷ rest) (cons t p) s r =
+read_pieces [] nil s r g = values_end s.pending g
+read_pieces (v ∷ rest) (cons t p) s r g =
     by (eqb v 0)
-    (λ z. read_zero v rest s z (read_pieces rest p s r))
+    (λ z. read_zero v rest s z (read_pieces rest p s r g))
     (λ z.
     let q : Scanned (ended s false) (written 8 v) (upper 8 v) = scanned_written 8 v (ended s false) (ended_open s) (ended_none s) t in
-    read_some v rest s z r q (read_pieces rest p q.state q.clear))
+    read_some v rest s z r g q (read_pieces rest p q.state q.clear q.real))
 
 start_open : start.remark ≡ false
 unfolding start
 start_open = refl
 
-start_none : start.pending.value ≡ 0
+start_none : start.pending ≡ None
 unfolding start
 start_none = refl
 
@@ -198,4 +235,4 @@ pub read_line : (v : ℕ) (rest : List ℕ) → Plain (v ∷ rest) → eqb v 0 �
 unfolding pieces piece shown
 read_line v rest (cons t p) z =
     let q : Scanned start (written 8 v) (upper 8 v) = scanned_written 8 v start start_open start_none t in
-    rw z (ap values (q.rest (pieces rest)) ∙ read_pieces rest p q.state q.clear ∙ ap (λ (x : ℕ). valued x (shown rest)) q.value)
+    rw z (ap values (q.rest (pieces rest)) ∙ read_pieces rest p q.state q.clear q.real ∙ ap (λ (x : ℕ). valued x (shown rest)) q.value)

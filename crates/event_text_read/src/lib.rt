@@ -2,139 +2,127 @@
 // digits. A line is read token by token, so that a program needs no room for it.
 #![tactic(auto)]
 
-ghost use Rattle.std.specs.Prelude.{◌≡◌, ◌<◌};
+ghost use Rattle.std.specs.Prelude.{◌≡◌, ◌≤◌};
 ghost use Rattle.events.specs.Word.{event_word};
-ghost use Rattle.event_text_read.specs.Event.{takes_b, digits_b, limit_b, bound_b, is_line, bare as bare_of, at_start, at_kind, at_place, at_other, next as next_of, take as take_of, take_all, taken as taken_of, line_end, parse};
+ghost use Rattle.event_names.specs.Names.{number_of};
+ghost use Rattle.event_text_read.specs.Event.{takes_b, digits_b, limit_b, bound_b, line_kind, bare as bare_of, at_start, at_kind, at_place, at_other, next as next_of, take as take_of, taken as taken_of, line_end, parse};
 
-use line_tokens::{Scanner, Token};
+use event_names::{Keyword, Kind};
+use line_tokens::{BadToken, Token};
 
 // What the tokens of a line so far are: none; a kind; a kind and a field A; `word`; a whole word; or a bad token, by its place.
 #[derive(Clone, Copy)]
 pub enum Event {
     Start,
-    Kind(u8),
-    Place(u8, u8),
+    Kind(Kind),
+    Place(Kind, u8),
     Other,
     Word(u32),
     Bad(u64),
 }
 
-// A line: its word, or the place of its first bad token; the line's end where a token is missing.
-#[derive(Clone, Copy)]
-pub enum Line {
-    Whole(u32),
-    Refused(u64),
-}
+// ---- the fields that a kind takes
 
-fn takes_b(k: u8) -> bool
+fn takes_b(k: Kind) -> bool
     ensures { result ≡ takes_b k }
 {
-    if k == 1 {
-        return false;
-    }
-    k != 4
+    !matches!(k, Kind::Read | Kind::Clock)
 }
 
-fn digits_b(k: u8) -> u32
+fn digits_b(k: Kind) -> u32
     ensures { result ≡ digits_b k }
 {
-    if k == 2 { 2 } else { 1 }
+    if let Kind::Write = k { 2 } else { 1 }
 }
 
-fn limit_b(k: u8) -> u64
-    ensures { (result ≡ limit_b k) × (result < 257) }
+fn limit_b(k: Kind) -> u32
+    ensures { (result ≡ limit_b k) × (result ≤ 256) }
 {
-    if k == 2 { 256 } else { 2 }
+    if let Kind::Write = k { 256 } else { 2 }
 }
 
-fn bound_b(k: u8) -> u32
+fn bound_b(k: Kind) -> u32
     ensures { result ≡ bound_b k }
 {
-    match k {
-        1 => 1,
-        4 => 1,
-        2 => 256,
-        _ => 2,
-    }
+    if takes_b(k) { limit_b(k) } else { 1 }
 }
 
-// The word has a line of its kind: kinds 1 to 5, zero between the kind and A, and a B that the kind takes.
-pub fn is_line(word: u32) -> bool
-    ensures { result ≡ is_line word }
+// The kind of which the word has a line: kinds 1 to 5, zero between the kind and A, and a B that the kind takes.
+#[tactic(auto, unfolding(crate::specs::Event::line_kind))]
+pub fn line_kind(word: u32) -> Option<Kind>
+    ensures { result ≡ line_kind word }
 {
-    let kind = word / 16777216;
-    let middle = word / 65536 % 256;
-    let b = word % 256;
-    ((0 < kind) & (kind < 6)) & ((middle == 0) & (b < bound_b(kind as u8)))
+    let kind = Kind::with_number((word / 16777216) as u8)?;
+    let formed = word / 65536 % 256 == 0 && word % 256 < bound_b(kind);
+    if formed { Some(kind) } else { None }
 }
 
 // The word with these fields.
-fn event_word(kind: u8, a: u8, b: u8) -> u32
-    ensures { result ≡ event_word kind a b }
+fn event_word(kind: Kind, a: u8, b: u8) -> u32
+    ensures { result ≡ event_word (number_of kind) a b }
 {
-    (kind as u32) * 16777216 + (a as u32) * 256 + (b as u32)
+    u32::from_be_bytes([kind.number(), 0, a, b])
 }
 
+// ---- a token at each point of a line, at its place
+
+#[tactic(auto, unfolding(crate::specs::Event::bare, crate::specs::Event::word_or))]
 fn bare(at: u64, v: u64) -> Event
     ensures { result ≡ bare_of at v }
 {
-    let n = event_names::unhex(8, v);
-    if n < 4294967296 {
-        return Event::Word(n as u32);
+    match event_names::unhex(8, v) {
+        Some(word) => Event::Word(word),
+        None => Event::Bad(at),
     }
-    Event::Bad(at)
 }
 
+#[tactic(auto, unfolding(crate::specs::Event::at_start, crate::specs::Event::on_keyword))]
 fn at_start(at: u64, v: u64) -> Event
     ensures { result ≡ at_start at v }
 {
-    let kind = event_names::kind_of(v);
-    if kind == 0 {
-        return bare(at, v);
+    match event_names::kind_of(v) {
+        Some(Keyword::Event(kind)) => Event::Kind(kind),
+        Some(Keyword::Word) => Event::Other,
+        None => bare(at, v),
     }
-    if kind == 6 {
-        return Event::Other;
-    }
-    Event::Kind(kind)
 }
 
-fn at_kind(at: u64, k: u8, v: u64) -> Event
+#[tactic(auto, unfolding(crate::specs::Event::at_kind, crate::specs::Event::on_field))]
+fn at_kind(at: u64, k: Kind, v: u64) -> Event
     ensures { result ≡ at_kind at k v }
 {
-    let a = event_names::field_of(k, v);
-    if a < 256 {
-        if takes_b(k) {
-            return Event::Place(k, a as u8);
-        }
-        return Event::Word(event_word(k, a as u8, 0));
+    match event_names::field_of(k, v) {
+        Some(a) if takes_b(k) => Event::Place(k, a),
+        Some(a) => Event::Word(event_word(k, a, 0)),
+        None => Event::Bad(at),
     }
-    Event::Bad(at)
 }
 
-fn at_place(at: u64, k: u8, a: u8, v: u64) -> Event
+#[tactic(auto, unfolding(crate::specs::Event::at_place))]
+fn at_place(at: u64, k: Kind, a: u8, v: u64) -> Event
     ensures { result ≡ at_place at k a v }
 {
-    let b = event_names::unhex(digits_b(k), v);
-    let limit = limit_b(k);
-    if b < limit {
-        return Event::Word(event_word(k, a, b as u8));
+    match event_names::unhex(digits_b(k), v) {
+        Some(b) if b < limit_b(k) => Event::Word(event_word(k, a, b as u8)),
+        Some(_) => Event::Bad(at),
+        None => Event::Bad(at),
     }
-    Event::Bad(at)
 }
 
+#[tactic(auto, unfolding(crate::specs::Event::at_other, crate::specs::Event::other_or))]
 fn at_other(at: u64, v: u64) -> Event
     ensures { result ≡ at_other at v }
 {
-    let n = event_names::unhex(8, v);
-    if n < 4294967296 {
-        if is_line(n as u32) {
-            return Event::Bad(at);
-        }
-        return Event::Word(n as u32);
+    match event_names::unhex(8, v) {
+        Some(word) => match line_kind(word) {
+            Some(_) => Event::Bad(at),
+            None => Event::Word(word),
+        },
+        None => Event::Bad(at),
     }
-    Event::Bad(at)
 }
 
+#[tactic(auto, unfolding(crate::specs::Event::next))]
 fn next(at: u64, e: Event, v: u64) -> Event
     ensures { result ≡ next_of at e v }
 {
@@ -155,42 +143,41 @@ pub fn take(e: Event, t: Token) -> Event
     next(t.at, e, t.value)
 }
 
-fn line_end(e: Event, end: u64) -> Line
+// The word at the end of a line, or the place of its first bad token; the line's end where a token is missing.
+#[tactic(auto, unfolding(crate::specs::Event::line_end))]
+pub fn line_end(e: Event, end: u64) -> Result<u32, BadToken>
     ensures { result ≡ line_end e end }
 {
     match e {
-        Event::Start => Line::Refused(end),
-        Event::Kind(_) => Line::Refused(end),
-        Event::Place(_, _) => Line::Refused(end),
-        Event::Other => Line::Refused(end),
-        Event::Word(w) => Line::Whole(w),
-        Event::Bad(place) => Line::Refused(place),
+        Event::Word(word) => Ok(word),
+        Event::Bad(place) => Err(BadToken { at: place }),
+        Event::Start => Err(BadToken { at: end }),
+        Event::Kind(_) => Err(BadToken { at: end }),
+        Event::Place(_, _) => Err(BadToken { at: end }),
+        Event::Other => Err(BadToken { at: end }),
     }
 }
 
 // The token that a byte ended, if any.
-fn taken(e: Event, t: Token) -> Event
-    ensures { result ≡ taken_of e t }
+#[tactic(auto, unfolding(crate::specs::Event::taken))]
+fn taken(e: Event, token: Option<Token>) -> Event
+    ensures { result ≡ taken_of e token }
 {
-    if t.value == 0 {
-        return e;
+    match token {
+        Some(t) => take(e, t),
+        None => e,
     }
-    take(e, t)
 }
 
 // The word of a line without its newline, or the place of its first bad token.
-pub fn parse_line(line: &[u8]) -> Line
+pub fn parse_line(line: &[u8]) -> Result<u32, BadToken>
     ensures { result ≡ parse line.now }
 {
     let mut s = line_tokens::start();
     let mut e = Event::Start;
-    let mut i = 0;
-    while i < line.len() {
-        s = line_tokens::scan(s, line[i]);
-        let done = s.done;
-        e = taken(e, done);
-        i += 1;
+    for b in line {
+        s = line_tokens::scan(s, *b);
+        e = taken(e, s.done);
     }
-    let last = s.pending;
-    line_end(taken(e, last), line.len() as u64)
+    line_end(taken(e, s.pending), line.len() as u64)
 }

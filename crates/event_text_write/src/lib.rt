@@ -5,39 +5,45 @@ ghost use Rattle.std.specs.Prelude.{◌≡◌, length};
 ghost use Rattle.line_text.specs.Line.{size, content};
 ghost use Rattle.event_text_write.specs.Event.{value_token, kind_tokens, event_tokens, print};
 
-fn value_token(k: u8, b: u8) -> u64
+use event_names::{Keyword, Kind};
+
+#[tactic(auto, unfolding(crate::specs::Event::value_token))]
+fn value_token(k: Kind, b: u8) -> u64
     ensures { result ≡ value_token k b }
 {
     match k {
-        1 => 0,
-        4 => 0,
-        2 => event_names::byte_token(b),
-        _ => event_names::digit_token(b),
+        Kind::Read => 0,
+        Kind::Clock => 0,
+        Kind::Write => event_names::byte_token(b),
+        Kind::Pin => event_names::digit_token(b),
+        Kind::Polarity => event_names::digit_token(b),
     }
 }
 
-fn kind_tokens(k: u8, a: u8, b: u8) -> [u64; 3]
+#[tactic(auto, unfolding(crate::specs::Event::kind_tokens))]
+fn kind_tokens(k: Kind, a: u8, b: u8) -> [u64; 3]
     ensures { result ≡ kind_tokens k a b }
 {
     [
-        event_names::kind_shown(k),
+        event_names::kind_shown(Keyword::Event(k)),
         event_names::shown_of(k, a),
         value_token(k, b),
     ]
 }
 
 // The three tokens of a word's line, 0 for none.
+#[tactic(auto, unfolding(crate::specs::Event::event_tokens, crate::specs::Event::tokens_by))]
 pub fn event_tokens(word: u32) -> [u64; 3]
-    ensures { (result ≡ event_tokens word) × (3 ≡ length result) }
+    ensures { result ≡ event_tokens word }
 {
-    if event_text_read::is_line(word) {
-        return kind_tokens(
-            (word / 16777216) as u8,
-            (word / 256 % 256) as u8,
-            (word % 256) as u8,
-        );
+    match event_text_read::line_kind(word) {
+        Some(kind) => kind_tokens(kind, (word / 256 % 256) as u8, (word % 256) as u8),
+        None => [
+            event_names::kind_shown(Keyword::Word),
+            event_names::word_token(word),
+            0,
+        ],
     }
-    [event_names::kind_shown(6), event_names::word_token(word), 0]
 }
 
 // The line of a word at the front of a buffer, and its length; 0 and nothing written where the buffer is too short.

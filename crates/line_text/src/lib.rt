@@ -39,19 +39,10 @@ fn put_pieces(buf: &mut [u8], tokens: &[u64]) -> usize
     ensures { Put buf.old 0 (pieces tokens.now) result buf.new }
 {
     let mut at = 0;
-    let mut i = 0;
-    while i < tokens.len() {
-        at = put_piece(buf, at, tokens[i]);
-        i += 1;
+    for v in tokens {
+        at = put_piece(buf, at, *v);
     }
     at
-}
-
-// Zeros for sixteen tokens. The `ensures` gives the length, which lending the array as a slice needs.
-fn buffer() -> [u8; 144]
-    ensures { 144 ≡ length result }
-{
-    [0; 144]
 }
 
 // The line of tokens, 0 for none, at the front of a buffer, and its length; 0 and nothing written where the buffer is too short, or where
@@ -62,7 +53,7 @@ pub fn write_line(tokens: &[u64], out: &mut [u8]) -> usize
     if 16 < tokens.len() {
         return 0;
     }
-    let mut text = buffer();
+    let mut text = [0u8; 144];
     let end = put_pieces(&mut text, tokens);
     if end == 0 {
         return 0;

@@ -1,8 +1,9 @@
 -- The tokens of a line of text, byte by byte: what stands between white space, up to a comment. A token is one number, its bytes in base
--- 256, the first one highest, letters in upper case; 0 is no token.
-use Rattle.std.specs.Prelude.{ℕ, ◌+◌, ◌-◌, ◌*◌, Bool, true, false, List, [], ◌∷◌, eqb, ltb}
+-- 256, the first one highest, letters in upper case.
+use Rattle.std.specs.Prelude.{Option, Some, None, ℕ, ◌+◌, ◌-◌, ◌*◌, Bool, true, false, List, [], ◌∷◌, eqb, ltb}
 use Rattle.bits.specs.Byte.{pick}
 use Rattle.line_tokens.specs.declared.Token.{Token}
+use Rattle.line_tokens.specs.declared.BadToken.{BadToken}
 use Rattle.line_tokens.specs.declared.Scanner.{Scanner}
 
 -- one more; the largest number of 64 bits stands
@@ -23,41 +24,52 @@ fold b = pick (ltb b 33) 255 (pick (ltb b 97) b (pick (ltb b 123) (b - 32) b))
 unfoldable pub grown : ℕ → ℕ → ℕ
 grown v b = pick (ltb v 72057594037927936) (v * 256 + fold b) 18446744073709551615
 
--- a decimal number with one digit more; 2^64 - 1 for what is no number below it
-unfoldable pub counted : ℕ → ℕ → ℕ
-counted n b =
-    pick (ltb b 48) 18446744073709551615
-    (pick (ltb b 58) (pick (ltb n 1844674407370955161) (n * 10 + (b - 48)) 18446744073709551615) 18446744073709551615)
+-- a decimal number with one digit more; none for what is no number below 2^64 - 1
+unfoldable pub counted : Option ℕ → ℕ → Option ℕ
+counted None b = None
+counted (Some n) b =
+    pick (ltb b 48) None
+    (pick (ltb b 58) (pick (ltb n 1844674407370955161) (Some (n * 10 + (b - 48))) None) None)
 
 -- ---- a token in reading
 
-abbrev pub no_token : Token
-no_token = record { value = 0; count = 0; at = 0 }
+-- a token with one byte more; where there is none, it begins here
+unfoldable pub longer : Option Token → ℕ → ℕ → Token
+longer None at b = record { value = grown 0 b; count = counted (Some 0) b; at = at }
+longer (Some t) at b = record { value = grown t.value b; count = counted t.count b; at = t.at }
 
--- a token with one byte more; where it has none, it begins here
-unfoldable pub longer : Token → ℕ → ℕ → Token
-longer t at b = record { value = grown t.value b; count = counted t.count b; at = pick (eqb t.value 0) at t.at }
+-- a bad or missing token at a place
+abbrev pub bad_at : ℕ → BadToken
+bad_at at = record { at = at }
 
 -- ---- a line in reading
 
 unfoldable pub start : Scanner
-start = record { pending = no_token; done = no_token; at = 0; remark = false }
+start = record { pending = None; done = None; at = 0; remark = false }
+
+-- one byte on
+unfoldable pub moved : Scanner → Option Token → Option Token → Bool → Scanner
+moved s pending done remark = record { pending = pending; done = done; at = one_more s.at; remark = remark }
 
 -- a byte of a comment
 unfoldable pub passed : Scanner → Scanner
-passed s = record { pending = no_token; done = no_token; at = one_more s.at; remark = true }
+passed s = moved s None None true
 
 -- a byte that ends a token, or `#`, with which a comment begins
 unfoldable pub ended : Scanner → Bool → Scanner
-ended s remark = record { pending = no_token; done = s.pending; at = one_more s.at; remark = remark }
+ended s remark = moved s None s.pending remark
 
 -- a byte that begins a token, whatever stands before it
 unfoldable pub begun : Scanner → ℕ → Scanner
-begun s b = record { pending = longer no_token s.at b; done = s.pending; at = one_more s.at; remark = false }
+begun s b = moved s (Some (longer None s.at b)) s.pending false
 
 -- a byte that goes on with a token
 unfoldable pub within : Scanner → ℕ → Scanner
-within s b = record { pending = longer s.pending s.at b; done = no_token; at = one_more s.at; remark = false }
+within s b = moved s (Some (longer s.pending s.at b)) None false
+
+unfoldable pub is_star : Option Token → Bool
+is_star None = false
+is_star (Some t) = eqb t.value 42
 
 -- `*` is a token by itself, with or without white space around it
 unfoldable pub scanned : Scanner → ℕ → Scanner
@@ -65,7 +77,7 @@ scanned s b =
     pick (blank b) (ended s false)
     (pick (eqb b 35) (ended s true)
     (pick (eqb b 42) (begun s b)
-    (pick (eqb s.pending.value 42) (begun s b)
+    (pick (is_star s.pending) (begun s b)
     (within s b))))
 
 -- a byte more of a line
@@ -75,8 +87,9 @@ scan s b = pick s.remark (passed s) (scanned s b)
 -- ---- the tokens of a line
 
 -- a token before others, if there is one
-unfoldable pub before : Token → List Token → List Token
-before t rest = pick (eqb t.value 0) rest (t ∷ rest)
+unfoldable pub before : Option Token → List Token → List Token
+before None rest = rest
+before (Some t) rest = t ∷ rest
 
 -- what follows in a line that is read so far
 unfoldable pub tokens_from : Scanner → List ℕ → List Token

@@ -2,202 +2,155 @@
 // its bytes in base 256, the first one highest, letters in upper case.
 #![tactic(auto)]
 
-ghost use Rattle.std.specs.Prelude.{◌≡◌, ◌<◌};
-ghost use Rattle.line_tokens.specs.Scan.{one_more, blank as is_blank, fold as fold_of, grown as grown_by, counted as counted_by, no_token, longer as longer_by, start as start_of, passed as passed_of, ended as ended_of, begun as begun_of, within as within_of, scanned as scanned_of, scan as scan_of};
+ghost use Rattle.std.specs.Prelude.{◌≡◌};
+ghost use Rattle.line_tokens.specs.Scan.{one_more, blank as is_blank, fold as fold_of, grown as grown_by, counted as counted_by, longer as longer_by, start as start_of, is_star, moved as moved_of, scan as scan_of};
 
-// A token: its number, 0 where there is none; what it is as a decimal number, 2^64 - 1 where it is none; and the place where it begins.
+// A token: its number; what it is as a decimal number, if it is one; and the place where it begins.
 #[derive(Clone, Copy)]
 pub struct Token {
     pub value: u64,
-    pub count: u64,
+    pub count: Option<u64>,
+    pub at: u64,
+}
+
+// Where in a line a token is bad or missing.
+#[derive(Clone, Copy)]
+pub struct BadToken {
     pub at: u64,
 }
 
 // A line in reading: the token that goes on, the one that the last byte ended, the bytes so far, and whether a comment has begun.
 #[derive(Clone, Copy)]
 pub struct Scanner {
-    pub pending: Token,
-    pub done: Token,
+    pub pending: Option<Token>,
+    pub done: Option<Token>,
     pub at: u64,
     pub remark: bool,
 }
 
+// A number from here on has eight bytes.
+const EIGHT_BYTES: u64 = 1 << 56;
+
+// A token by itself: it stands between a count and an event.
+const STAR: u8 = b'*';
+
 // One more; the largest number stands.
+#[tactic(auto, unfolding(crate::specs::Scan::one_more))]
 pub fn one_more(n: u64) -> u64
     ensures { result ≡ one_more n }
 {
-    if n < 18446744073709551615 {
-        return n + 1;
-    }
-    n
+    n.saturating_add(1)
 }
 
+#[tactic(auto, unfolding(crate::specs::Scan::blank))]
 fn blank(b: u8) -> bool
     ensures { result ≡ is_blank b }
 {
-    if b == 32 {
-        return true;
-    }
-    if b == 9 {
-        return true;
-    }
-    b == 13
+    matches!(b, b' ' | b'\t' | b'\r')
 }
 
+// A byte without its letter case; 255 for a control byte, which no name has.
+#[tactic(auto, unfolding(crate::specs::Scan::fold))]
 fn fold(b: u8) -> u8
     ensures { result ≡ fold_of b }
 {
-    if b < 33 {
-        return 255;
-    }
-    if b < 97 {
-        return b;
-    }
-    if b < 123 {
-        return b - 32;
-    }
-    b
+    if b < 33 { 255 } else { b.to_ascii_uppercase() }
 }
 
-fn wide(b: u8) -> u64
-    ensures { (result ≡ b) × (result < 256) }
-{
-    b as u64
-}
-
+// A token of nine bytes or more is the largest number.
+#[tactic(auto, unfolding(crate::specs::Scan::grown))]
 fn grown(v: u64, b: u8) -> u64
     ensures { result ≡ grown_by v b }
 {
-    if v < 72057594037927936 {
-        return v * 256 + wide(fold(b));
+    if v < EIGHT_BYTES {
+        v * 256 + u64::from(fold(b))
+    } else {
+        u64::MAX
     }
-    18446744073709551615
 }
 
-fn counted(n: u64, b: u8) -> u64
+#[tactic(auto, unfolding(crate::specs::Scan::counted))]
+fn counted(n: Option<u64>, b: u8) -> Option<u64>
     ensures { result ≡ counted_by n b }
 {
-    if b < 48 {
-        return 18446744073709551615;
-    }
-    if b < 58 {
-        if n < 1844674407370955161 {
-            return n * 10 + wide(b - 48);
-        }
-        return 18446744073709551615;
-    }
-    18446744073709551615
-}
-
-fn no_token() -> Token
-    ensures { result ≡ no_token }
-{
-    Token {
-        value: 0,
-        count: 0,
-        at: 0,
+    let n = n?;
+    match b {
+        b'0'..=b'9' if n < u64::MAX / 10 => Some(n * 10 + u64::from(b - b'0')),
+        _ => None,
     }
 }
 
-fn longer(t: Token, at: u64, b: u8) -> Token
-    ensures { result ≡ longer_by t at b }
+// A token with one byte more; where there is none, one that begins here.
+#[tactic(auto, unfolding(crate::specs::Scan::longer))]
+fn longer(token: Option<Token>, at: u64, b: u8) -> Token
+    ensures { result ≡ longer_by token at b }
 {
-    let value = grown(t.value, b);
-    let count = counted(t.count, b);
-    if t.value == 0 {
-        return Token { value, count, at };
-    }
-    Token {
-        value,
-        count,
-        at: t.at,
+    match token {
+        Some(t) => Token {
+            value: grown(t.value, b),
+            count: counted(t.count, b),
+            at: t.at,
+        },
+        None => Token {
+            value: grown(0, b),
+            count: counted(Some(0), b),
+            at,
+        },
     }
 }
 
 // Before the first byte of a line.
+#[tactic(auto, unfolding(crate::specs::Scan::start))]
 pub fn start() -> Scanner
     ensures { result ≡ start_of }
 {
     Scanner {
-        pending: no_token(),
-        done: no_token(),
+        pending: None,
+        done: None,
         at: 0,
         remark: false,
     }
 }
 
-fn passed(s: Scanner) -> Scanner
-    ensures { result ≡ passed_of s }
+// One byte on.
+#[tactic(auto, unfolding(crate::specs::Scan::moved))]
+fn moved(s: Scanner, pending: Option<Token>, done: Option<Token>, remark: bool) -> Scanner
+    ensures { result ≡ moved_of s pending done remark }
 {
     Scanner {
-        pending: no_token(),
-        done: no_token(),
-        at: one_more(s.at),
-        remark: true,
-    }
-}
-
-fn ended(s: Scanner, remark: bool) -> Scanner
-    ensures { result ≡ ended_of s remark }
-{
-    let done = s.pending;
-    Scanner {
-        pending: no_token(),
+        pending,
         done,
         at: one_more(s.at),
         remark,
     }
 }
 
-fn begun(s: Scanner, b: u8) -> Scanner
-    ensures { result ≡ begun_of s b }
+#[tactic(auto, unfolding(crate::specs::Scan::is_star))]
+fn is_star(token: Option<Token>) -> bool
+    ensures { result ≡ is_star token }
 {
-    let done = s.pending;
-    Scanner {
-        pending: longer(no_token(), s.at, b),
-        done,
-        at: one_more(s.at),
-        remark: false,
+    match token {
+        Some(t) => t.value == u64::from(STAR),
+        None => false,
     }
-}
-
-fn within(s: Scanner, b: u8) -> Scanner
-    ensures { result ≡ within_of s b }
-{
-    let pending = s.pending;
-    Scanner {
-        pending: longer(pending, s.at, b),
-        done: no_token(),
-        at: one_more(s.at),
-        remark: false,
-    }
-}
-
-fn scanned(s: Scanner, b: u8) -> Scanner
-    ensures { result ≡ scanned_of s b }
-{
-    if blank(b) {
-        return ended(s, false);
-    }
-    if b == 35 {
-        return ended(s, true);
-    }
-    if b == 42 {
-        return begun(s, b);
-    }
-    let pending = s.pending;
-    if pending.value == 42 {
-        return begun(s, b);
-    }
-    within(s, b)
 }
 
 // A byte more of a line. The token that it ends, if any, is `done`.
+#[tactic(auto, unfolding(crate::specs::Scan::scan, crate::specs::Scan::scanned, crate::specs::Scan::passed, crate::specs::Scan::ended, crate::specs::Scan::begun, crate::specs::Scan::within))]
 pub fn scan(s: Scanner, b: u8) -> Scanner
     ensures { result ≡ scan_of s b }
 {
     if s.remark {
-        return passed(s);
+        return moved(s, None, None, true);
     }
-    scanned(s, b)
+    if blank(b) {
+        return moved(s, None, s.pending, false);
+    }
+    if b == b'#' {
+        return moved(s, None, s.pending, true);
+    }
+    if b == STAR || is_star(s.pending) {
+        return moved(s, Some(longer(None, s.at, b)), s.pending, false);
+    }
+    moved(s, Some(longer(s.pending, s.at, b)), None, false)
 }

@@ -2,46 +2,11 @@
 // and its answer, so that what is written is a case. Bytes left over, a read or a write that fails are told on standard error.
 #![tactic(auto)]
 
-ghost use Rattle.std.specs.Prelude.{◌≡◌, ◌+◌, ◌*◌, ◌/◌, ◌≤◌, length};
+ghost use Rattle.std.specs.Prelude.{◌+◌, ◌*◌, ◌≤◌, length};
 
 use chip::Chip;
 use std::io::{Print, Read};
 use std::process::ExitCode;
-
-fn wide(b: u8) -> u32
-    ensures { (result ≡ b) × (result ≤ 255) }
-{
-    b as u32
-}
-
-// The word at a place.
-fn word_at(bytes: &[u8], at: usize) -> u32
-    requires { at + 4 ≤ length bytes.now }
-{
-    let a = wide(bytes[at]);
-    let b = wide(bytes[at + 1]);
-    let c = wide(bytes[at + 2]);
-    let d = wide(bytes[at + 3]);
-    a + b * 256 + c * 65536 + d * 16777216
-}
-
-// How many words so many bytes hold, 1,024 at most.
-fn words_in(bytes: usize) -> usize
-    ensures { (result ≤ 1024) × (4 * result ≤ bytes) }
-{
-    if bytes < 4096 { bytes / 4 } else { 1024 }
-}
-
-// As many words as `count` says, to the start of the places.
-fn read_words(bytes: &[u8], count: usize, words: &mut [u32])
-    requires { (4 * count ≤ length bytes.now) × (count ≤ length words.old) }
-{
-    let mut i = 0;
-    while i < count {
-        words[i] = word_at(bytes, 4 * i);
-        i += 1;
-    }
-}
 
 // The line of a word and its answer at a place of the text, and where it ends.
 fn put_line(word: u32, answer: u32, text: &mut [u8], at: usize) -> usize
@@ -54,32 +19,16 @@ fn put_line(word: u32, answer: u32, text: &mut [u8], at: usize) -> usize
     end + 1
 }
 
-// The lines of so many words and their answers at the start of the text, and where they end.
-fn put_lines(words: &[u32], answers: &[u32], count: usize, text: &mut [u8]) -> usize
-    requires { (count ≤ length words.now) × ((count ≤ length answers.now) × (145 * count ≤ length text.old)) }
-    ensures { result ≤ 145 * count }
+// The lines of words and their answers at the start of the text, and where they end.
+fn put_lines(words: &[u32], answers: &[u32], text: &mut [u8]) -> usize
+    requires { (length words.now ≤ length answers.now) × (145 * length words.now ≤ length text.old) }
+    ensures { result ≤ 145 * length words.now }
 {
     let mut at = 0;
-    let mut i = 0;
-    while i < count {
-        at = put_line(words[i], answers[i], text, at);
-        i += 1;
+    for (i, word) in words.iter().enumerate() {
+        at = put_line(*word, answers[i], text, at);
     }
     at
-}
-
-// Places for the words of a block, or for their answers. The `ensures` gives the length, which lending the array as a slice needs.
-fn places() -> [u32; 1024]
-    ensures { 1024 ≡ length result }
-{
-    [0; 1024]
-}
-
-// Zeros for the text of a block: 145 bytes for each word.
-fn text_buffer() -> [u8; 148480]
-    ensures { 148480 ≡ length result }
-{
-    [0; 148480]
 }
 
 // Text to standard output. Here and below an `Err` has the status with which the program ends.
@@ -90,18 +39,17 @@ fn write<P: Print, Q: Print>(out: &P, err: &Q, text: &[u8]) -> Result<(), ExitCo
     }
 }
 
-// The lines of so many words and their answers to standard output.
+// The lines of words and their answers to standard output. The text of 1,024 words has 145 bytes for each.
 fn print_lines<P: Print, Q: Print>(
     out: &P,
     err: &Q,
     words: &[u32],
     answers: &[u32],
-    count: usize,
-    text: &mut [u8],
+    text: &mut [u8; 148480],
 ) -> Result<(), ExitCode>
-    requires { (count ≤ length words.now) × ((count ≤ length answers.now) × (145 * count ≤ length text.old)) }
+    requires { (length words.now ≤ 1024) × (length words.now ≤ length answers.now) }
 {
-    let end = put_lines(words, answers, count, text);
+    let end = put_lines(words, answers, text);
     write(out, err, &text[..end])
 }
 
@@ -111,16 +59,13 @@ fn list_block<P: Print, Q: Print>(
     err: &Q,
     c: Chip,
     bytes: &[u8],
-    words: &mut [u32],
-    answers: &mut [u32],
-    text: &mut [u8],
-) -> Result<Chip, ExitCode>
-    requires { (1024 ≤ length words.old) × ((1024 ≤ length answers.old) × (148480 ≤ length text.old)) }
-{
-    let count = words_in(bytes.len());
-    read_words(bytes, count, words);
-    let done = list_call::advance_all(c, &words[..count], answers);
-    print_lines(out, err, words, answers, count, text)?;
+    text: &mut [u8; 148480],
+) -> Result<Chip, ExitCode> {
+    let mut words = [0u32; 1024];
+    let mut answers = [0u32; 1024];
+    let count = recording_writer::words_of(bytes, &mut words);
+    let done = list_call::advance_all(c, &words[..count], &mut answers);
+    print_lines(out, err, &words[..count], &answers, text)?;
     Ok(done.chip)
 }
 
@@ -138,15 +83,11 @@ fn take_turn<R: Read, P: Print, Q: Print>(
     out: &P,
     err: &Q,
     c: Chip,
-    words: &mut [u32],
-    answers: &mut [u32],
-    text: &mut [u8],
-) -> Result<Chip, ExitCode>
-    requires { (1024 ≤ length words.old) × ((1024 ≤ length answers.old) × (148480 ≤ length text.old)) }
-{
+    text: &mut [u8; 148480],
+) -> Result<Chip, ExitCode> {
     let mut block = [0u8; 4096];
     let read = input::read_block(from, &mut block);
-    let next = list_block(out, err, c, &block[..read.count], words, answers, text)?;
+    let next = list_block(out, err, c, &block[..read.count], text)?;
     if let Some(e) = read.error {
         return Err(input::fail(err, b"list_words: standard input", &e));
     }
@@ -160,20 +101,10 @@ fn take_turn<R: Read, P: Print, Q: Print>(
 fn main(rt: HostRuntime) -> ExitCode {
     let mut from = rt.stdin();
     let (out, err) = (rt.stdout(), rt.stderr());
-    let mut words = places();
-    let mut answers = places();
-    let mut text = text_buffer();
+    let mut text = [0u8; 148480];
     let mut c = chip::fresh();
     for _ in 0..u64::MAX {
-        match take_turn(
-            &mut from,
-            &out,
-            &err,
-            c,
-            &mut words,
-            &mut answers,
-            &mut text,
-        ) {
+        match take_turn(&mut from, &out, &err, c, &mut text) {
             Ok(next) => c = next,
             Err(status) => return status,
         }

@@ -3,26 +3,11 @@
 // ends the program.
 #![tactic(auto)]
 
-ghost use Rattle.std.specs.Prelude.{◌≡◌, length};
-
 use chip::Chip;
 use std::io::{Print, Read};
 use std::process::ExitCode;
 use wave_run::Run;
 use wave_write::Writer;
-
-// Places for a block of words, and for what they add to the dump: 151 bytes a word at most.
-fn places() -> [u32; 1024]
-    ensures { 1024 ≡ length result }
-{
-    [0; 1024]
-}
-
-fn text_buffer() -> [u8; 154624]
-    ensures { 154624 ≡ length result }
-{
-    [0; 154624]
-}
 
 // Text to standard output. Here and below an `Err` has the status with which the program ends.
 fn write<P: Print, Q: Print>(out: &P, err: &Q, text: &[u8]) -> Result<(), ExitCode> {
@@ -83,7 +68,7 @@ fn take_bytes<P: Print, Q: Print>(
     bytes: &[u8],
     text: &mut [u8],
 ) -> Result<Run, ExitCode> {
-    let mut words = places();
+    let mut words = [0u32; 1024];
     let count = recording_writer::words_of(bytes, &mut words);
     let next = write_block(out, err, run, &words[..count], text)?;
     if bytes.len() == 4096 {
@@ -118,7 +103,8 @@ fn take_turn<R: Read, P: Print, Q: Print>(
 fn main(rt: HostRuntime) -> ExitCode {
     let mut from = rt.stdin();
     let (out, err) = (rt.stdout(), rt.stderr());
-    let mut text = text_buffer();
+    // What a block of 1,024 words adds to the dump: 151 bytes a word at most.
+    let mut text = [0u8; 154624];
     let mut run = wave_run::start(chip::fresh());
     let mut is_first = true;
     for _ in 0..u64::MAX {

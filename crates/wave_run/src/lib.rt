@@ -59,15 +59,13 @@ fn write_all(run: Run, words: &[u32], out: &mut [u8]) -> BlockWritten
     let mut core = c.core;
     let mut writer = run.writer;
     let mut at = 0;
-    let mut i = 0;
-    while i < words.len() {
-        let done = step::advance_word(&mut registers, core, words[i]);
+    for word in words {
+        let done = step::advance_word(&mut registers, core, *word);
         core = done.core;
         let watch = wave_watch::watch_core(&registers, core);
-        let put = wave_write::write_event(out, at, writer, words[i], watch);
+        let put = wave_write::write_event(out, at, writer, *word, watch);
         writer = put.writer;
         at = put.next;
-        i += 1;
     }
     BlockWritten {
         run: Run {

@@ -12,7 +12,7 @@ ghost use Rattle.wave_write.specs.Wrote.{Wrote, fits as fits_in, event_bytes, mo
 
 // What is watched of a chip. Lines, a bit each from the lowest: RESET, P16, the SCL line, the SDA line, the requests V, E, R, A, D, S. Vectors, twelve
 // bits each from the lowest: IRQX, II STS, II DAT, HCNT, VCNT, the phase of the bus.
-#[derive(Clone, Copy)]
+#[derive(Clone, Copy, PartialEq, Eq)]
 pub struct Watch {
     pub levels: u16,
     pub vectors: u64,
@@ -38,6 +38,11 @@ const EVENT_ROOM: usize = 151;
 const BEGIN_ROOM: usize = 753;
 
 const END_ROOM: usize = 22;
+
+// Kind 3 with the pins 24 and 27, without a level.
+const FIRST_PIN: u32 = 0x030018;
+
+const LAST_PIN: u32 = 0x03001B;
 
 const CLOCK_LIMIT: u64 = 2305843009212;
 
@@ -79,16 +84,12 @@ fn bits(out: &mut [u8], from: usize, n: usize, v: u16) -> usize
     requires { from + n ≤ length out.old }
     ensures { Wrote out.old from (binary n v) out.new result }
 {
-    let mut i = from;
-    let mut left = n;
     let mut x = v;
-    while 0 < left {
+    for i in from..from + n {
         out[i] = high_bit(x);
         x = x % 2048 * 2;
-        i += 1;
-        left -= 1;
     }
-    i
+    from + n
 }
 
 // ---- lines
@@ -107,7 +108,7 @@ fn time_line(out: &mut [u8], from: usize, t: u64) -> usize
 fn level_digit(high: bool) -> u8
     ensures { result ≡ 48 + num high }
 {
-    if high { 49 } else { 48 }
+    b'0' + u8::from(high)
 }
 
 fn three_bytes(out: &mut [u8], from: usize, a: u8, b: u8, c: u8) -> usize
@@ -153,16 +154,11 @@ fn first_lines(out: &mut [u8], from: usize, pins: u8) -> usize
 }
 
 // Whether a word gives one of the four pins a level.
+#[tactic(auto, unfolding(crate::specs::Lines::is_pin))]
 fn is_pin(word: u32) -> bool
     ensures { result ≡ is_pin word }
 {
-    if word / 256 < 196632 {
-        return false;
-    }
-    if word / 256 < 196636 {
-        return word % 256 < 2;
-    }
-    false
+    matches!(word / 256, FIRST_PIN..=LAST_PIN) && word % 256 < 2
 }
 
 // The code of a pin: a for 24, and so on.
@@ -205,40 +201,36 @@ fn level_lines(out: &mut [u8], from: usize, old: u16, new: u16) -> usize
     let mut i = from;
     let mut o = old;
     let mut n = new;
-    let mut k: u8 = 0;
-    while k < 10 {
+    for k in 0..10u8 {
         i = level_line(out, i, o, n, k);
-        o = o / 2;
-        n = n / 2;
-        k += 1;
+        o /= 2;
+        n /= 2;
     }
     i
 }
 
 // How many bits the k-th vector has.
+#[tactic(auto, unfolding(crate::specs::Watch::width_of))]
 fn width_of(k: u8) -> usize
     ensures { (result ≡ width_of k) × (result ≤ 12) }
 {
-    if k < 3 {
-        return 8;
+    match k {
+        0..=2 => 8,
+        3 | 4 => 12,
+        _ => 3,
     }
-    if k < 5 {
-        return 12;
-    }
-    3
 }
 
 // Its bits as the highest of twelve.
+#[tactic(auto, unfolding(crate::specs::Watch::aligned))]
 fn aligned(k: u8, v: u16) -> u16
     ensures { result ≡ aligned_to k v }
 {
-    if k < 3 {
-        return v % 256 * 16;
+    match k {
+        0..=2 => v % 256 * 16,
+        3 | 4 => v % 4096,
+        _ => v % 8 * 512,
     }
-    if k < 5 {
-        return v % 4096;
-    }
-    v % 8 * 512
 }
 
 // The line of a vector.
@@ -277,31 +269,28 @@ fn vector_lines(out: &mut [u8], from: usize, old: u64, new: u64) -> usize
     let mut i = from;
     let mut o = old;
     let mut n = new;
-    let mut k: u8 = 0;
-    while k < 6 {
+    for k in 0..6u8 {
         i = vector_line(out, i, o, n, k);
-        o = o / 4096;
-        n = n / 4096;
-        k += 1;
+        o /= 4096;
+        n /= 4096;
     }
     i
 }
 
+#[tactic(auto, unfolding(crate::specs::Lines::same_watch))]
 fn same_watch(old: Watch, new: Watch) -> bool
     ensures { result ≡ same_watch old new }
 {
-    if old.levels == new.levels {
-        return old.vectors == new.vectors;
-    }
-    false
+    old == new
 }
 
 // ---- a word
 
+#[tactic(auto, unfolding(crate::specs::Lines::at_most))]
 fn at_most(top: u64, x: u64) -> u64
     ensures { (result ≡ at_most top x) × (result ≤ top) }
 {
-    if x < top { x } else { top }
+    x.min(top)
 }
 
 // Where the writer stands after a word.
@@ -357,16 +346,11 @@ fn event_lines(out: &mut [u8], from: usize, w: Writer, word: u32, watch: Watch) 
 
 // ---- a dump in pieces
 
+#[tactic(auto, unfolding(crate::specs::Wrote::fits))]
 fn fits(places: usize, from: usize, size: usize) -> bool
     ensures { result ≡ fits_in places from size }
 {
-    if places < size {
-        return false;
-    }
-    if places - size < from {
-        return false;
-    }
-    true
+    places >= size && places - size >= from
 }
 
 // What an event word adds to a dump, with the lines and vectors watched after it; nothing where there are fewer than 151 places.

@@ -3,8 +3,8 @@
 // its first bad token, and ends the program; the words before it are written. A read or a write that fails is told there too.
 #![tactic(auto)]
 
-use case_words::{Case, Found};
-use line_tokens::{Scanner, Token};
+use case_words::{Case, Listed};
+use line_tokens::{BadToken, Scanner};
 use std::io::{Print, Read};
 use std::process::ExitCode;
 
@@ -24,14 +24,6 @@ fn opened() -> Turn {
     }
 }
 
-// The token that a byte ended, if any.
-fn taken(c: Case, t: Token) -> Case {
-    if t.value == 0 {
-        return c;
-    }
-    case_words::take_case(c, t)
-}
-
 // A word as often as its line says. Here and below an `Err` has the status with which the program ends.
 fn write_words<P: Print, Q: Print>(out: &P, err: &Q, times: u64, w: u32) -> Result<(), ExitCode> {
     let bytes = w.to_le_bytes();
@@ -43,20 +35,26 @@ fn write_words<P: Print, Q: Print>(out: &P, err: &Q, times: u64, w: u32) -> Resu
     Ok(())
 }
 
-fn refuse<Q: Print>(err: &Q, line: u64, place: u64) -> ExitCode {
+fn refuse<Q: Print>(err: &Q, line: u64, bad: BadToken) -> ExitCode {
+    let place = bad.at;
     input::status(println!(err; "words: line {line}: at byte {place}: not an event"))
 }
 
-fn found<P: Print, Q: Print>(out: &P, err: &Q, f: Found, line: u64) -> Result<(), ExitCode> {
-    match f {
-        Found::Nothing => Ok(()),
-        Found::Entry(times, w) => write_words(out, err, times, w),
-        Found::Refused(place) => Err(refuse(err, line, place)),
+fn found<P: Print, Q: Print>(
+    out: &P,
+    err: &Q,
+    listed: Result<Option<Listed>, BadToken>,
+    line: u64,
+) -> Result<(), ExitCode> {
+    match listed {
+        Ok(Some(l)) => write_words(out, err, l.times, l.word),
+        Ok(None) => Ok(()),
+        Err(bad) => Err(refuse(err, line, bad)),
     }
 }
 
 fn line_ended<P: Print, Q: Print>(out: &P, err: &Q, t: Turn) -> Result<Turn, ExitCode> {
-    let last = taken(t.case, t.scanner.pending);
+    let last = case_words::taken(t.case, t.scanner.pending);
     found(out, err, case_words::case_end(last, t.scanner.at), t.line)?;
     Ok(Turn {
         scanner: line_tokens::start(),
@@ -72,7 +70,7 @@ fn byte_taken<P: Print, Q: Print>(out: &P, err: &Q, t: Turn, b: u8) -> Result<Tu
     let s = line_tokens::scan(t.scanner, b);
     Ok(Turn {
         scanner: s,
-        case: taken(t.case, s.done),
+        case: case_words::taken(t.case, s.done),
         line: t.line,
     })
 }

@@ -1,26 +1,20 @@
 -- `event_names::field_of` meets its contract.
--- Assumes nothing.
-use Rattle.event_names.specs.Names.{field_in}
-use borrow.Author.Tests.{lt-ltb, le-ltb}
-use borrow.Author.Rules.{rules}
+use mathlib.Core.Path.{◌∙◌}
+use Rattle.event_names.proofs.Digits.{fitting}
+use Rattle.event_names.proofs.Names.{field_named, field_digits, field_none, field_wide}
 use Rattle.event_names.proofs.field_of.Goals as goal
 
-pub named_of-found-requires : goal.named_of-found-requires
-unfolding field_in
-named_of-found-requires c = search rules
+pub returns-in-Some : goal.returns-in-Some
+returns-in-Some c = field_named _ _ _ c.in-Some.ensures
 
-pub returns-then-found-lt256 : goal.returns-then-found-lt256
-unfolding field_in
-returns-then-found-lt256 c = simp (← c.named_of-found.ensures, lt-ltb _ _ c.if-found-lt256.true)
+pub returns-in_err-unhex-in-None : goal.returns-in_err-unhex-in-None
+returns-in_err-unhex-in-None c = rw c.from_residual.ensures (field_none _ _ c.in-None.ensures c.in_err-unhex-in-None.ensures)
 
-pub unhex-requires : goal.unhex-requires
-unfolding field_in
-unhex-requires c = search rules
+pub returns-in_err-ok-in-None : goal.returns-in_err-ok-in-None
+returns-in_err-ok-in-None c =
+    rw c.from_residual-in_err-ok-in-None.ensures
+    (field_wide _ _ _ c.in-None.ensures c.in_ok-unhex-in-None.ensures (c.in_err-ok-in-None.ensures.value ∙ fitting _ _ _ c.try_from.ensures))
 
-pub unnamed-requires : goal.unnamed-requires
-unfolding field_in
-unnamed-requires c = search rules
-
-pub returns : goal.returns
-unfolding field_in
-returns c = simp (c.unnamed.ensures, c.unhex.ensures, ← c.named_of-found.ensures, le-ltb _ _ c.if-found-lt256.false)
+pub returns-in_ok-ok-in-None : goal.returns-in_ok-ok-in-None
+returns-in_ok-ok-in-None c =
+    field_digits _ _ _ _ _ c.in-None.ensures c.in_ok-unhex-in-None.ensures (c.in_ok-ok-in-None.ensures.value ∙ fitting _ _ _ c.try_from.ensures) c.unnamed.ensures

@@ -1,38 +1,16 @@
 -- `event_names::named_of` meets its contract.
--- Assumes nothing.
-use Rattle.event_names.specs.Names.{names}
-use borrow.Author.Tests.{ne_eqb}
-use borrow.Author.Rules.{rules}
+use mathlib.Core.Path.{◌∙◌}
+use Rattle.event_names.specs.Names.{named}
+use Rattle.event_names.proofs.Digits.{fitting}
+use Rattle.event_names.proofs.Names.{placed, unplaced}
 use Rattle.event_names.proofs.named_of.Goals as goal
 
-pub pin_of-requires : goal.pin_of-requires
-unfolding names
-pin_of-requires c = search rules
+pub returns-then-v-eq0 : goal.returns-then-v-eq0
+unfolding named
+returns-then-v-eq0 c = simp c.if-v-eq0.true
 
-pub clock_of-requires : goal.clock_of-requires
-unfolding names
-clock_of-requires c = search rules
+pub returns-in_err-place_of : goal.returns-in_err-place_of
+returns-in_err-place_of c = rw (c.from_residual.ensures, ← c.names_of.ensures) (unplaced _ _ c.if-v-eq0.false c.in_err-place_of.ensures)
 
-pub polarity_of-requires : goal.polarity_of-requires
-unfolding names
-polarity_of-requires c = search rules
-
-pub register_of-requires : goal.register_of-requires
-unfolding names
-register_of-requires c = search rules
-
-pub returns-in-3 : goal.returns-in-3
-unfolding names
-returns-in-3 c = simp (c.pin_of.ensures, c.in-3.is)
-
-pub returns-in-4 : goal.returns-in-4
-unfolding names
-returns-in-4 c = simp (c.clock_of.ensures, c.in-4.is)
-
-pub returns-in-5 : goal.returns-in-5
-unfolding names
-returns-in-5 c = simp (c.polarity_of.ensures, c.in-5.is)
-
-pub returns-in_default : goal.returns-in_default
-unfolding names
-returns-in_default c = simp (c.register_of.ensures, ne_eqb _ _ c.in_default.in_default-own.rest.1, ne_eqb _ _ c.in_default.in_default-own.rest.0.1, ne_eqb _ _ c.in_default.in_default-own.rest.0.0.1)
+pub returns : goal.returns
+returns c = rw (← c.names_of.ensures) (c.ok.ensures.value ∙ fitting _ _ _ c.try_from.ensures ∙ placed _ _ _ c.if-v-eq0.false c.in_ok-place_of.ensures)

@@ -4,4 +4,4 @@ use Rattle.event_text_write.proofs.Three.{as_event}
 use Rattle.event_text_write.proofs.write_event.Goals as goal
 
 pub returns : goal.returns
-returns c = as_event _ _ _ _ _ c.event_tokens-tokens.ensures.0 c.write_line.ensures
+returns c = as_event _ _ _ _ _ c.event_tokens-tokens.ensures c.write_line.ensures

@@ -12,7 +12,7 @@ pub returns-then-tokens-gt16 : goal.returns-then-tokens-gt16
 returns-then-tokens-gt16 c = too_many _ _ c.if-tokens-gt16.true
 
 pub put_pieces-end-requires : goal.put_pieces-end-requires
-put_pieces-end-requires c = omega (arith, c.buffer-text.ensures, c.if-tokens-gt16.false)
+put_pieces-end-requires c = omega (arith, c.if-tokens-gt16.false)
 
 pub returns-then-end-eq0 : goal.returns-then-end-eq0
 returns-then-end-eq0 c = nothing _ _ c.if-tokens-gt16.false _ c.put_pieces-end.ensures c.if-end-eq0.true
@@ -26,9 +26,8 @@ slice_bounds-copy-end c =
     let few = c.if-tokens-gt16.false in
     let tokens = c.args.tokens.now in
     let long = pieces_length tokens in
-    let text = c.buffer-text in
-    let size = put_size p.ensures (omega (arith, text.ensures)) in
-    let h : p.result ≤ length p.new.buf = omega (arith, p.ensures.ends, text.ensures) in
+    let size = put_size p.ensures (omega arith) in
+    let h : p.result ≤ length p.new.buf = omega (arith, p.ensures.ends) in
     search rules
 
 pub returns : goal.returns

@@ -10,10 +10,10 @@ loop-k-init c = levels_begin _ _ _ _
 
 pub level_line-i-requires : goal.level_line-i-requires
 level_line-i-requires c =
-    let l = c.loop-k.invariant in (omega (arith, l.size, l.place, l.most, c.loop-k-test.true), omega arith)
+    let l = c.loop-k.invariant in (omega (arith, l.size, l.place, l.most), omega arith)
 
 pub loop-k-preserved : goal.loop-k-preserved
-loop-k-preserved c = levels_more c.loop-k.invariant c.loop-k-test.true c.level_line-i.ensures
+loop-k-preserved c = levels_more c.loop-k.invariant (omega arith) c.level_line-i.ensures
 
 pub shape_of-out : goal.shape_of-out
 shape_of-out c = c.loop-k.invariant.size

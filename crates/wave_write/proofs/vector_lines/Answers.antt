@@ -10,10 +10,10 @@ loop-k-init c = vectors_begin _ _ _ _
 
 pub vector_line-i-requires : goal.vector_line-i-requires
 vector_line-i-requires c =
-    let l = c.loop-k.invariant in (omega (arith, l.size, l.place, l.most, c.loop-k-test.true), omega arith)
+    let l = c.loop-k.invariant in (omega (arith, l.size, l.place, l.most), omega arith)
 
 pub loop-k-preserved : goal.loop-k-preserved
-loop-k-preserved c = vectors_more c.loop-k.invariant c.loop-k-test.true c.vector_line-i.ensures
+loop-k-preserved c = vectors_more c.loop-k.invariant (omega arith) c.vector_line-i.ensures
 
 pub shape_of-out : goal.shape_of-out
 shape_of-out c = c.loop-k.invariant.size
