@@ -1,10 +1,10 @@
 // The addressing modes of the 6502 (document 02, Wish 5).
 #![tactic(auto)]
 
-ghost use Rattle.std.specs.Prelude.{◌≡◌, ◌+◌, ◌-◌, ◌*◌, ◌%◌, ◌≤◌, get_or};
+ghost use Rattle.std.specs.Prelude.{◌≡◌, ◌+◌, ◌-◌, ◌*◌, ◌%◌, ◌≤◌, false, get_or};
 ghost use Rattle.cpu_memory.specs.Memory.{memory};
 ghost use Rattle.cpu_memory.specs.Reads.{run, high_byte, word};
-ghost use Rattle.cpu_addressing.specs.Addressing.{word_result, located_result, WordCase, LocatedCase, ahead as ahead_of, indexed as indexed_of, branch_target, branch_to, next_in_page, zero_page, absolute, absolute_unless, pointer, zero_page_pointer, absolute_indirect, relative, locate as locate_of};
+ghost use Rattle.cpu_addressing.specs.Addressing.{word_result, located_result, WordCase, LocatedCase, effective, ahead as ahead_of, indexed as indexed_of, branch_target, branch_to, next_in_page, zero_page, absolute, absolute_unless, pointer, zero_page_pointer, absolute_indirect, relative, locate as locate_of};
 
 use cpu_memory::Loaded;
 use cpu_opcodes::Mode;
@@ -35,19 +35,13 @@ pub enum Located {
 pub fn ahead(a: u16, n: u16) -> u16
     ensures { result ≡ ahead_of a n }
 {
-    (((a as u32) + (n as u32)) % 65536) as u16
-}
-
-fn wide(b: u8) -> u16
-    ensures { result ≡ b }
-{
-    b as u16
+    a.wrapping_add(n)
 }
 
 fn joined(h: u8, l: u8) -> u16
     ensures { result ≡ h * 256 + l }
 {
-    (h as u16) * 256 + (l as u16)
+    u16::from(h) * 256 + u16::from(l)
 }
 
 fn next_in_page(a: u16) -> u16
@@ -59,18 +53,18 @@ fn next_in_page(a: u16) -> u16
 fn indexed(a: u16, i: u8) -> Effective
     ensures { result ≡ indexed_of a i }
 {
-    let n = wide(i);
-    let t = ahead(a, n);
+    let n = u16::from(i);
     Effective {
-        address: t,
+        address: ahead(a, n),
         crossed: a % 256 + n > 255,
     }
 }
 
+#[tactic(auto, unfolding(crate::specs::Addressing::branch_target))]
 fn branch_target(p: u16, b: u8) -> u16
     ensures { result ≡ branch_target p b }
 {
-    let n = wide(b);
+    let n = u16::from(b);
     if b < 128 {
         ahead(p, n)
     } else {
@@ -78,20 +72,14 @@ fn branch_target(p: u16, b: u8) -> u16
     }
 }
 
+#[tactic(auto, unfolding(crate::specs::Addressing::branch_to))]
 fn branch_to(p: u16, b: u8) -> Effective
     ensures { result ≡ branch_to p b }
 {
     let t = branch_target(p, b);
-    if t / 256 == p / 256 {
-        Effective {
-            address: t,
-            crossed: false,
-        }
-    } else {
-        Effective {
-            address: t,
-            crossed: true,
-        }
+    Effective {
+        address: t,
+        crossed: t / 256 != p / 256,
     }
 }
 
@@ -119,21 +107,24 @@ fn high_byte(seen: &[u16; 38], ram: &[u8; 256], rom: &[u8], l: u8, b: u16) -> Wo
 fn sum_in_page(b: u8, i: u8) -> u16
     ensures { result ≡ (b + i) % 256 }
 {
-    ((b as u16) + (i as u16)) % 256
+    u16::from(b.wrapping_add(i))
+}
+
+// An address on the way to which no page was crossed.
+fn uncrossed(address: u16) -> Effective
+    ensures { result ≡ effective address false }
+{
+    Effective {
+        address,
+        crossed: false,
+    }
 }
 
 fn zero_page(seen: &[u16; 38], ram: &[u8; 256], rom: &[u8], a: u16, i: u8) -> Located
     ensures { located_result result ≡ run (memory seen.now ram.now rom.now) (zero_page a i) }
 {
-    let p = cpu_memory::load(seen, ram, rom, a);
-    match p {
-        Loaded::Byte(b) => {
-            let t = sum_in_page(b, i);
-            Located::At(Effective {
-                address: t,
-                crossed: false,
-            })
-        },
+    match cpu_memory::load(seen, ram, rom, a) {
+        Loaded::Byte(b) => Located::At(uncrossed(sum_in_page(b, i))),
         Loaded::Refused(n) => Located::Refused(n),
     }
 }
@@ -143,8 +134,8 @@ fn word_in_rom(rom: &[u8], a: u16, b: u16) -> u16
     requires { (0xA000 ≤ a) × (0xA000 ≤ b) }
     ensures { result ≡ get_or rom.now (b - 0xA000) 0 * 256 + get_or rom.now (a - 0xA000) 0 }
 {
-    let l = cpu_memory::rom_byte(rom, (a as usize) - 0xA000);
-    let h = cpu_memory::rom_byte(rom, (b as usize) - 0xA000);
+    let l = cpu_memory::rom_byte(rom, usize::from(a - 0xA000));
+    let h = cpu_memory::rom_byte(rom, usize::from(b - 0xA000));
     joined(h, l)
 }
 
@@ -175,10 +166,7 @@ fn absolute_unless(
     ensures { located_result result ≡ run (memory seen.now ram.now rom.now) (absolute_unless own a b) }
 {
     if own {
-        Located::At(Effective {
-            address: 0,
-            crossed: false,
-        })
+        Located::At(uncrossed(0))
     } else {
         absolute_at(seen, ram, rom, a, b, 0)
     }
@@ -236,18 +224,9 @@ pub fn locate(own: bool, m: Mode, c: Cpu, seen: &[u16; 38], ram: &[u8; 256], rom
     let a = ahead(pc, 1);
     let b = ahead(pc, 2);
     match m {
-        Mode::Implied => Located::At(Effective {
-            address: 0,
-            crossed: false,
-        }),
-        Mode::Accumulator => Located::At(Effective {
-            address: 0,
-            crossed: false,
-        }),
-        Mode::Immediate => Located::At(Effective {
-            address: a,
-            crossed: false,
-        }),
+        Mode::Implied => Located::At(uncrossed(0)),
+        Mode::Accumulator => Located::At(uncrossed(0)),
+        Mode::Immediate => Located::At(uncrossed(a)),
         Mode::ZeroPage => zero_page(seen, ram, rom, a, 0),
         Mode::ZeroPageX => zero_page(seen, ram, rom, a, x),
         Mode::ZeroPageY => zero_page(seen, ram, rom, a, y),

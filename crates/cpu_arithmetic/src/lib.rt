@@ -3,7 +3,7 @@
 
 ghost use Rattle.std.specs.Prelude.{◌≡◌, ◌+◌, ◌%◌, ◌<◌};
 ghost use Rattle.bits.specs.Byte.{num as num_of};
-ghost use Rattle.cpu_arithmetic.specs.Arithmetic.{computed, nz as nz_of, nzc as nzc_of, with_carry, overflow as overflow_of, total as total_of, sum_flags, digit_sum, digit_difference, decimal_sum, decimal_difference, adc as adc_of, sbc as sbc_of, compared as compared_of};
+ghost use Rattle.cpu_arithmetic.specs.Arithmetic.{computed, nz as nz_of, nzc as nzc_of, overflow as overflow_of, total as total_of, sum_flags, digit_sum, digit_difference, decimal_sum, decimal_difference, adc as adc_of, sbc as sbc_of, compared as compared_of};
 
 // The flags of P. Bits 5 and 4 exist only in a pushed P. Z stands between D and I, so that the compiler does not join these two in one
 // number of 16 bits, to be taken apart again at each instruction.
@@ -51,24 +51,9 @@ pub fn nzc(r: u8, k: bool, f: Flags) -> Flags
 {
     Flags {
         n: r > 127,
-        v: f.v,
-        d: f.d,
-        i: f.i,
         z: r == 0,
         c: k,
-    }
-}
-
-fn with_carry(k: bool, f: Flags) -> Flags
-    ensures { result ≡ with_carry k f }
-{
-    Flags {
-        n: f.n,
-        v: f.v,
-        d: f.d,
-        i: f.i,
-        z: f.z,
-        c: k,
+        ..f
     }
 }
 
@@ -76,27 +61,19 @@ fn with_carry(k: bool, f: Flags) -> Flags
 pub fn num(b: bool) -> u8
     ensures { (result ≡ num_of b) × (result < 2) }
 {
-    if b { 1 } else { 0 }
+    u8::from(b)
 }
 
 fn overflow(a: bool, b: bool, r: bool) -> bool
     ensures { result ≡ overflow_of a b r }
 {
-    if a {
-        if b {
-            if r { false } else { true }
-        } else {
-            false
-        }
-    } else {
-        if b { false } else { r }
-    }
+    a == b && r != a
 }
 
 fn total(a: u8, b: u8, k: bool) -> u16
     ensures { result ≡ total_of a b k }
 {
-    (a as u16) + (b as u16) + (num(k) as u16)
+    u16::from(a) + u16::from(b) + u16::from(num(k))
 }
 
 // A number cut to a byte.
@@ -111,17 +88,16 @@ fn sum_flags(a: u8, b: u8, f: Flags) -> Flags
 {
     let t = total(a, b, f.c);
     let low = low_byte(t);
-    let v = overflow(a > 127, b > 127, low > 127);
     Flags {
         n: low > 127,
-        v: v,
-        d: f.d,
-        i: f.i,
+        v: overflow(a > 127, b > 127, low > 127),
         z: low == 0,
         c: t > 255,
+        ..f
     }
 }
 
+#[tactic(auto, unfolding(crate::specs::Arithmetic::digit_sum))]
 fn digit_sum(a: u8, b: u8, k: bool) -> Digit
     requires { (a < 16) × (b < 16) }
     ensures { (result ≡ digit_sum a b k) × (result.value < 16) }
@@ -140,6 +116,7 @@ fn digit_sum(a: u8, b: u8, k: bool) -> Digit
     }
 }
 
+#[tactic(auto, unfolding(crate::specs::Arithmetic::digit_difference))]
 fn digit_difference(a: u8, b: u8, k: bool) -> Digit
     requires { (a < 16) × (b < 16) }
     ensures { (result ≡ digit_difference a b k) × (result.value < 16) }
@@ -158,6 +135,7 @@ fn digit_difference(a: u8, b: u8, k: bool) -> Digit
     }
 }
 
+#[tactic(auto, unfolding(crate::specs::Arithmetic::decimal_sum))]
 fn decimal_sum(a: u8, b: u8, k: bool) -> Digit
     ensures { result ≡ decimal_sum a b k }
 {
@@ -169,6 +147,7 @@ fn decimal_sum(a: u8, b: u8, k: bool) -> Digit
     }
 }
 
+#[tactic(auto, unfolding(crate::specs::Arithmetic::decimal_difference))]
 fn decimal_difference(a: u8, b: u8, k: bool) -> Digit
     ensures { result ≡ decimal_difference a b k }
 {
@@ -181,39 +160,38 @@ fn decimal_difference(a: u8, b: u8, k: bool) -> Digit
 }
 
 // ADC.
+#[tactic(auto, unfolding(crate::specs::Arithmetic::adc))]
 pub fn adc(a: u8, b: u8, f: Flags) -> Computed
     ensures { result ≡ adc_of a b f }
 {
     let g = sum_flags(a, b, f);
     if f.d {
         let t = decimal_sum(a, b, f.c);
-        let h = with_carry(t.carry, g);
-        with_flags(t.value, h)
+        with_flags(t.value, Flags { c: t.carry, ..g })
     } else {
-        let t = total(a, b, f.c);
-        with_flags(low_byte(t), g)
+        with_flags(low_byte(total(a, b, f.c)), g)
     }
 }
 
 // SBC.
+#[tactic(auto, unfolding(crate::specs::Arithmetic::sbc))]
 pub fn sbc(a: u8, b: u8, f: Flags) -> Computed
     ensures { result ≡ sbc_of a b f }
 {
     let g = sum_flags(a, 255 - b, f);
     if f.d {
         let t = decimal_difference(a, b, f.c);
-        let h = with_carry(t.carry, g);
-        with_flags(t.value, h)
+        with_flags(t.value, Flags { c: t.carry, ..g })
     } else {
-        let t = total(a, 255 - b, f.c);
-        with_flags(low_byte(t), g)
+        with_flags(low_byte(total(a, 255 - b, f.c)), g)
     }
 }
 
 // The flags of CMP, CPX and CPY.
+#[tactic(auto, unfolding(crate::specs::Arithmetic::compared))]
 pub fn compared(r: u8, b: u8, f: Flags) -> Flags
     ensures { result ≡ compared_of r b f }
 {
-    let t = low_byte((r as u16) + 256 - (b as u16));
-    nzc(t, (b as u16) < (r as u16) + 1, f)
+    let t = r.wrapping_sub(b);
+    nzc(t, b <= r, f)
 }

@@ -3,7 +3,7 @@ use Prim.Native.Nat.{ℕ}
 use mathlib.Core.Path.{◌≡◌, refl}
 use Rattle.cpu_memory.specs.declared.Loaded.{Loaded}
 use Rattle.cpu_memory.specs.declared.Loaded.TheVariants.{Byte, Refused}
-use Rattle.cpu_memory.specs.Reads.{Reads, done, undocumented, read, Result, gives, refuses, on_byte, run, then, on_result}
+use Rattle.cpu_memory.specs.Reads.{Reads, done, undocumented, read, gives, refuses, on_byte, run, then, on_result}
 
 pub run_done : {A : Type 0} (f : ℕ → Loaded) (a : A) → run f (done a) ≡ gives a
 unfolding run

@@ -1,6 +1,6 @@
 -- The address map of the CPU (document 02, Wish 5): registers 0000..0025, RAM 0080..017F, of which 0080..00FF is seen again at
 -- 0180..01FF, ROM A000..FFFF. Nothing else is mapped.
-use Rattle.std.specs.Prelude.{ℕ, ◌+◌, ◌-◌, ◌*◌, ◌%◌, ◌<◌, ◌≡◌, Bool, true, false, List, eqb, ltb, get_or}
+use Rattle.std.specs.Prelude.{ℕ, ◌+◌, ◌-◌, ◌*◌, ◌%◌, ◌<◌, ◌≡◌, Bool, false, List, eqb, ltb, get_or}
 use Rattle.bits.specs.Byte.{pick}
 use Rattle.cpu_memory.specs.declared.Loaded.{Loaded}
 use Rattle.cpu_memory.specs.declared.Loaded.TheVariants.{Byte, Refused}

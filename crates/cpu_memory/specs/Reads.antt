@@ -1,6 +1,6 @@
 -- A program of reads: which address is read next follows from the bytes read before. It ends with a value, or at an opcode that
 -- is not documented.
-use Rattle.std.specs.Prelude.{ℕ, ◌+◌, ◌*◌, ◌≡◌, refl}
+use Rattle.std.specs.Prelude.{ℕ, ◌+◌, ◌*◌}
 use Rattle.cpu_memory.specs.declared.Loaded.{Loaded}
 use Rattle.cpu_memory.specs.declared.Loaded.TheVariants.{Byte, Refused}
 

@@ -30,40 +30,36 @@ pub enum Store {
     PushThree(u8, u8, u8, u8),
 }
 
-// Where an address leads. ROM is asked for first, and RAM before registers, as they are commonest.
+// Where an address leads. ROM is asked for first, and RAM before registers, as they are commonest: a `match` on ranges is compiled to
+// a search from the lowest one, and an instruction of firmware then takes 126 machine instructions where 111 are allowed.
+#[tactic(auto, unfolding(crate::specs::Memory::place))]
 pub fn place_of(a: u16) -> Place
     ensures { (result ≡ place a) × Reaches result }
 {
     if a >= 0xA000 {
-        Place::Rom((a as usize) - 0xA000)
-    } else {
-        if a < 0x180 {
-            if a >= 0x80 {
-                Place::Ram((a as usize) - 0x80)
-            } else {
-                if a < 0x26 {
-                    Place::Register(a as usize)
-                } else {
-                    Place::Unmapped
-                }
-            }
+        Place::Rom(usize::from(a) - 0xA000)
+    } else if a < 0x180 {
+        if a >= 0x80 {
+            Place::Ram(usize::from(a) - 0x80)
+        } else if a < 0x26 {
+            Place::Register(usize::from(a))
         } else {
-            if a < 0x200 {
-                Place::Ram((a as usize) - 0x180)
-            } else {
-                Place::Unmapped
-            }
+            Place::Unmapped
         }
+    } else if a < 0x200 {
+        Place::Ram(usize::from(a) - 0x180)
+    } else {
+        Place::Unmapped
     }
 }
 
+#[tactic(auto, unfolding(crate::specs::Memory::known))]
 fn known(v: u16) -> Loaded
     ensures { result ≡ known_of v }
 {
-    if v < 256 {
-        Loaded::Byte(v as u8)
-    } else {
-        Loaded::Refused((v % 256) as u8)
+    match u8::try_from(v) {
+        Ok(b) => Loaded::Byte(b),
+        Err(_) => Loaded::Refused((v % 256) as u8),
     }
 }
 
@@ -71,16 +67,16 @@ fn known(v: u16) -> Loaded
 pub fn rom_byte(rom: &[u8], i: usize) -> u8
     ensures { result ≡ get_or rom.now i 0 }
 {
-    if i < rom.len() { rom[i] } else { 0 }
+    rom.get(i).copied().unwrap_or(0)
 }
 
 // A read at an address: RAM, ROM, or what is known of a register.
+#[tactic(auto, unfolding(crate::specs::Memory::memory, crate::specs::Memory::known))]
 pub fn load(seen: &[u16; 38], ram: &[u8; 256], rom: &[u8], a: u16) -> Loaded
     ensures { (result ≡ memory seen.now ram.now rom.now a)
         × LoadedCase (number_at seen.now (place a)) (byte_at seen.now ram.now rom.now (place a)) result }
 {
-    let p = place_of(a);
-    match p {
+    match place_of(a) {
         Place::Register(r) => known(seen[r]),
         Place::Ram(i) => Loaded::Byte(ram[i]),
         Place::Rom(i) => Loaded::Byte(rom_byte(rom, i)),
@@ -92,8 +88,8 @@ pub fn load(seen: &[u16; 38], ram: &[u8; 256], rom: &[u8], a: u16) -> Loaded
 pub fn rom_word(rom: &[u8], i: u16) -> u16
     ensures { result ≡ rom_word rom.now i }
 {
-    let l = rom_byte(rom, i as usize) as u16;
-    let h = rom_byte(rom, (i as usize) + 1) as u16;
+    let l = u16::from(rom_byte(rom, usize::from(i)));
+    let h = u16::from(rom_byte(rom, usize::from(i) + 1));
     h * 256 + l
 }
 
@@ -101,44 +97,42 @@ pub fn rom_word(rom: &[u8], i: u16) -> u16
 pub fn below(s: u8) -> u8
     ensures { result ≡ below_of s }
 {
-    if s == 0 { 255 } else { s - 1 }
+    s.wrapping_sub(1)
 }
 
 // S after a pull.
 pub fn above(s: u8) -> u8
     ensures { result ≡ above_of s }
 {
-    (((s as u16) + 1) % 256) as u8
+    s.wrapping_add(1)
 }
 
 // The address of a stack place.
 pub fn stack(s: u8) -> u16
     ensures { result ≡ stack_of s }
 {
-    (s as u16) + 256
+    u16::from(s) + 256
 }
 
 // The place in RAM of a stack place.
+#[tactic(auto, unfolding(crate::specs::Memory::stack_place))]
 pub fn stack_place(s: u8) -> usize
     ensures { (result ≡ stack_place s) × (result < 256) }
 {
-    let n = s as usize;
-    if n < 128 { n + 128 } else { n - 128 }
+    usize::from(s.wrapping_add(128))
 }
 
 fn is_stack_place(s: u8, a: u16) -> bool
     ensures { result ≡ is_stack_place s (place a) }
 {
-    let p = place_of(a);
-    match p {
-        Place::Register(_) => false,
+    match place_of(a) {
         Place::Ram(i) => i == stack_place(s),
-        Place::Rom(_) => false,
-        Place::Unmapped => false,
+        _ => false,
     }
 }
 
 // A read after two bytes were pushed from S down, the first of them h.
+#[tactic(auto, unfolding(crate::specs::Memory::after_push, crate::specs::Memory::memory, crate::specs::Memory::known))]
 pub fn load_after_push(
     seen: &[u16; 38],
     ram: &[u8; 256],

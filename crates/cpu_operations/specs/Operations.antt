@@ -1,7 +1,7 @@
 -- What the operations of the 6502 make of registers, flags and a byte, by the data sheet's mnemonics (document 02, Wish 5).
 use Rattle.std.specs.Prelude.{ℕ, ◌+◌, ◌*◌, ◌/◌, ◌%◌, Bool, true, false, eqb, ltb}
 use Rattle.std.specs.Int.Bits.{bit_and, bit_or, bit_xor}
-use Rattle.bits.specs.Byte.{pick, num}
+use Rattle.bits.specs.Byte.{num}
 use Rattle.cpu_arithmetic.specs.declared.Flags.{Flags}
 use Rattle.cpu_arithmetic.specs.declared.Computed.{Computed}
 use Rattle.cpu_arithmetic.specs.Arithmetic.{computed, nz, nzc, adc, sbc, compared}

@@ -2,7 +2,7 @@
 #![tactic(auto)]
 
 ghost use Rattle.std.specs.Prelude.{◌≡◌, ◌+◌, ◌%◌, ◌<◌};
-ghost use Rattle.cpu_operations.specs.Operations.{set_a, set_x, set_y, set_p, set_s, set_pc, jumped as jumped_of, set_over, tested as tested_of, read_operation, store_operation, modify_operation, flags as flags_from, implied_operation, is_clear, taken as taken_of, pushed_p, pulled_p};
+ghost use Rattle.cpu_operations.specs.Operations.{set_a, set_x, set_y, set_p, set_s, set_pc, jumped as jumped_of, set_over, tested as tested_of, read_operation, store_operation, modify_operation, implied_operation, taken as taken_of, pushed_p, pulled_p};
 
 use cpu_arithmetic::{Computed, Flags};
 use cpu_opcodes::{
@@ -27,93 +27,42 @@ pub struct Cpu {
 pub fn set_a(r: u8, f: Flags, c: Cpu) -> Cpu
     ensures { result ≡ set_a r f c }
 {
-    Cpu {
-        a: r,
-        x: c.x,
-        y: c.y,
-        s: c.s,
-        p: f,
-        pc: c.pc,
-        over: c.over,
-    }
+    Cpu { a: r, p: f, ..c }
 }
 
 // X and the flags.
 pub fn set_x(r: u8, f: Flags, c: Cpu) -> Cpu
     ensures { result ≡ set_x r f c }
 {
-    Cpu {
-        a: c.a,
-        x: r,
-        y: c.y,
-        s: c.s,
-        p: f,
-        pc: c.pc,
-        over: c.over,
-    }
+    Cpu { x: r, p: f, ..c }
 }
 
 // Y and the flags.
 pub fn set_y(r: u8, f: Flags, c: Cpu) -> Cpu
     ensures { result ≡ set_y r f c }
 {
-    Cpu {
-        a: c.a,
-        x: c.x,
-        y: r,
-        s: c.s,
-        p: f,
-        pc: c.pc,
-        over: c.over,
-    }
+    Cpu { y: r, p: f, ..c }
 }
 
 // The flags.
 pub fn set_p(f: Flags, c: Cpu) -> Cpu
     ensures { result ≡ set_p f c }
 {
-    let a = c.a;
-    Cpu {
-        a: a,
-        x: c.x,
-        y: c.y,
-        s: c.s,
-        p: f,
-        pc: c.pc,
-        over: c.over,
-    }
+    Cpu { p: f, ..c }
 }
 
 // S.
 pub fn set_s(s: u8, c: Cpu) -> Cpu
     ensures { result ≡ set_s s c }
 {
-    let f = c.p;
-    Cpu {
-        a: c.a,
-        x: c.x,
-        y: c.y,
-        s: s,
-        p: f,
-        pc: c.pc,
-        over: c.over,
-    }
+    Cpu { s, ..c }
 }
 
 // PC.
 pub fn set_pc(pc: u16, c: Cpu) -> Cpu
     ensures { result ≡ set_pc pc c }
 {
-    let f = c.p;
-    Cpu {
-        a: c.a,
-        x: c.x,
-        y: c.y,
-        s: c.s,
-        p: f,
-        pc: pc,
-        over: c.over,
-    }
+    Cpu { pc, ..c }
 }
 
 // PC, S and the flags.
@@ -121,13 +70,10 @@ pub fn jumped(to: u16, sp: u8, f: Flags, c: Cpu) -> Cpu
     ensures { result ≡ jumped_of to sp f c }
 {
     Cpu {
-        a: c.a,
-        x: c.x,
-        y: c.y,
         s: sp,
         p: f,
         pc: to,
-        over: c.over,
+        ..c
     }
 }
 
@@ -135,16 +81,7 @@ pub fn jumped(to: u16, sp: u8, f: Flags, c: Cpu) -> Cpu
 pub fn set_over(n: u8, c: Cpu) -> Cpu
     ensures { result ≡ set_over n c }
 {
-    let f = c.p;
-    Cpu {
-        a: c.a,
-        x: c.x,
-        y: c.y,
-        s: c.s,
-        p: f,
-        pc: c.pc,
-        over: n,
-    }
+    Cpu { over: n, ..c }
 }
 
 // ---- the operations that read a byte
@@ -155,32 +92,20 @@ fn tested(a: u8, b: u8, f: Flags) -> Flags
     Flags {
         n: b > 127,
         v: b / 64 % 2 == 1,
-        d: f.d,
-        i: f.i,
-        z: (a & b) == 0,
-        c: f.c,
+        z: a & b == 0,
+        ..f
     }
 }
 
-fn sum_into_a(b: u8, c: Cpu) -> Cpu
-    ensures { result ≡ read_operation ReadOperation.Adc b c }
+// A result for A, and the flags with it.
+fn into_a(t: Computed, c: Cpu) -> Cpu
+    ensures { result ≡ set_a t.value t.flags c }
 {
-    let f = c.p;
-    let t = cpu_arithmetic::adc(c.a, b, f);
-    let g = t.flags;
-    set_a(t.value, g, c)
-}
-
-fn difference_into_a(b: u8, c: Cpu) -> Cpu
-    ensures { result ≡ read_operation ReadOperation.Sbc b c }
-{
-    let f = c.p;
-    let t = cpu_arithmetic::sbc(c.a, b, f);
-    let g = t.flags;
-    set_a(t.value, g, c)
+    set_a(t.value, t.flags, c)
 }
 
 // An operation that reads, with its byte.
+#[tactic(auto, unfolding(crate::specs::Operations::read_operation))]
 pub fn read_operation(o: ReadOperation, b: u8, c: Cpu) -> Cpu
     ensures { result ≡ read_operation o b c }
 {
@@ -193,8 +118,8 @@ pub fn read_operation(o: ReadOperation, b: u8, c: Cpu) -> Cpu
         ReadOperation::And => set_a(a & b, cpu_arithmetic::nz(a & b, f), c),
         ReadOperation::Ora => set_a(a | b, cpu_arithmetic::nz(a | b, f), c),
         ReadOperation::Eor => set_a(a ^ b, cpu_arithmetic::nz(a ^ b, f), c),
-        ReadOperation::Adc => sum_into_a(b, c),
-        ReadOperation::Sbc => difference_into_a(b, c),
+        ReadOperation::Adc => into_a(cpu_arithmetic::adc(a, b, f), c),
+        ReadOperation::Sbc => into_a(cpu_arithmetic::sbc(a, b, f), c),
         ReadOperation::Cmp => set_p(cpu_arithmetic::compared(a, b, f), c),
         ReadOperation::Cpx => set_p(cpu_arithmetic::compared(c.x, b, f), c),
         ReadOperation::Cpy => set_p(cpu_arithmetic::compared(c.y, b, f), c),
@@ -205,6 +130,7 @@ pub fn read_operation(o: ReadOperation, b: u8, c: Cpu) -> Cpu
 // ---- the operations that store a register
 
 // The byte that an operation stores.
+#[tactic(auto, unfolding(crate::specs::Operations::store_operation))]
 pub fn store_operation(o: StoreOperation, c: Cpu) -> u8
     ensures { result ≡ store_operation o c }
 {
@@ -220,23 +146,24 @@ pub fn store_operation(o: StoreOperation, c: Cpu) -> u8
 fn one_more(b: u8) -> u8
     ensures { result ≡ (b + 1) % 256 }
 {
-    cpu_arithmetic::low_byte((b as u16) + 1)
+    b.wrapping_add(1)
 }
 
 fn one_less(b: u8) -> u8
     ensures { result ≡ (b + 255) % 256 }
 {
-    cpu_arithmetic::low_byte((b as u16) + 255)
+    b.wrapping_sub(1)
 }
 
 // An operation that changes a byte.
+#[tactic(auto, unfolding(crate::specs::Operations::modify_operation))]
 pub fn modify_operation(o: ModifyOperation, b: u8, f: Flags) -> Computed
     ensures { result ≡ modify_operation o b f }
 {
     let k = cpu_arithmetic::num(f.c);
     match o {
         ModifyOperation::Asl => {
-            let r = cpu_arithmetic::low_byte((b as u16) * 2);
+            let r = cpu_arithmetic::low_byte(u16::from(b) * 2);
             cpu_arithmetic::with_flags(r, cpu_arithmetic::nzc(r, b > 127, f))
         },
         ModifyOperation::Lsr => {
@@ -244,7 +171,7 @@ pub fn modify_operation(o: ModifyOperation, b: u8, f: Flags) -> Computed
             cpu_arithmetic::with_flags(r, cpu_arithmetic::nzc(r, b % 2 == 1, f))
         },
         ModifyOperation::Rol => {
-            let r = cpu_arithmetic::low_byte((b as u16) * 2 + (k as u16));
+            let r = cpu_arithmetic::low_byte(u16::from(b) * 2 + u16::from(k));
             cpu_arithmetic::with_flags(r, cpu_arithmetic::nzc(r, b > 127, f))
         },
         ModifyOperation::Ror => {
@@ -264,20 +191,8 @@ pub fn modify_operation(o: ModifyOperation, b: u8, f: Flags) -> Computed
 
 // ---- the operations on registers and flags alone
 
-fn flags_from(n: bool, v: bool, d: bool, i: bool, z: bool, c: bool) -> Flags
-    ensures { result ≡ flags_from n v d i z c }
-{
-    Flags {
-        n: n,
-        v: v,
-        d: d,
-        i: i,
-        z: z,
-        c: c,
-    }
-}
-
 // An operation on registers and flags alone.
+#[tactic(auto, unfolding(crate::specs::Operations::implied_operation))]
 pub fn implied_operation(o: ImpliedOperation, c: Cpu) -> Cpu
     ensures { result ≡ implied_operation o c }
 {
@@ -287,13 +202,13 @@ pub fn implied_operation(o: ImpliedOperation, c: Cpu) -> Cpu
     let y = c.y;
     let s = c.s;
     match o {
-        ImpliedOperation::Clc => set_p(flags_from(f.n, f.v, f.d, f.i, f.z, false), c),
-        ImpliedOperation::Sec => set_p(flags_from(f.n, f.v, f.d, f.i, f.z, true), c),
-        ImpliedOperation::Cli => set_p(flags_from(f.n, f.v, f.d, false, f.z, f.c), c),
-        ImpliedOperation::Sei => set_p(flags_from(f.n, f.v, f.d, true, f.z, f.c), c),
-        ImpliedOperation::Cld => set_p(flags_from(f.n, f.v, false, f.i, f.z, f.c), c),
-        ImpliedOperation::Sed => set_p(flags_from(f.n, f.v, true, f.i, f.z, f.c), c),
-        ImpliedOperation::Clv => set_p(flags_from(f.n, false, f.d, f.i, f.z, f.c), c),
+        ImpliedOperation::Clc => set_p(Flags { c: false, ..f }, c),
+        ImpliedOperation::Sec => set_p(Flags { c: true, ..f }, c),
+        ImpliedOperation::Cli => set_p(Flags { i: false, ..f }, c),
+        ImpliedOperation::Sei => set_p(Flags { i: true, ..f }, c),
+        ImpliedOperation::Cld => set_p(Flags { d: false, ..f }, c),
+        ImpliedOperation::Sed => set_p(Flags { d: true, ..f }, c),
+        ImpliedOperation::Clv => set_p(Flags { v: false, ..f }, c),
         ImpliedOperation::Nop => c,
         ImpliedOperation::Tax => set_x(a, cpu_arithmetic::nz(a, f), c),
         ImpliedOperation::Tay => set_y(a, cpu_arithmetic::nz(a, f), c),
@@ -322,24 +237,19 @@ pub fn implied_operation(o: ImpliedOperation, c: Cpu) -> Cpu
 
 // ---- the branches
 
-fn is_clear(b: bool) -> bool
-    ensures { result ≡ is_clear b }
-{
-    if b { false } else { true }
-}
-
 // Whether a branch is taken.
+#[tactic(auto, unfolding(crate::specs::Operations::taken))]
 pub fn taken(o: BranchOperation, f: Flags) -> bool
     ensures { result ≡ taken_of o f }
 {
     match o {
-        BranchOperation::Bpl => is_clear(f.n),
+        BranchOperation::Bpl => !f.n,
         BranchOperation::Bmi => f.n,
-        BranchOperation::Bvc => is_clear(f.v),
+        BranchOperation::Bvc => !f.v,
         BranchOperation::Bvs => f.v,
-        BranchOperation::Bcc => is_clear(f.c),
+        BranchOperation::Bcc => !f.c,
         BranchOperation::Bcs => f.c,
-        BranchOperation::Bne => is_clear(f.z),
+        BranchOperation::Bne => !f.z,
         BranchOperation::Beq => f.z,
     }
 }
@@ -347,6 +257,7 @@ pub fn taken(o: BranchOperation, f: Flags) -> bool
 // ---- P as a byte
 
 // P as it is pushed, with B as told.
+#[tactic(auto, unfolding(crate::specs::Operations::pushed_p))]
 pub fn pushed_p(f: Flags, b: bool) -> u8
     ensures { result ≡ pushed_p f b }
 {
@@ -361,6 +272,7 @@ pub fn pushed_p(f: Flags, b: bool) -> u8
 }
 
 // The flags of a pulled P.
+#[tactic(auto, unfolding(crate::specs::Operations::pulled_p))]
 pub fn pulled_p(b: u8) -> Flags
     ensures { result ≡ pulled_p b }
 {

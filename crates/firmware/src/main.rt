@@ -5,9 +5,8 @@
 
 ghost use Rattle.std.specs.Prelude.{◌<◌};
 
-use firmware_event_lines::Meaning;
 use firmware_input::Place;
-use firmware_print::{Asked, Item, Output};
+use firmware_print::{Asked, Output};
 use firmware_trace::Run;
 use std::io::{Print, Read};
 use std::process::ExitCode;
@@ -22,7 +21,7 @@ fn finish<P: Print, Q: Print>(
     rom: &[u8],
     asked: Asked,
 ) -> Result<(), ExitCode> {
-    firmware_print::take(out, run, ram, rom, asked, Item::End);
+    firmware_print::take(out, run, ram, rom, asked, None);
     match out.error {
         Some(e) => Err(input::fail(err, b"firmware: standard output", &e)),
         None => Ok(()),
@@ -49,19 +48,14 @@ fn run_events<P: Print, Q: Print, R: Read>(
         failed: false,
     };
     for _ in 0..u64::MAX {
-        let found = firmware_input::find(list, &mut block, place);
-        let meaning = found.meaning;
+        let Ok(found) = firmware_input::find(list, &mut block, place) else {
+            return Ok(false);
+        };
         place = found.place;
-        match meaning {
-            Meaning::Nothing => {}
-            Meaning::Event(e) => {
-                run = firmware_print::take(out, run, &mut ram, rom, asked, Item::Event(e));
-            }
-            Meaning::Malformed => {
-                return Ok(false);
-            }
+        if let Some(event) = found.event {
+            run = firmware_print::take(out, run, &mut ram, rom, asked, Some(event));
         }
-        if found.ended | !firmware_trace::goes_on(run.number, run.printed, run.next, asked.count) {
+        if found.ended || !firmware_trace::goes_on(run.number, run.printed, run.next, asked.count) {
             break;
         }
     }

@@ -1,31 +1,29 @@
 -- A line means what its tokens say.
 -- Assumes nothing.
-use mathlib.Core.Path.{◌≡◌, refl, sym, ap, ◌∙◌}
+use Rattle.std.specs.Prelude.{Option, None, Some}
+use mathlib.Core.Path.{◌≡◌, refl, ap, ◌∙◌}
 use mathlib.Core.Bool.{Bool, true, false}
 use mathlib.Core.Logic.{◌⊎◌, inl, inr, ⊎_elim}
 use mathlib.Core.List.{List, [], ◌∷◌}
-use Prim.Native.Nat.{ℕ, zero, suc, ◌+◌, ◌-◌, ◌*◌, ◌%◌, ◌<◌, ◌≤◌}
+use Prim.Native.Nat.{ℕ, zero, suc, ◌+◌, ◌-◌, ◌*◌, ◌<◌, ◌≤◌}
 use native.Mathlib.Nat.{mod-eq_of_lt}
 use native.Mathlib.Omega.{arith}
-use lib.Dec.{eqb, ltb}
+use lib.Dec.{eqb}
 use borrow.Author.Tests.{eq-eqb, ne_eqb, lt-ltb, le-ltb}
-use Rattle.bits.specs.Byte.{pick}
 use Rattle.bits.proofs.Finite.{lt_or_le}
-use Rattle.firmware_event_lines.specs.declared.Symbol.{Symbol}
 use Rattle.firmware_event_lines.specs.declared.Symbol.TheVariants as symbol
 use Rattle.firmware_event_lines.specs.declared.Line.{Line}
 use Rattle.firmware_event_lines.specs.declared.Line.TheVariants as line
-use Rattle.firmware_event_lines.specs.declared.Meaning.TheVariants as meaning
-use Rattle.firmware_event_lines.specs.Lines.{letter_of, symbol_of, number_grown, word_grown, word_ended, event_of, after, reader, line_start, next, read_on, meaning_of, line_means}
-use Rattle.firmware_event_laws.specs.Tokens.{onto, split, filled, blank, uncommented, Value, none, some, within, decimal, hexadecimal, number_from, word_from, with_word, with_number, meant, line_meant}
+use Rattle.firmware_event_lines.specs.Lines.{malformed, letter_of, symbol_of, number_grown, word_grown, word_ended, event_of, after, reader, read_on, meaning_of, line_means}
+use Rattle.firmware_event_laws.specs.Tokens.{onto, split, filled, blank, uncommented, decimal, hexadecimal, number_from, word_from, with_word, with_number, meant, line_meant}
 
 -- ---- what a byte is, to the reader and to the tokens
 
 data Byte (b : ℕ) : Type 0 where
   separates : symbol_of b ≡ symbol.Blank → blank b ≡ true → Byte b
-  digit : (d : ℕ) → d < 10 → symbol_of b ≡ symbol.Digit d → blank b ≡ false → decimal b ≡ some d → hexadecimal b ≡ some d → Byte b
-  letter : (d : ℕ) → d < 16 → symbol_of b ≡ symbol.Letter d → blank b ≡ false → decimal b ≡ none → hexadecimal b ≡ some d → Byte b
-  other : symbol_of b ≡ symbol.Other → blank b ≡ false → decimal b ≡ none → hexadecimal b ≡ none → Byte b
+  digit : (d : ℕ) → d < 10 → symbol_of b ≡ symbol.Digit d → blank b ≡ false → decimal b ≡ Some d → hexadecimal b ≡ Some d → Byte b
+  letter : (d : ℕ) → d < 16 → symbol_of b ≡ symbol.Letter d → blank b ≡ false → decimal b ≡ None → hexadecimal b ≡ Some d → Byte b
+  other : symbol_of b ≡ symbol.Other → blank b ≡ false → decimal b ≡ None → hexadecimal b ≡ None → Byte b
 
 -- a number is another one or not
 eq_or_ne : (b n : ℕ) → (b ≡ n) ⊎ (b ≡ n → ⊥)
@@ -64,7 +62,7 @@ module _ (b : ℕ) (s : eqb b 32 ≡ false) (t : eqb b 9 ≡ false) (r : eqb b 1
     low : 48 ≤ b
     low = omega arith
 
-    not_decimal : decimal b ≡ none
+    not_decimal : decimal b ≡ None
     unfolding decimal
     not_decimal = simp (le-ltb b 48 low, le-ltb b 58 l)
 
@@ -230,31 +228,31 @@ room_top w (suc (suc (suc (suc (suc zero))))) k = omega arith
 room_top w (suc (suc (suc (suc (suc (suc l)))))) k = omega arith
 
 -- a number above 32 bits stays so
-big_step : (n b : ℕ) (bs : List ℕ) (v : Value) → decimal b ≡ v → 4294967296 ≤ n → ((m : ℕ) → 4294967296 ≤ m → number_from m bs ≡ none)
-    → number_from n (b ∷ bs) ≡ none
+big_step : (n b : ℕ) (bs : List ℕ) (v : Option ℕ) → decimal b ≡ v → 4294967296 ≤ n → ((m : ℕ) → 4294967296 ≤ m → number_from m bs ≡ None)
+    → number_from n (b ∷ bs) ≡ None
 unfolding number_from
-big_step n b bs none e h ih = simp e
-big_step n b bs (some d) e h ih = simp e (ih (n * 10 + d) (omega arith))
+big_step n b bs None e h ih = simp e
+big_step n b bs (Some d) e h ih = simp e (ih (n * 10 + d) (omega arith))
 
-big : (bs : List ℕ) (n : ℕ) → 4294967296 ≤ n → number_from n bs ≡ none
+big : (bs : List ℕ) (n : ℕ) → 4294967296 ≤ n → number_from n bs ≡ None
 unfolding number_from
 big [] n h = simp (le-ltb n 4294967296 h)
 big (b ∷ bs) n h = big_step n b bs (decimal b) refl h (big bs)
 
 -- the first digit
-number_first : (b d : ℕ) (l : List ℕ) → decimal b ≡ some d → number_from 0 (b ∷ l) ≡ number_from d l
+number_first : (b d : ℕ) (l : List ℕ) → decimal b ≡ Some d → number_from 0 (b ∷ l) ≡ number_from d l
 unfolding number_from
 number_first b d l v =
     let z : 0 + d ≡ d = omega arith in
     simp v (ap (λ (n : ℕ). number_from n l) z)
 
-word_first : (b d : ℕ) (l : List ℕ) → hexadecimal b ≡ some d → word_from 8 0 (b ∷ l) ≡ word_from 7 d l
+word_first : (b d : ℕ) (l : List ℕ) → hexadecimal b ≡ Some d → word_from 8 0 (b ∷ l) ≡ word_from 7 d l
 unfolding word_from
 word_first b d l x =
     let z : 0 + d ≡ d = omega arith in
     simp x (ap (λ (w : ℕ). word_from 7 w l) z)
 
-no_number : (ts : List (List ℕ)) → with_number none ts ≡ meaning.Malformed
+no_number : (ts : List (List ℕ)) → with_number None ts ≡ malformed
 no_number [] = refl
 no_number (t ∷ ts) = refl
 
@@ -269,13 +267,13 @@ record Reads (bs : List ℕ) : Type 0 where
   start : meaning_of (plain line.Start bs) ≡ meant (filled (split blank bs))
   number : (n : ℕ) → n < 4294967296
       → meaning_of (plain (line.Number n) bs) ≡ with_number (number_from n (first (split blank bs))) (filled (rest (split blank bs)))
-  gap : (n : ℕ) → meaning_of (plain (line.Gap n) bs) ≡ with_number (some n) (filled (split blank bs))
+  gap : (n : ℕ) → meaning_of (plain (line.Gap n) bs) ≡ with_number (Some n) (filled (split blank bs))
   word : (n w k l : ℕ) → k + l ≡ 8 → l < 8 → w < room l
-      → meaning_of (plain (line.Word n w k) bs) ≡ with_word (some n) (word_from l w (first (split blank bs))) (filled (rest (split blank bs)))
-  end : (n w : ℕ) → meaning_of (plain (line.End (event_of n w)) bs) ≡ with_word (some n) (some w) (filled (split blank bs))
+      → meaning_of (plain (line.Word n w k) bs) ≡ with_word (Some n) (word_from l w (first (split blank bs))) (filled (rest (split blank bs)))
+  end : (n w : ℕ) → meaning_of (plain (line.End (event_of n w)) bs) ≡ with_word (Some n) (Some w) (filled (split blank bs))
 
 at_end_word : (n w k l : ℕ) → k + l ≡ 8
-    → meaning_of (line.Word n w k) ≡ with_word (some n) (word_from l w []) []
+    → meaning_of (line.Word n w k) ≡ with_word (Some n) (word_from l w []) []
 unfolding word_from
 at_end_word n w k zero q = simp (eq-eqb k 8 (omega arith))
 at_end_word n w k (suc l) q = simp (ne_eqb k 8 (λ (e : k ≡ 8). omega arith))
@@ -293,7 +291,7 @@ at_end_lem = record {
 module _ (b : ℕ) (bs : List ℕ) (r : Reads bs) where
   module _ (e : symbol_of b ≡ symbol.Blank) (s : blank b ≡ true) where
     blank_word : (n w k l : ℕ) → k + l ≡ 8
-        → meaning_of (plain (line.Word n w k) (b ∷ bs)) ≡ with_word (some n) (word_from l w (first (split blank (b ∷ bs)))) (filled (rest (split blank (b ∷ bs))))
+        → meaning_of (plain (line.Word n w k) (b ∷ bs)) ≡ with_word (Some n) (word_from l w (first (split blank (b ∷ bs)))) (filled (rest (split blank (b ∷ bs))))
     unfolding plain split word_ended word_from first rest
     blank_word n w k zero q = simp (e, s, eq-eqb k 8 (omega arith)) (r.end n w)
     blank_word n w k (suc l) q = simp (e, s, ne_eqb k 8 (λ (z : k ≡ 8). omega arith), plain_malformed bs)
@@ -314,14 +312,14 @@ module _ (b : ℕ) (bs : List ℕ) (r : Reads bs) where
     parts = simp s
 
     -- a hex digit
-    module _ (d : ℕ) (m : d < 16) (x : hexadecimal b ≡ some d) where
+    module _ (d : ℕ) (m : d < 16) (x : hexadecimal b ≡ Some d) where
       hex_gap : (n : ℕ) → after (line.Gap n) (symbol_of b) ≡ line.Word n d 1
-          → meaning_of (plain (line.Gap n) (b ∷ bs)) ≡ with_number (some n) (filled (split blank (b ∷ bs)))
+          → meaning_of (plain (line.Gap n) (b ∷ bs)) ≡ with_number (Some n) (filled (split blank (b ∷ bs)))
       unfolding plain room
       hex_gap n e = simp (parts, filled_onto, e, word_first b d (first (split blank bs)) x) (r.word n d 1 7 refl (omega arith) m)
 
       hex_word : (n w k l : ℕ) → after (line.Word n w k) (symbol_of b) ≡ word_grown n w k d → k + l ≡ 8 → l < 8 → w < room l
-          → meaning_of (plain (line.Word n w k) (b ∷ bs)) ≡ with_word (some n) (word_from l w (first (split blank (b ∷ bs)))) (filled (rest (split blank (b ∷ bs))))
+          → meaning_of (plain (line.Word n w k) (b ∷ bs)) ≡ with_word (Some n) (word_from l w (first (split blank (b ∷ bs)))) (filled (rest (split blank (b ∷ bs))))
       unfolding plain word_grown word_from
       hex_word n w k zero e q h u =
           let top : 8 ≤ k = omega arith in
@@ -334,12 +332,12 @@ module _ (b : ℕ) (bs : List ℕ) (r : Reads bs) where
           (r.word n (w * 16 + d) (k + 1) l next (omega arith) (room_step w d m l h u))
 
     ended : (n w : ℕ) → after (line.End (event_of n w)) (symbol_of b) ≡ line.Malformed
-        → meaning_of (plain (line.End (event_of n w)) (b ∷ bs)) ≡ with_word (some n) (some w) (filled (split blank (b ∷ bs)))
+        → meaning_of (plain (line.End (event_of n w)) (b ∷ bs)) ≡ with_word (Some n) (Some w) (filled (split blank (b ∷ bs)))
     unfolding plain
     ended n w e = simp (parts, filled_onto, e, plain_malformed bs)
 
     -- no decimal digit
-    module _ (v : decimal b ≡ none) where
+    module _ (v : decimal b ≡ None) where
       no_start : after line.Start (symbol_of b) ≡ line.Malformed → meaning_of (plain line.Start (b ∷ bs)) ≡ meant (filled (split blank (b ∷ bs)))
       unfolding plain number_from
       no_start e = simp (parts, filled_onto, e, v, plain_malformed bs, no_number)
@@ -349,7 +347,7 @@ module _ (b : ℕ) (bs : List ℕ) (r : Reads bs) where
       unfolding plain number_from
       no_digit n e = simp (parts, first_onto, rest_onto, e, v, plain_malformed bs, no_number)
 
-    module _ (d : ℕ) (m : d < 10) (e : symbol_of b ≡ symbol.Digit d) (v : decimal b ≡ some d) where
+    module _ (d : ℕ) (m : d < 10) (e : symbol_of b ≡ symbol.Digit d) (v : decimal b ≡ Some d) where
       digit_number : (n : ℕ) → (n * 10 + d < 4294967296) ⊎ (4294967296 ≤ n * 10 + d)
           → meaning_of (plain (line.Number n) (b ∷ bs)) ≡ with_number (number_from n (first (split blank (b ∷ bs)))) (filled (rest (split blank (b ∷ bs))))
       unfolding plain number_from number_grown
@@ -360,7 +358,7 @@ module _ (b : ℕ) (bs : List ℕ) (r : Reads bs) where
       unfolding plain
       digit_start = simp (parts, filled_onto, e, number_first b d (first (split blank bs)) v) (r.number d (omega arith))
 
-      on_digit : hexadecimal b ≡ some d → Reads (b ∷ bs)
+      on_digit : hexadecimal b ≡ Some d → Reads (b ∷ bs)
       on_digit x = let h : d < 16 = omega arith in record {
         start = digit_start;
         number = λ n k. digit_number n (lt_or_le (n * 10 + d) 4294967296);
@@ -369,7 +367,7 @@ module _ (b : ℕ) (bs : List ℕ) (r : Reads bs) where
         end = λ n w. ended n w (simp e);
       }
 
-    on_letter : (d : ℕ) → d < 16 → symbol_of b ≡ symbol.Letter d → decimal b ≡ none → hexadecimal b ≡ some d → Reads (b ∷ bs)
+    on_letter : (d : ℕ) → d < 16 → symbol_of b ≡ symbol.Letter d → decimal b ≡ None → hexadecimal b ≡ Some d → Reads (b ∷ bs)
     on_letter d m e v x = record {
       start = no_start v (simp e);
       number = λ n k. no_digit v n (simp e);
@@ -378,18 +376,18 @@ module _ (b : ℕ) (bs : List ℕ) (r : Reads bs) where
       end = λ n w. ended n w (simp e);
     }
 
-    module _ (e : symbol_of b ≡ symbol.Other) (x : hexadecimal b ≡ none) where
-      other_gap : (n : ℕ) → meaning_of (plain (line.Gap n) (b ∷ bs)) ≡ with_number (some n) (filled (split blank (b ∷ bs)))
+    module _ (e : symbol_of b ≡ symbol.Other) (x : hexadecimal b ≡ None) where
+      other_gap : (n : ℕ) → meaning_of (plain (line.Gap n) (b ∷ bs)) ≡ with_number (Some n) (filled (split blank (b ∷ bs)))
       unfolding plain word_from
       other_gap n = simp (parts, filled_onto, e, x, plain_malformed bs)
 
       other_word : (n w k l : ℕ)
-          → meaning_of (plain (line.Word n w k) (b ∷ bs)) ≡ with_word (some n) (word_from l w (first (split blank (b ∷ bs)))) (filled (rest (split blank (b ∷ bs))))
+          → meaning_of (plain (line.Word n w k) (b ∷ bs)) ≡ with_word (Some n) (word_from l w (first (split blank (b ∷ bs)))) (filled (rest (split blank (b ∷ bs))))
       unfolding plain word_from
       other_word n w k zero = simp (parts, first_onto, rest_onto, e, plain_malformed bs)
       other_word n w k (suc l) = simp (parts, first_onto, rest_onto, e, x, plain_malformed bs)
 
-      on_other : decimal b ≡ none → Reads (b ∷ bs)
+      on_other : decimal b ≡ None → Reads (b ∷ bs)
       on_other v = record {
         start = no_start v (simp e);
         number = λ n k. no_digit v n (simp e);

@@ -1,6 +1,7 @@
 -- The calls that read a list find what the lines of its text mean, in order, wherever blocks end. That `firmware` makes these calls is to be read
 -- in its source: `firmware_input::find`, which reads the file, has no contract that could say so.
 -- Assumes nothing.
+use Rattle.std.specs.Prelude.{None, Some, Ok, Err}
 use mathlib.Core.Path.{◌≡◌, refl, ap, ◌∙◌}
 use mathlib.Core.Bool.{Bool, true, false}
 use mathlib.Core.List.{List, [], ◌∷◌, ◌++◌, append_assoc, flatten, map}
@@ -11,13 +12,12 @@ use lib.Seq.{drop-drop}
 use lib.Dec.{eqb, ltb}
 use borrow.Author.Tests.{ltb-true, ltb-false}
 use Rattle.bits.specs.Byte.{pick}
+use Rattle.firmware_event_lines.specs.declared.Event.{Event}
 use Rattle.firmware_event_lines.specs.declared.Reader.{Reader}
-use Rattle.firmware_event_lines.specs.declared.Meaning.{Meaning}
-use Rattle.firmware_event_lines.specs.declared.Meaning.TheVariants as meaning
-use Rattle.firmware_event_lines.specs.Lines.{line_start, next, read_on, meaning_of}
+use Rattle.firmware_event_lines.specs.Lines.{Meaning, nothing, event, line_start, next, read_on, meaning_of}
 use Rattle.firmware_event_list.specs.Lists.{is_something, behind, found_on}
 use Rattle.firmware_event_list.proofs.Reading.{found_later}
-use Rattle.firmware_event_laws.specs.Tokens.{split, newline, none, some, line_meant, malformed_at, malformed_line, listed, lines_meant, text_meant}
+use Rattle.firmware_event_laws.specs.Tokens.{split, newline, line_meant, malformed_at, malformed_line, listed, lines_meant, text_meant}
 use Rattle.firmware_event_laws.specs.Calls.{Calls, calls, before, calls_from, calls_on, found_in}
 use Rattle.firmware_event_laws.proofs.Lines.{first, rest, first_onto, rest_onto, line_tokens}
 use Rattle.firmware_event_laws.proofs.Places.{has_line}
@@ -25,19 +25,19 @@ use Rattle.firmware_event_laws.proofs.Places.{has_line}
 -- ---- one more
 
 before_nothing : (m : Meaning) (c : Calls) → is_something m ≡ false → c ≡ before m c
-before_nothing meaning.Nothing c e = refl
-before_nothing (meaning.Event v) c e = absurd (let z : ◌≡◌ {A = ℕ} 0 1 = cc in omega arith)
-before_nothing meaning.Malformed c e = absurd (let z : ◌≡◌ {A = ℕ} 0 1 = cc in omega arith)
+before_nothing (Ok None) c e = refl
+before_nothing (Ok (Some v)) c e = absurd (let z : ◌≡◌ {A = ℕ} 0 1 = cc in omega arith)
+before_nothing (Err v) c e = absurd (let z : ◌≡◌ {A = ℕ} 0 1 = cc in omega arith)
 
 listed_append : (m : Meaning) (ms ns : List Meaning) → listed m (ms ++ ns) ≡ listed m ms ++ ns
-listed_append meaning.Nothing ms ns = refl
-listed_append (meaning.Event v) ms ns = refl
-listed_append meaning.Malformed ms ns = refl
+listed_append (Ok None) ms ns = refl
+listed_append (Ok (Some v)) ms ns = refl
+listed_append (Err v) ms ns = refl
 
 -- ---- byte by byte
 
 abbrev at_byte : Reader → ℕ → Meaning
-at_byte r b = pick (eqb b 10) (meaning_of r.line) meaning.Nothing
+at_byte r b = pick (eqb b 10) (meaning_of r.line) nothing
 
 on_bytes : Reader → List ℕ → Calls
 on_bytes r [] = calls [] r
@@ -143,22 +143,22 @@ events_in_order blocks = blocks_bytes_lem blocks line_start ∙ bytes_lines (fla
 -- ---- no malformed line
 
 abbrev EventsAlone : List Meaning → Type 0
-EventsAlone ms = (es : List ℕ) × (ms ≡ map meaning.Event es)
+EventsAlone ms = (es : List Event) × (ms ≡ map event es)
 
-event_step : (n : ℕ) (l : List ℕ) (ls : List (List ℕ)) (m : Meaning) → line_meant l ≡ m → malformed_at n (l ∷ ls) ≡ none
-    → (malformed_at (n + 1) ls ≡ none → EventsAlone (lines_meant ls)) → EventsAlone (lines_meant (l ∷ ls))
+event_step : (n : ℕ) (l : List ℕ) (ls : List (List ℕ)) (m : Meaning) → line_meant l ≡ m → malformed_at n (l ∷ ls) ≡ None
+    → (malformed_at (n + 1) ls ≡ None → EventsAlone (lines_meant ls)) → EventsAlone (lines_meant (l ∷ ls))
 unfolding malformed_at lines_meant
-event_step n l ls meaning.Nothing e h ih = rw e (ih (rw e at h))
-event_step n l ls (meaning.Event v) e h ih =
+event_step n l ls (Ok None) e h ih = rw e (ih (rw e at h))
+event_step n l ls (Ok (Some v)) e h ih =
     let t = ih (rw e at h) in
-    rw e (v ∷ t.0, ap (λ (ms : List Meaning). meaning.Event v ∷ ms) t.1)
-event_step n l ls meaning.Malformed e h ih = let k : some n ≡ none = rw e at h in absurd (let z : ◌≡◌ {A = ℕ} 0 1 = cc in omega arith)
+    rw e (v ∷ t.0, ap (λ (ms : List Meaning). event v ∷ ms) t.1)
+event_step n l ls (Err v) e h ih = let k : Some n ≡ None = rw e at h in absurd (let z : ◌≡◌ {A = ℕ} 0 1 = cc in omega arith)
 
-lines_events : (ls : List (List ℕ)) (n : ℕ) → malformed_at n ls ≡ none → EventsAlone (lines_meant ls)
+lines_events : (ls : List (List ℕ)) (n : ℕ) → malformed_at n ls ≡ None → EventsAlone (lines_meant ls)
 unfolding malformed_at lines_meant
 lines_events [] n h = ([], refl)
 lines_events (l ∷ ls) n h = event_step n l ls (line_meant l) refl h (lines_events ls (n + 1))
 
 -- where the check of the text tells no line, calls find events alone
-pub events_alone : (blocks : List (List ℕ)) → malformed_line (flatten blocks) ≡ none → (es : List ℕ) × (found_in blocks ≡ map meaning.Event es)
+pub events_alone : (blocks : List (List ℕ)) → malformed_line (flatten blocks) ≡ None → (es : List Event) × (found_in blocks ≡ map event es)
 events_alone blocks h = rw (events_in_order blocks) (lines_events (split newline (flatten blocks)) 1 h)

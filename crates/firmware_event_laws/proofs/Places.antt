@@ -1,19 +1,19 @@
 -- What a check of a text tells is its first malformed line.
 -- Assumes nothing.
-use mathlib.Core.Path.{◌≡◌, refl, sym, ap, ◌∙◌}
+use Rattle.std.specs.Prelude.{Option, None, Some, Ok}
+use mathlib.Core.Path.{◌≡◌, refl, ◌∙◌}
 use mathlib.Core.Bool.{Bool, true, false}
 use mathlib.Core.List.{List, [], ◌∷◌}
-use Prim.Native.Nat.{ℕ, suc, ◌+◌, ◌<◌}
+use Prim.Native.Nat.{ℕ, ◌+◌, ◌<◌}
 use native.Mathlib.Omega.{arith}
 use lib.ListN.{length}
-use lib.Dec.{eqb, ltb}
+use lib.Dec.{eqb}
 use borrow.Author.Tests.{lt-ltb}
 use Rattle.bits.specs.Byte.{pick}
 use Rattle.firmware_event_lines.specs.declared.Reader.{Reader}
-use Rattle.firmware_event_lines.specs.Lines.{line_start, next, read_on, meaning_of, line_means}
+use Rattle.firmware_event_lines.specs.Lines.{line_start, next, read_on, meaning_of}
 use Rattle.firmware_event_list.specs.Lists.{is_malformed, one_more, checked, opened, line_ended, checked_byte, checked_on, ends_well}
-use Rattle.firmware_event_list.proofs.Reading.{check_stop}
-use Rattle.firmware_event_laws.specs.Tokens.{onto, split, newline, Value, none, some, line_meant, malformed_at, malformed_line, told_by}
+use Rattle.firmware_event_laws.specs.Tokens.{onto, split, newline, malformed_at, malformed_line, told_by}
 use Rattle.firmware_event_laws.proofs.Lines.{first, rest, first_onto, rest_onto, line_tokens}
 
 -- a text has a line
@@ -33,8 +33,8 @@ has_line p [] = refl
 has_line p (b ∷ bs) = some_line p b bs (p b) refl
 
 -- the first of the lines is what the reader has yet to read of its line
-abbrev from_reader : Reader → ℕ → List (List ℕ) → Value
-from_reader r n ls = pick (is_malformed (meaning_of (read_on r (first ls)).line)) (some n) (malformed_at (n + 1) (rest ls))
+abbrev from_reader : Reader → ℕ → List (List ℕ) → Option ℕ
+from_reader r n ls = pick (is_malformed (meaning_of (read_on r (first ls)).line)) (Some n) (malformed_at (n + 1) (rest ls))
 
 fresh_line : (n : ℕ) (l : List ℕ) (ls : List (List ℕ)) → from_reader line_start n (l ∷ ls) ≡ malformed_at n (l ∷ ls)
 unfolding malformed_at first rest
@@ -43,34 +43,34 @@ fresh_line n l ls = rw (line_tokens l) refl
 from_start : (n : ℕ) (bs : List ℕ) → from_reader line_start n (split newline bs) ≡ malformed_at n (split newline bs)
 from_start n bs = rw (has_line newline bs) (fresh_line n (first (split newline bs)) (rest (split newline bs)))
 
-told_end : (r : Reader) (n : ℕ) (m : Bool) → is_malformed (meaning_of r.line) ≡ m → told_by (checked r n false) ≡ pick m (some n) none
+told_end : (r : Reader) (n : ℕ) (m : Bool) → is_malformed (meaning_of r.line) ≡ m → told_by (Ok (checked r n)) ≡ pick m (Some n) None
 unfolding ends_well
 told_end r n true e = simp e
 told_end r n false e = simp e
 
 module _ (b : ℕ) (bs : List ℕ) (r : Reader) (n : ℕ) (h : n < 18446744073709551615) where
   at_newline : (m : Bool) → eqb b 10 ≡ true → is_malformed (meaning_of r.line) ≡ m
-      → told_by (checked_on (checked line_start (n + 1) false) bs) ≡ from_reader line_start (n + 1) (split newline bs)
-      → told_by (checked_on (checked r n false) (b ∷ bs)) ≡ from_reader r n (split newline (b ∷ bs))
+      → told_by (checked_on (checked line_start (n + 1)) bs) ≡ from_reader line_start (n + 1) (split newline bs)
+      → told_by (checked_on (checked r n) (b ∷ bs)) ≡ from_reader r n (split newline (b ∷ bs))
   unfolding checked_on checked_byte line_ended one_more ends_well split read_on first rest
-  at_newline true e m ih = simp (e, m, ← (check_stop (checked r n true) bs refl))
+  at_newline true e m ih = simp (e, m)
   at_newline false e m ih = simp (e, m, lt-ltb n 18446744073709551615 h) (ih ∙ from_start (n + 1) bs)
 
   within_line : eqb b 10 ≡ false
-      → told_by (checked_on (checked (next r b) n false) bs) ≡ from_reader (next r b) n (split newline bs)
-      → told_by (checked_on (checked r n false) (b ∷ bs)) ≡ from_reader r n (split newline (b ∷ bs))
+      → told_by (checked_on (checked (next r b) n) bs) ≡ from_reader (next r b) n (split newline bs)
+      → told_by (checked_on (checked r n) (b ∷ bs)) ≡ from_reader r n (split newline (b ∷ bs))
   unfolding checked_on checked_byte split read_on
   within_line e ih = simp (e, first_onto, rest_onto) ih
 
 told_step : (b : ℕ) (bs : List ℕ) (r : Reader) (n : ℕ) → n + length (b ∷ bs) < 18446744073709551616
-    → ((q : Reader) (m : ℕ) → m + length bs < 18446744073709551616 → told_by (checked_on (checked q m false) bs) ≡ from_reader q m (split newline bs))
-    → (t : Bool) → eqb b 10 ≡ t → told_by (checked_on (checked r n false) (b ∷ bs)) ≡ from_reader r n (split newline (b ∷ bs))
+    → ((q : Reader) (m : ℕ) → m + length bs < 18446744073709551616 → told_by (checked_on (checked q m) bs) ≡ from_reader q m (split newline bs))
+    → (t : Bool) → eqb b 10 ≡ t → told_by (checked_on (checked r n) (b ∷ bs)) ≡ from_reader r n (split newline (b ∷ bs))
 told_step b bs r n h ih true e =
     at_newline b bs r n (omega arith) (is_malformed (meaning_of r.line)) e refl (ih line_start (n + 1) (omega arith))
 told_step b bs r n h ih false e = within_line b bs r n (omega arith) e (ih (next r b) n (omega arith))
 
 told_on : (bs : List ℕ) (r : Reader) (n : ℕ) → n + length bs < 18446744073709551616
-    → told_by (checked_on (checked r n false) bs) ≡ from_reader r n (split newline bs)
+    → told_by (checked_on (checked r n) bs) ≡ from_reader r n (split newline bs)
 unfolding checked_on split read_on first rest malformed_at
 told_on [] r n h = told_end r n (is_malformed (meaning_of r.line)) refl
 told_on (b ∷ bs) r n h = told_step b bs r n h (told_on bs) (eqb b 10) refl

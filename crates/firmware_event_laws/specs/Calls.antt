@@ -3,8 +3,7 @@
 use Rattle.std.specs.Prelude.{ℕ, zero, suc, List, [], ◌∷◌, ◌++◌, ltb, length, drop}
 use Rattle.bits.specs.Byte.{pick}
 use Rattle.firmware_event_lines.specs.declared.Reader.{Reader}
-use Rattle.firmware_event_lines.specs.declared.Meaning.{Meaning}
-use Rattle.firmware_event_lines.specs.Lines.{line_start}
+use Rattle.firmware_event_lines.specs.Lines.{Meaning, line_start}
 use Rattle.firmware_event_list.specs.Lists.{found_on}
 use Rattle.firmware_event_laws.specs.Tokens.{listed}
 

@@ -1,12 +1,10 @@
 -- Texts as bytes, and what is told of them.
-use Rattle.std.specs.Prelude.{ℕ, ◌+◌, ◌*◌, List, [], ◌∷◌}
+use Rattle.std.specs.Prelude.{ℕ, List, [], ◌∷◌, Option}
 use Prim.Native.Char.{code}
 use Prim.Native.String.{String, [] as empty, ◌∷◌ as ◌then◌}
-use Rattle.firmware_event_lines.specs.declared.Meaning.{Meaning}
-use Rattle.firmware_event_lines.specs.declared.Meaning.TheVariants as meaning
-use Rattle.firmware_event_lines.specs.Lines.{line_means}
+use Rattle.firmware_event_lines.specs.Lines.{Meaning, event as event_line, line_means}
 use Rattle.firmware_event_list.specs.Lists.{opened as opened_list, checked_on}
-use Rattle.firmware_event_laws.specs.Tokens.{Value, told_by}
+use Rattle.firmware_event_laws.specs.Tokens.{told_by}
 
 -- a text as bytes
 unfoldable pub codes : String → List ℕ
@@ -17,9 +15,9 @@ codes (c then s) = code c ∷ codes s
 abbrev pub means : String → Meaning
 means s = line_means (codes s)
 
-abbrev pub told : String → Value
+abbrev pub told : String → Option ℕ
 told s = told_by (checked_on opened_list (codes s))
 
--- the number in bits 63..32, the word below
+-- a line of a number and a word
 abbrev pub event : ℕ → ℕ → Meaning
-event n w = meaning.Event (n * 4294967296 + w)
+event n w = event_line (record { number = n; word = w })

@@ -1,14 +1,14 @@
 -- A line of a list of events, byte by byte: the number of an instruction in decimal, at most 4294967295, and a word of eight hex digits.
 -- Space, tab and CR stand between them and may stand around them; `#` begins a comment; a line with nothing else means nothing.
-use Rattle.std.specs.Prelude.{ℕ, ◌+◌, ◌-◌, ◌*◌, ◌%◌, Bool, true, false, List, [], ◌∷◌, eqb, ltb}
+use Rattle.std.specs.Prelude.{ℕ, ◌+◌, ◌-◌, ◌*◌, ◌%◌, Bool, true, false, List, [], ◌∷◌, Option, None, Some, Result, Ok, Err, eqb, ltb}
 use Rattle.bits.specs.Byte.{pick}
 use Rattle.firmware_event_lines.specs.declared.Symbol.{Symbol}
 use Rattle.firmware_event_lines.specs.declared.Symbol.TheVariants.{Blank, Digit, Letter, Other}
 use Rattle.firmware_event_lines.specs.declared.Line.{Line}
 use Rattle.firmware_event_lines.specs.declared.Line.TheVariants as line
 use Rattle.firmware_event_lines.specs.declared.Reader.{Reader}
-use Rattle.firmware_event_lines.specs.declared.Meaning.{Meaning}
-use Rattle.firmware_event_lines.specs.declared.Meaning.TheVariants as meaning
+use Rattle.firmware_event_lines.specs.declared.Event.{Event}
+use Rattle.firmware_event_lines.specs.declared.Malformed.{Malformed}
 
 -- ---- bytes
 
@@ -34,9 +34,8 @@ symbol_of b =
 unfoldable pub number_grown : ℕ → ℕ → Line
 number_grown n d = pick (ltb (n * 10 + d) 4294967296) (line.Number (n * 10 + d)) line.Malformed
 
--- the number in bits 63..32, the word below
-abbrev pub event_of : ℕ → ℕ → ℕ
-event_of n w = n * 4294967296 + w
+abbrev pub event_of : ℕ → ℕ → Event
+event_of n w = record { number = n; word = w }
 
 -- the first digit of a word, and one more; a digit is below 16
 abbrev pub word_begun : ℕ → ℕ → Line
@@ -75,7 +74,7 @@ at_word n w k (Digit d) = word_grown n w k d
 at_word n w k (Letter d) = word_grown n w k d
 at_word n w k Other = line.Malformed
 
-abbrev pub at_end : ℕ → Symbol → Line
+abbrev pub at_end : Event → Symbol → Line
 at_end e Blank = line.End e
 at_end e (Digit d) = line.Malformed
 at_end e (Letter d) = line.Malformed
@@ -111,13 +110,25 @@ read_on r [] = r
 read_on r (b ∷ bs) = read_on (next r b) bs
 
 -- what a line means at its end: nothing, an event, or it is malformed
+abbrev pub Meaning : Type 0
+Meaning = Result (Option Event) Malformed
+
+abbrev pub nothing : Meaning
+nothing = Ok None
+
+abbrev pub event : Event → Meaning
+event e = Ok (Some e)
+
+abbrev pub malformed : Meaning
+malformed = Err record {}
+
 abbrev pub meaning_of : Line → Meaning
-meaning_of line.Start = meaning.Nothing
-meaning_of (line.Number n) = meaning.Malformed
-meaning_of (line.Gap n) = meaning.Malformed
-meaning_of (line.Word n w k) = pick (eqb k 8) (meaning.Event (event_of n w)) meaning.Malformed
-meaning_of (line.End e) = meaning.Event e
-meaning_of line.Malformed = meaning.Malformed
+meaning_of line.Start = nothing
+meaning_of (line.Number n) = malformed
+meaning_of (line.Gap n) = malformed
+meaning_of (line.Word n w k) = pick (eqb k 8) (event (event_of n w)) malformed
+meaning_of (line.End e) = event e
+meaning_of line.Malformed = malformed
 
 -- the meaning of a line's bytes
 abbrev pub line_means : List ℕ → Meaning

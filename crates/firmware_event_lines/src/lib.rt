@@ -2,7 +2,7 @@
 #![tactic(auto)]
 
 ghost use Rattle.std.specs.Prelude.{◌≡◌};
-ghost use Rattle.firmware_event_lines.specs.Lines.{symbol_of, letter_of, number_grown, at_start, at_number, word_begun, at_gap, word_grown, event_of, word_ended, at_word, at_end, after, line_start, next as next_of, meaning_of};
+ghost use Rattle.firmware_event_lines.specs.Lines.{symbol_of, number_grown, at_start, at_number, at_gap, word_grown, word_ended, at_word, at_end, after, line_start, next as next_of, meaning_of};
 
 // What a byte is to the reader of a line.
 #[derive(Clone, Copy)]
@@ -15,6 +15,13 @@ pub enum Symbol {
     Other,
 }
 
+// An event and the number of the instruction that it comes before.
+#[derive(Clone, Copy)]
+pub struct Event {
+    pub number: u32,
+    pub word: u32,
+}
+
 // What the bytes so far are, a comment left out.
 #[derive(Clone, Copy)]
 pub enum Line {
@@ -25,8 +32,8 @@ pub enum Line {
     Gap(u32),
     // the number, the word so far, and how many digits it has
     Word(u32, u32, u8),
-    // behind the word: the event
-    End(u64),
+    // behind the word
+    End(Event),
     Malformed,
 }
 
@@ -37,66 +44,38 @@ pub struct Reader {
     pub comment: bool,
 }
 
-// What a line means. An event has the number of its instruction in bits 63..32 and its word below.
+// The error of a line that is neither blank nor an event.
 #[derive(Clone, Copy)]
-pub enum Meaning {
-    Nothing,
-    Event(u64),
-    Malformed,
-}
+pub struct Malformed;
+
+// How many hex digits a word has.
+const DIGITS: u8 = 8;
 
 // ---- bytes
 
-fn letter_of(b: u8) -> Symbol
-    ensures { result ≡ letter_of b }
-{
-    if b < 65 {
-        return Symbol::Other;
-    }
-    if b < 71 {
-        return Symbol::Letter(b - 55);
-    }
-    if b < 97 {
-        return Symbol::Other;
-    }
-    if b < 103 {
-        return Symbol::Letter(b - 87);
-    }
-    Symbol::Other
-}
-
+#[tactic(auto, unfolding(crate::specs::Lines::symbol_of, crate::specs::Lines::letter_of))]
 fn symbol_of(b: u8) -> Symbol
     ensures { result ≡ symbol_of b }
 {
-    if b == 32 {
-        return Symbol::Blank;
+    match b {
+        b' ' | b'\t' | b'\r' => Symbol::Blank,
+        b'0'..=b'9' => Symbol::Digit(b - b'0'),
+        b'A'..=b'F' => Symbol::Letter(b - b'A' + 10),
+        b'a'..=b'f' => Symbol::Letter(b - b'a' + 10),
+        _ => Symbol::Other,
     }
-    if b == 9 {
-        return Symbol::Blank;
-    }
-    if b == 13 {
-        return Symbol::Blank;
-    }
-    if b < 48 {
-        return Symbol::Other;
-    }
-    if b < 58 {
-        return Symbol::Digit(b - 48);
-    }
-    letter_of(b)
 }
 
 // ---- a byte at each place of a line
 
 // A digit more of a number of 32 bits.
+#[tactic(auto, unfolding(crate::specs::Lines::number_grown))]
 fn number_grown(n: u32, d: u8) -> Line
     ensures { result ≡ number_grown n d }
 {
-    let v = (n as u64) * 10 + (d as u64);
-    if v < 4294967296 {
-        Line::Number(v as u32)
-    } else {
-        Line::Malformed
+    match u32::try_from(u64::from(n) * 10 + u64::from(d)) {
+        Ok(v) => Line::Number(v),
+        Err(_) => Line::Malformed,
     }
 }
 
@@ -105,9 +84,8 @@ fn at_start(s: Symbol) -> Line
 {
     match s {
         Symbol::Blank => Line::Start,
-        Symbol::Digit(d) => Line::Number(d as u32),
-        Symbol::Letter(_) => Line::Malformed,
-        Symbol::Other => Line::Malformed,
+        Symbol::Digit(d) => Line::Number(u32::from(d)),
+        Symbol::Letter(_) | Symbol::Other => Line::Malformed,
     }
 }
 
@@ -117,15 +95,8 @@ fn at_number(n: u32, s: Symbol) -> Line
     match s {
         Symbol::Blank => Line::Gap(n),
         Symbol::Digit(d) => number_grown(n, d),
-        Symbol::Letter(_) => Line::Malformed,
-        Symbol::Other => Line::Malformed,
+        Symbol::Letter(_) | Symbol::Other => Line::Malformed,
     }
-}
-
-fn word_begun(n: u32, d: u8) -> Line
-    ensures { result ≡ word_begun n d }
-{
-    Line::Word(n, d as u32, 1)
 }
 
 fn at_gap(n: u32, s: Symbol) -> Line
@@ -133,34 +104,29 @@ fn at_gap(n: u32, s: Symbol) -> Line
 {
     match s {
         Symbol::Blank => Line::Gap(n),
-        Symbol::Digit(d) => word_begun(n, d),
-        Symbol::Letter(d) => word_begun(n, d),
+        Symbol::Digit(d) | Symbol::Letter(d) => Line::Word(n, u32::from(d), 1),
         Symbol::Other => Line::Malformed,
     }
 }
 
+#[tactic(auto, unfolding(crate::specs::Lines::word_grown))]
 fn word_grown(n: u32, w: u32, k: u8, d: u8) -> Line
     ensures { result ≡ word_grown n w k d }
 {
-    if k < 8 {
-        Line::Word(n, w % 268435456 * 16 + (d % 16) as u32, k + 1)
+    if k < DIGITS {
+        Line::Word(n, w % 0x1000_0000 * 16 + u32::from(d % 16), k + 1)
     } else {
         Line::Malformed
     }
 }
 
-fn event_of(n: u32, w: u32) -> u64
-    ensures { result ≡ event_of n w }
+// Behind the last digit of a word.
+#[tactic(auto, unfolding(crate::specs::Lines::word_ended))]
+fn word_ended(number: u32, word: u32, k: u8) -> Line
+    ensures { result ≡ word_ended number word k }
 {
-    (n as u64) * 4294967296 + (w as u64)
-}
-
-// Behind the last digit of a word, which has eight.
-fn word_ended(n: u32, w: u32, k: u8) -> Line
-    ensures { result ≡ word_ended n w k }
-{
-    if k == 8 {
-        Line::End(event_of(n, w))
+    if k == DIGITS {
+        Line::End(Event { number, word })
     } else {
         Line::Malformed
     }
@@ -171,20 +137,17 @@ fn at_word(n: u32, w: u32, k: u8, s: Symbol) -> Line
 {
     match s {
         Symbol::Blank => word_ended(n, w, k),
-        Symbol::Digit(d) => word_grown(n, w, k, d),
-        Symbol::Letter(d) => word_grown(n, w, k, d),
+        Symbol::Digit(d) | Symbol::Letter(d) => word_grown(n, w, k, d),
         Symbol::Other => Line::Malformed,
     }
 }
 
-fn at_end(e: u64, s: Symbol) -> Line
+fn at_end(e: Event, s: Symbol) -> Line
     ensures { result ≡ at_end e s }
 {
     match s {
         Symbol::Blank => Line::End(e),
-        Symbol::Digit(_) => Line::Malformed,
-        Symbol::Letter(_) => Line::Malformed,
-        Symbol::Other => Line::Malformed,
+        _ => Line::Malformed,
     }
 }
 
@@ -217,38 +180,26 @@ pub fn line_start() -> Reader
 pub fn next(r: Reader, b: u8) -> Reader
     ensures { result ≡ next_of r b }
 {
-    let line = r.line;
     if r.comment {
         return r;
     }
-    if b == 35 {
-        return Reader {
-            line,
-            comment: true,
-        };
+    if b == b'#' {
+        return Reader { comment: true, ..r };
     }
     Reader {
-        line: advanced(line, symbol_of(b)),
-        comment: false,
+        line: advanced(r.line, symbol_of(b)),
+        ..r
     }
 }
 
-// What a line means, at its end.
-pub fn meaning_of(line: Line) -> Meaning
+// What a line means, at its end: an event, or nothing where it is blank.
+pub fn meaning_of(line: Line) -> Result<Option<Event>, Malformed>
     ensures { result ≡ meaning_of line }
 {
     match line {
-        Line::Start => Meaning::Nothing,
-        Line::Number(_) => Meaning::Malformed,
-        Line::Gap(_) => Meaning::Malformed,
-        Line::Word(n, w, k) => {
-            if k == 8 {
-                Meaning::Event(event_of(n, w))
-            } else {
-                Meaning::Malformed
-            }
-        }
-        Line::End(e) => Meaning::Event(e),
-        Line::Malformed => Meaning::Malformed,
+        Line::Start => Ok(None),
+        Line::Word(number, word, DIGITS) => Ok(Some(Event { number, word })),
+        Line::End(e) => Ok(Some(e)),
+        Line::Number(_) | Line::Gap(_) | Line::Word(..) | Line::Malformed => Err(Malformed),
     }
 }

@@ -1,6 +1,6 @@
 -- A text in parts: a byte more, and blocks.
 -- Assumes nothing.
-use mathlib.Core.Path.{◌≡◌, refl, sym, ap, ◌∙◌}
+use mathlib.Core.Path.{◌≡◌, refl}
 use mathlib.Core.Bool.{Bool, true, false}
 use mathlib.Core.List.{List, [], ◌∷◌, ◌++◌}
 use Prim.Native.Nat.{ℕ, suc, ◌+◌, ◌<◌, ◌≤◌}
@@ -9,41 +9,35 @@ use native.Mathlib.Numerals.{add-one}
 use lib.ListN.{length, drop, get_or, drop_of_length-le}
 use lib.Seq.{drop-cons}
 use Rattle.firmware_event_lines.specs.declared.Reader.{Reader}
-use Rattle.firmware_event_lines.specs.declared.Meaning.TheVariants as meaning
-use Rattle.firmware_event_lines.specs.Lines.{line_start, next, meaning_of}
+use Rattle.std.specs.Prelude.{Result, Ok, Err}
+use Rattle.firmware_event_lines.specs.Lines.{nothing, line_start, next, meaning_of}
 use lib.Dec.{eqb}
 use Rattle.firmware_event_list.specs.declared.Checked.{Checked}
-use Rattle.firmware_event_list.specs.Lists.{is_something, checked_byte, checked_on, tells, behind, found_as, found_on}
+use Rattle.firmware_event_list.specs.declared.MalformedLine.{MalformedLine}
+use Rattle.firmware_event_list.specs.Lists.{is_something, checked_byte, on_checked, checked_on, tells, behind, found_as, found_on}
 
 -- ---- every line checked
 
--- a malformed line ends it
-pub check_stop : (c : Checked) (bs : List ℕ) → c.malformed ≡ true → c ≡ checked_on c bs
-unfolding checked_on
-check_stop c [] m = refl
-check_stop c (b ∷ bs) m = simp m
-
 module _ (c : Checked) (t : List ℕ) (i : ℕ) where
-  pub check_next : i < length t → c.malformed ≡ false → checked_on (checked_byte c.reader c.line (get_or t i 0)) (drop (i + 1) t) ≡ checked_on c (drop i t)
+  pub check_next : i < length t → checked_on c (drop i t) ≡ on_checked (checked_byte c (get_or t i 0)) (λ (d : Checked). checked_on d (drop (i + 1) t))
   unfolding checked_on
-  check_next h m = rw (add-one, drop-cons t i 0 h) (simp m)
+  check_next h = rw (add-one, drop-cons t i 0 h) refl
 
-  pub check_end : length t ≤ i → c ≡ checked_on c (drop i t)
+  pub check_end : length t ≤ i → checked_on c (drop i t) ≡ Ok c
   unfolding checked_on
   check_end h = rw (drop_of_length-le t {i = i} h) refl
 
 -- a text checked in two blocks
-block_step : (c : Checked) (b : ℕ) (xs ys : List ℕ) (m : Bool) → c.malformed ≡ m
-    → checked_on (checked_byte c.reader c.line b) (xs ++ ys) ≡ checked_on (checked_on (checked_byte c.reader c.line b) xs) ys
-    → checked_on c (b ∷ (xs ++ ys)) ≡ checked_on (checked_on c (b ∷ xs)) ys
-unfolding checked_on
-block_step c b xs ys true m ih = simp m (check_stop c ys m)
-block_step c b xs ys false m ih = simp m ih
+block_step : (x : Result Checked MalformedLine) (xs ys : List ℕ)
+    → ((c : Checked) → checked_on c (xs ++ ys) ≡ on_checked (checked_on c xs) (λ (d : Checked). checked_on d ys))
+    → on_checked x (λ (c : Checked). checked_on c (xs ++ ys)) ≡ on_checked (on_checked x (λ (c : Checked). checked_on c xs)) (λ (d : Checked). checked_on d ys)
+block_step (Ok c) xs ys ih = ih c
+block_step (Err e) xs ys ih = refl
 
-pub check_append : (c : Checked) (xs ys : List ℕ) → checked_on c (xs ++ ys) ≡ checked_on (checked_on c xs) ys
+pub check_append : (c : Checked) (xs ys : List ℕ) → checked_on c (xs ++ ys) ≡ on_checked (checked_on c xs) (λ (d : Checked). checked_on d ys)
 unfolding checked_on
 check_append c [] ys = refl
-check_append c (b ∷ xs) ys = block_step c b xs ys c.malformed refl (check_append (checked_byte c.reader c.line b) xs ys)
+check_append c (b ∷ xs) ys = block_step (checked_byte c b) xs ys (λ d. check_append d xs ys)
 
 -- ---- event by event
 
@@ -62,7 +56,7 @@ module _ (r : Reader) (t : List ℕ) (i : ℕ) (h : i < length t) where
   unfolding found_on
   found_something e m = rw (drop-cons t i 0 h) (simp (e, m))
 
-pub found_end_lem : (r : Reader) (t : List ℕ) (i : ℕ) → length t ≤ i → found_as r i meaning.Nothing ≡ found_on r i (drop i t)
+pub found_end_lem : (r : Reader) (t : List ℕ) (i : ℕ) → length t ≤ i → found_as r i nothing ≡ found_on r i (drop i t)
 unfolding found_on
 found_end_lem r t i h = rw (drop_of_length-le t {i = i} h) refl
 

@@ -1,22 +1,20 @@
 -- A list of events as text, byte by byte: a newline, 10, ends a line, and so does the end of the text.
-use Rattle.std.specs.Prelude.{ℕ, suc, ◌+◌, Bool, true, false, not, List, [], ◌∷◌, eqb, ltb}
+use Rattle.std.specs.Prelude.{ℕ, ◌+◌, Bool, true, false, not, List, [], ◌∷◌, None, Some, Result, Ok, Err, eqb, ltb}
 use Rattle.bits.specs.Byte.{pick}
 use Rattle.firmware_event_lines.specs.declared.Reader.{Reader}
-use Rattle.firmware_event_lines.specs.declared.Meaning.{Meaning}
-use Rattle.firmware_event_lines.specs.declared.Meaning.TheVariants as meaning
-use Rattle.firmware_event_lines.specs.Lines.{line_start, next, meaning_of}
+use Rattle.firmware_event_lines.specs.Lines.{Meaning, nothing, line_start, next, meaning_of}
 use Rattle.firmware_event_list.specs.declared.Checked.{Checked}
+use Rattle.firmware_event_list.specs.declared.MalformedLine.{MalformedLine}
 use Rattle.firmware_event_list.specs.declared.Found.{Found}
 
 abbrev pub is_malformed : Meaning → Bool
-is_malformed meaning.Nothing = false
-is_malformed (meaning.Event e) = false
-is_malformed meaning.Malformed = true
+is_malformed (Ok m) = false
+is_malformed (Err e) = true
 
 abbrev pub is_something : Meaning → Bool
-is_something meaning.Nothing = false
-is_something (meaning.Event e) = true
-is_something meaning.Malformed = true
+is_something (Ok None) = false
+is_something (Ok (Some e)) = true
+is_something (Err e) = true
 
 -- ---- every line checked
 
@@ -24,28 +22,37 @@ is_something meaning.Malformed = true
 unfoldable pub one_more : ℕ → ℕ
 one_more n = pick (ltb n 18446744073709551615) (n + 1) n
 
-abbrev pub checked : Reader → ℕ → Bool → Checked
-checked r n m = record { reader = r; line = n; malformed = m }
+abbrev pub checked : Reader → ℕ → Checked
+checked r n = record { reader = r; line = n }
 
 -- lines are counted from 1
 abbrev pub opened : Checked
-opened = checked line_start 1 false
+opened = checked line_start 1
+
+-- the error of a malformed line, by its number
+abbrev pub malformed_line : ℕ → Result Checked MalformedLine
+malformed_line n = Err (record { number = n })
 
 -- a line that ends is malformed, or the next one begins
-unfoldable pub line_ended : Reader → ℕ → Checked
-line_ended r n = pick (is_malformed (meaning_of r.line)) (checked r n true) (checked line_start (one_more n) false)
+unfoldable pub line_ended : Checked → Result Checked MalformedLine
+line_ended c = pick (is_malformed (meaning_of c.reader.line)) (malformed_line c.line) (Ok (checked line_start (one_more c.line)))
 
-unfoldable pub checked_byte : Reader → ℕ → ℕ → Checked
-checked_byte r n b = pick (eqb b 10) (line_ended r n) (checked (next r b) n false)
+unfoldable pub checked_byte : Checked → ℕ → Result Checked MalformedLine
+checked_byte c b = pick (eqb b 10) (line_ended c) (Ok (checked (next c.reader b) c.line))
+
+-- what follows where no line is malformed yet
+abbrev pub on_checked : Result Checked MalformedLine → (Checked → Result Checked MalformedLine) → Result Checked MalformedLine
+on_checked (Ok c) k = k c
+on_checked (Err e) k = Err e
 
 -- the bytes up to the end of the first malformed line, where it is told
-unfoldable pub checked_on : Checked → List ℕ → Checked
-checked_on c [] = c
-checked_on c (b ∷ bs) = pick c.malformed c (checked_on (checked_byte c.reader c.line b) bs)
+unfoldable pub checked_on : Checked → List ℕ → Result Checked MalformedLine
+checked_on c [] = Ok c
+checked_on c (b ∷ bs) = on_checked (checked_byte c b) (λ (d : Checked). checked_on d bs)
 
--- at the end of the text: every line is well formed, the last one too
+-- at the end of the text: its last line is well formed
 unfoldable pub ends_well : Checked → Bool
-ends_well c = pick c.malformed false (not (is_malformed (meaning_of c.reader.line)))
+ends_well c = not (is_malformed (meaning_of c.reader.line))
 
 -- ---- event by event
 
@@ -62,7 +69,7 @@ behind r b = pick (eqb b 10) line_start (next r b)
 
 -- from place i on, where the bytes begin: the first line that means something, and the place behind it
 unfoldable pub found_on : Reader → ℕ → List ℕ → Found
-found_on r i [] = found_as r i meaning.Nothing
+found_on r i [] = found_as r i nothing
 found_on r i (b ∷ bs) =
     pick (tells r b)
     (found_as line_start (i + 1) (meaning_of r.line))

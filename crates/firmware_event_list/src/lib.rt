@@ -2,16 +2,21 @@
 #![tactic(auto)]
 
 ghost use Rattle.std.specs.Prelude.{◌≡◌, drop};
-ghost use Rattle.firmware_event_list.specs.Lists.{is_malformed, is_something, one_more, opened as opened_of, line_ended, checked_byte, checked_on, ends_well, found_on};
+ghost use Rattle.firmware_event_list.specs.Lists.{is_something, one_more, opened as opened_of, line_ended, checked_byte, checked_on, ends_well, found_on};
 
-use firmware_event_lines::{Line, Meaning, Reader};
+use firmware_event_lines::{Event, Malformed, Reader};
 
-// The line that is being read, its number from 1, and whether it has ended and is malformed.
+// The line that is being read, and its number from 1.
 #[derive(Clone, Copy)]
 pub struct Checked {
     pub reader: Reader,
     pub line: u64,
-    pub malformed: bool,
+}
+
+// The error of a list: the number of its first malformed line.
+#[derive(Clone, Copy)]
+pub struct MalformedLine {
+    pub number: u64,
 }
 
 // The reader behind the end of a line or of a block, the place of the byte behind, and what the line means; nothing where the block ended first.
@@ -19,36 +24,10 @@ pub struct Checked {
 pub struct Found {
     pub reader: Reader,
     pub at: usize,
-    pub meaning: Meaning,
-}
-
-fn is_malformed(m: Meaning) -> bool
-    ensures { result ≡ is_malformed m }
-{
-    match m {
-        Meaning::Nothing => false,
-        Meaning::Event(_) => false,
-        Meaning::Malformed => true,
-    }
-}
-
-fn is_something(m: Meaning) -> bool
-    ensures { result ≡ is_something m }
-{
-    match m {
-        Meaning::Nothing => false,
-        Meaning::Event(_) => true,
-        Meaning::Malformed => true,
-    }
+    pub meaning: Result<Option<Event>, Malformed>,
 }
 
 // ---- every line checked
-
-fn one_more(n: u64) -> u64
-    ensures { result ≡ one_more n }
-{
-    if n < u64::MAX { n + 1 } else { n }
-}
 
 // Before the first byte.
 pub fn opened() -> Checked
@@ -57,93 +36,78 @@ pub fn opened() -> Checked
     Checked {
         reader: firmware_event_lines::line_start(),
         line: 1,
-        malformed: false,
     }
 }
 
-// The end of a line: the next one begins, unless it is malformed.
-fn line_ended(reader: Reader, number: u64) -> Checked
-    ensures { result ≡ line_ended reader number }
+// The end of a line, behind which the next one begins.
+#[tactic(auto, unfolding(crate::specs::Lists::line_ended, crate::specs::Lists::one_more))]
+fn line_ended(c: Checked) -> Result<Checked, MalformedLine>
+    ensures { result ≡ line_ended c }
 {
-    let line = reader.line;
-    if is_malformed(firmware_event_lines::meaning_of(line)) {
-        Checked {
-            reader,
-            line: number,
-            malformed: true,
-        }
-    } else {
-        Checked {
+    match firmware_event_lines::meaning_of(c.reader.line) {
+        Ok(_) => Ok(Checked {
             reader: firmware_event_lines::line_start(),
-            line: one_more(number),
-            malformed: false,
-        }
+            line: c.line.saturating_add(1),
+        }),
+        Err(_) => Err(MalformedLine { number: c.line }),
     }
 }
 
-fn checked_byte(reader: Reader, number: u64, b: u8) -> Checked
-    ensures { result ≡ checked_byte reader number b }
+#[tactic(auto, unfolding(crate::specs::Lists::checked_byte))]
+fn checked_byte(c: Checked, b: u8) -> Result<Checked, MalformedLine>
+    ensures { result ≡ checked_byte c b }
 {
-    if b == 10 {
-        line_ended(reader, number)
-    } else {
-        Checked {
-            reader: firmware_event_lines::next(reader, b),
-            line: number,
-            malformed: false,
-        }
+    if b == b'\n' {
+        return line_ended(c);
     }
+    Ok(Checked {
+        reader: firmware_event_lines::next(c.reader, b),
+        ..c
+    })
 }
 
-// A block more, until a line is malformed.
-pub fn check(start: Checked, bytes: &[u8]) -> Checked
+// A block more.
+pub fn check(start: Checked, bytes: &[u8]) -> Result<Checked, MalformedLine>
     ensures { result ≡ checked_on start bytes.now }
 {
-    let mut at = start;
-    let mut i = 0;
-    while i < bytes.len() {
-        if at.malformed {
-            return at;
-        }
-        let reader = at.reader;
-        at = checked_byte(reader, at.line, bytes[i]);
-        i += 1;
+    let mut checked = start;
+    for &b in bytes {
+        checked = checked_byte(checked, b)?;
     }
-    at
+    Ok(checked)
 }
 
-// Whether every line is well formed, at the end of the text, which ends the last one.
+// Whether the last line is well formed, at the end of the text, which ends it.
+#[tactic(auto, unfolding(crate::specs::Lists::ends_well))]
 pub fn is_well_formed(c: Checked) -> bool
     ensures { result ≡ ends_well c }
 {
-    let reader = c.reader;
-    let line = reader.line;
-    if c.malformed {
-        false
-    } else {
-        !is_malformed(firmware_event_lines::meaning_of(line))
-    }
+    firmware_event_lines::meaning_of(c.reader.line).is_ok()
 }
 
 // ---- event by event
+
+fn is_something(m: Result<Option<Event>, Malformed>) -> bool
+    ensures { result ≡ is_something m }
+{
+    !matches!(m, Ok(None))
+}
 
 // Reads on in a block from a place, up to the end of the next line that means an event or is malformed.
 pub fn next_event(start: Reader, bytes: &[u8], from: usize) -> Found
     ensures { result ≡ found_on start from (drop from bytes.now) }
 {
     let mut reader = start;
-    let mut i = from;
-    while i < bytes.len() {
+    for i in from..bytes.len() {
         let b = bytes[i];
-        i += 1;
-        if b == 10 {
-            let line = reader.line;
-            let meaning = firmware_event_lines::meaning_of(line);
+        if b == b'\n' {
+            let meaning = firmware_event_lines::meaning_of(reader.line);
             reader = firmware_event_lines::line_start();
             if is_something(meaning) {
+                let at = i + 1;
                 return Found {
                     reader,
-                    at: i,
+                    at,
                     meaning,
                 };
             }
@@ -153,7 +117,7 @@ pub fn next_event(start: Reader, bytes: &[u8], from: usize) -> Found
     }
     Found {
         reader,
-        at: i,
-        meaning: Meaning::Nothing,
+        at: from.max(bytes.len()),
+        meaning: Ok(None),
     }
 }

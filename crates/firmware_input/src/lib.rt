@@ -2,11 +2,11 @@
 // standard error, and an `Err` is the status that the program then ends with. No contract can say what is read.
 #![tactic(auto)]
 
-use firmware_event_lines::{Meaning, Reader};
-use firmware_event_list::{Checked, Found};
+use firmware_event_lines::{Event, Malformed, Reader};
+use firmware_event_list::{Checked, Found, MalformedLine};
 use std::env::FillError;
 use std::fs::File;
-use std::io::{Error, ErrorKind, Print, Read, Seek, SeekFrom};
+use std::io::{Error, ErrorKind, Print, Read, Seek};
 use std::process::ExitCode;
 use std::rt::{Env, Files};
 use std::{io, str};
@@ -22,27 +22,25 @@ pub struct Place {
     pub failed: bool,
 }
 
-// What is found in a list, the place behind it, and whether it was the end.
+// What is found in a list, nothing or an event, the place behind it, and whether it was the end.
 #[derive(Clone, Copy)]
 pub struct Finding {
-    pub meaning: Meaning,
+    pub event: Option<Event>,
     pub place: Place,
     pub ended: bool,
 }
 
-// A block checked, whether another may follow, and why a read failed.
+// Why a list cannot be used: a line, or a read that failed.
 #[derive(Clone, Copy)]
-struct Turn {
-    checked: Checked,
-    more: bool,
-    error: Option<Error>,
+enum ListError {
+    Line(MalformedLine),
+    Read(Error),
 }
 
-// A number of bytes, and why a read failed.
-#[derive(Clone, Copy)]
-struct Rest {
-    count: u64,
-    error: Option<Error>,
+impl From<MalformedLine> for ListError {
+    fn from(e: MalformedLine) -> Self {
+        ListError::Line(e)
+    }
 }
 
 // No argument is longer.
@@ -86,10 +84,7 @@ fn count_of(text: &[u8]) -> Option<u32> {
 pub fn take_count<E: Env, P: Print>(rt: &E, err: &P, at: usize) -> Result<u32, ExitCode> {
     let mut room = [0u8; MOST];
     let text = argument(rt, at, &mut room);
-    match count_of(text) {
-        Some(count) => Ok(count),
-        None => Err(tell(err, text, b": not a decimal number up to 4294967295\n")),
-    }
+    count_of(text).ok_or_else(|| tell(err, text, b": not a decimal number up to 4294967295\n"))
 }
 
 // ---- the image
@@ -103,21 +98,21 @@ fn open<R: Files, P: Print>(rt: &R, err: &P, name: &[u8]) -> Result<R::File, Exi
     opened.map_err(|e| input::fail(err, name, &e))
 }
 
-// The bytes behind an image.
-fn count_rest<R: Read>(from: &mut R) -> Rest {
-    let mut count = 0;
+// How many bytes stand behind an image.
+fn count_rest<R: Read>(from: &mut R) -> io::Result<u64> {
+    let mut count = 0u64;
     let mut block = [0u8; 65536];
     for _ in 0..u64::MAX {
         let read = input::read_block(from, &mut block);
-        count = std::num::wrapping_add_u64(count, read.count as u64);
-        if (read.count < 65536) | read.error.is_some() {
-            return Rest {
-                count,
-                error: read.error,
-            };
+        if let Some(e) = read.error {
+            return Err(e);
+        }
+        count = count.wrapping_add(read.count as u64);
+        if read.count < block.len() {
+            break;
         }
     }
-    Rest { count, error: None }
+    Ok(count)
 }
 
 fn tell_length<P: Print>(err: &P, name: &[u8], n: u64) -> io::Result<()> {
@@ -133,12 +128,12 @@ fn read_image<R: Read, P: Print>(
     rom: &mut [u8; 24576],
 ) -> Result<(), ExitCode> {
     let read = input::read_block(from, rom);
-    let rest = count_rest(from);
-    if let Some(e) = rest.error.or(read.error) {
+    let rest = count_rest(from).map_err(|e| input::fail(err, name, &e))?;
+    if let Some(e) = read.error {
         return Err(input::fail(err, name, &e));
     }
-    let n = std::num::wrapping_add_u64(read.count as u64, rest.count);
-    if n == 24576 {
+    let n = rest.wrapping_add(read.count as u64);
+    if n == rom.len() as u64 {
         return Ok(());
     }
     Err(input::status(tell_length(err, name, n)))
@@ -159,41 +154,38 @@ pub fn take_image<R: Env + Files, P: Print>(
 
 // ---- the list, checked before anything runs
 
-fn check_block<R: Read>(start: Checked, from: &mut R) -> Turn {
+// Every line; the end of the file ends its last line. Nothing says that a file ends, and no file uses up the turns of the loop.
+fn check_lines<R: Read>(from: &mut R) -> Result<(), ListError> {
+    let mut checked = firmware_event_list::opened();
     let mut block = [0u8; 65536];
-    let read = input::read_block(from, &mut block);
-    let n = read.count;
-    let checked = firmware_event_list::check(start, &block[..n]);
-    Turn {
-        checked,
-        more: (n == 65536) & !checked.malformed,
-        error: read.error,
-    }
-}
-
-// Every line; the end of the file ends its last line.
-fn check_lines<R: Read>(from: &mut R) -> Turn {
-    let mut turn = Turn {
-        checked: firmware_event_list::opened(),
-        more: true,
-        error: None,
-    };
     for _ in 0..u64::MAX {
-        let checked = turn.checked;
-        turn = check_block(checked, from);
-        if !turn.more {
-            return turn;
+        let read = input::read_block(from, &mut block);
+        let n = read.count;
+        let lines = firmware_event_list::check(checked, &block[..n]);
+        if let Some(e) = read.error {
+            return Err(ListError::Read(e));
+        }
+        checked = lines?;
+        if n < block.len() {
+            break;
         }
     }
-    turn
+    end(checked)
+}
+
+// The last line, which the end of the file ends.
+fn end(checked: Checked) -> Result<(), ListError> {
+    if firmware_event_list::is_well_formed(checked) {
+        return Ok(());
+    }
+    Err(ListError::Line(MalformedLine {
+        number: checked.line,
+    }))
 }
 
 // To the beginning of a file; where that fails it is told.
 fn rewind<F: Seek, P: Print>(file: &mut F, err: &P, name: &[u8]) -> Result<(), ExitCode> {
-    match file.seek(SeekFrom::Start(0)) {
-        Ok(_) => Ok(()),
-        Err(e) => Err(input::fail(err, name, &e)),
-    }
+    file.rewind().map_err(|e| input::fail(err, name, &e))
 }
 
 fn tell_line<P: Print>(err: &P, name: &[u8], line: u64) -> io::Result<()> {
@@ -208,15 +200,11 @@ fn check_list<F: Read + Seek, P: Print>(
     name: &[u8],
 ) -> Result<(), ExitCode> {
     rewind(file, err, name)?;
-    let turn = check_lines(file);
-    if let Some(e) = turn.error {
-        return Err(input::fail(err, name, &e));
+    match check_lines(file) {
+        Ok(()) => rewind(file, err, name),
+        Err(ListError::Read(e)) => Err(input::fail(err, name, &e)),
+        Err(ListError::Line(line)) => Err(input::status(tell_line(err, name, line.number))),
     }
-    let checked = turn.checked;
-    if !firmware_event_list::is_well_formed(checked) {
-        return Err(input::status(tell_line(err, name, checked.line)));
-    }
-    rewind(file, err, name)
 }
 
 // Opens the list that argument `at` names, where every line is well formed.
@@ -241,26 +229,19 @@ pub fn tell_changed<E: Env, P: Print>(rt: &E, err: &P, at: usize) -> ExitCode {
     tell(err, name, b": not the same when it was read again\n")
 }
 
-// The next block of a list.
-fn read_block<R: Read>(from: &mut R, block: &mut [u8; 65536], reader: Reader) -> Place {
-    let filled = input::fill(from, block);
-    let n = filled.count;
-    Place {
-        reader,
-        at: 0,
-        count: n,
-        last: n < 65536,
-        failed: filled.failed,
-    }
-}
-
 // The place to read at: where a block is read to its end, the start of the next one.
 fn refilled<R: Read>(from: &mut R, block: &mut [u8; 65536], place: Place) -> Place {
-    if (place.at < place.count) | place.last | place.failed {
+    if place.at < place.count || place.last || place.failed {
         return place;
     }
-    let reader = place.reader;
-    read_block(from, block, reader)
+    let filled = input::fill(from, block);
+    Place {
+        reader: place.reader,
+        at: 0,
+        count: filled.count,
+        last: filled.count < block.len(),
+        failed: filled.failed,
+    }
 }
 
 // The next event among the first n bytes of a block, or in all of it.
@@ -272,35 +253,31 @@ fn next_event(reader: Reader, block: &[u8], n: usize, at: usize) -> Found {
 }
 
 // Reads on up to the next event or the end of a block. Behind a failed read stands a malformed line; the end of the file ends its last line.
-pub fn find<R: Read>(from: &mut R, block: &mut [u8; 65536], start: Place) -> Finding {
-    let mut place = refilled(from, block, start);
-    let at = place.at;
-    let n = place.count;
-    let reader = place.reader;
-    if at < n {
-        let found = next_event(reader, block, n, at);
-        let meaning = found.meaning;
-        let behind = found.reader;
-        place.reader = behind;
-        place.at = found.at;
-        return Finding {
-            meaning,
-            place,
+pub fn find<R: Read>(
+    from: &mut R,
+    block: &mut [u8; 65536],
+    start: Place,
+) -> Result<Finding, Malformed> {
+    let place = refilled(from, block, start);
+    if place.at < place.count {
+        let found = next_event(place.reader, block, place.count, place.at);
+        return Ok(Finding {
+            event: found.meaning?,
+            place: Place {
+                reader: found.reader,
+                at: found.at,
+                ..place
+            },
             ended: false,
-        };
+        });
     }
     if place.failed {
-        return Finding {
-            meaning: Meaning::Malformed,
-            place,
-            ended: true,
-        };
+        return Err(Malformed);
     }
-    let found = firmware_event_list::next_event(reader, b"\n", 0);
-    let meaning = found.meaning;
-    Finding {
-        meaning,
+    let found = firmware_event_list::next_event(place.reader, b"\n", 0);
+    Ok(Finding {
+        event: found.meaning?,
         place,
         ended: true,
-    }
+    })
 }

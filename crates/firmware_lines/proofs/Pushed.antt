@@ -1,7 +1,7 @@
 -- Bit 5 of a pushed P is set.
 -- Assumes nothing.
-use Prim.Native.Nat.{ℕ, ◌≤◌}
-use mathlib.Core.Bool.{Bool, false}
+use Prim.Native.Nat.{◌≤◌}
+use mathlib.Core.Bool.{false}
 use native.Mathlib.Omega.{arith}
 use Rattle.cpu_arithmetic.specs.declared.Flags.{Flags}
 use Rattle.cpu_operations.specs.Operations.{pushed_p}

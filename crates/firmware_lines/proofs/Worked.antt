@@ -4,7 +4,6 @@ use mathlib.Core.Bool.{false}
 use mathlib.Core.Path.{◌≡◌, refl}
 use Rattle.hex_digits.specs.Hex.{hex_line}
 use Rattle.cpu_arithmetic.specs.declared.Flags.{Flags}
-use Rattle.cpu_operations.specs.declared.Cpu.{Cpu}
 use Rattle.cpu_operations.specs.Operations.{pushed_p}
 use Rattle.firmware_lines.specs.Lines.{register_line, instruction_text, idle_text, event_text}
 use Rattle.firmware_lines.specs.Worked.{codes, all}

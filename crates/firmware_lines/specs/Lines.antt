@@ -1,9 +1,13 @@
 -- What is printed of a firmware run, as bytes; hex digits are in upper case.
-use Rattle.std.specs.Prelude.{ℕ, ◌-◌, ◌/◌, ◌%◌, false, List, [], ◌∷◌, ◌++◌, take}
+use Rattle.std.specs.Prelude.{ℕ, ◌+◌, ◌-◌, ◌/◌, ◌%◌, false, List, [], ◌∷◌, ◌++◌, take, set}
 use Rattle.hex_digits.specs.Hex.{hex_digit, hex_line}
 use Rattle.cpu_arithmetic.specs.declared.Flags.{Flags}
 use Rattle.cpu_operations.specs.declared.Cpu.{Cpu}
 use Rattle.cpu_operations.specs.Operations.{pushed_p}
+
+-- a line with the two digits of a byte at a place
+abbrev pub with_byte : List ℕ → ℕ → ℕ → List ℕ
+with_byte line i b = set (set line i (hex_digit (b / 16))) (i + 1) (hex_digit (b % 16))
 
 -- P as it would be pushed by an interrupt, without bit 5; bit 4, B, is then 0
 abbrev pub shown_p : Flags → ℕ

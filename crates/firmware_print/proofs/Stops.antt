@@ -7,12 +7,11 @@ use mathlib.Core.List.{List}
 use native.Mathlib.Omega.{arith}
 use lib.Dec.{eqb, ltb}
 use borrow.Author.Tests.{ltb-true, ltb-false, le-ltb}
-use Rattle.bits.specs.Byte.{pick}
 use Rattle.bits.proofs.Finite.{both}
 use Rattle.firmware_trace.specs.declared.Run.{Run}
 use Rattle.firmware_trace.specs.Trace.{goes_on}
 use Rattle.firmware_print.specs.Marked.{marked}
-use Rattle.firmware_print.specs.Taken.{Proceeded, least_of}
+use Rattle.firmware_print.specs.Taken.{Proceeded}
 
 pub never : {A : Type 0} (b : Bool) → b ≡ true → b ≡ false → A
 never b t f = absurd (true≢false (sym t ∙ f))
@@ -45,10 +44,3 @@ marked_kept last r run h g = h ∙ ap (λ (x : Run). marked x last.printed) g
 pub nothing_done : (rom : List ℕ) (traced : Bool) (to : ℕ) (run : Run) (ram : List ℕ) (r : Run) (left : List ℕ) → Proceeded rom traced to run ram r left
     → goes_on run.number run.printed run.next to ≡ false → (r ≡ run) × (left ≡ ram)
 nothing_done rom traced to run ram r left p h = rw h at p
-
-least_by : (a b : ℕ) (t : Bool) → ltb a b ≡ t → pick t a b ≤ a
-least_by a b true h = omega arith
-least_by a b false h = ltb-false a b h
-
-pub least_le : (a b : ℕ) → least_of a b ≤ a
-least_le a b = least_by a b (ltb a b) refl

@@ -1,12 +1,10 @@
 -- What the instructions before an item of a list, and the item, leave of a run and of RAM. Whether lines are printed comes from outside and is
 -- free; all else is what the functions of a run come to.
-use Rattle.std.specs.Prelude.{ℕ, ◌+◌, ◌-◌, ◌/◌, ◌%◌, ◌<◌, ◌≤◌, ◌≡◌, Bool, true, false, ◌&&◌, List, eqb, ltb}
-use Rattle.bits.specs.Byte.{pick}
+use Rattle.std.specs.Prelude.{ℕ, ◌+◌, ◌-◌, ◌<◌, ◌≤◌, ◌≡◌, min, Bool, true, false, ◌&&◌, List, Option, None, Some, eqb}
+use Rattle.firmware_event_lines.specs.declared.Event.{Event}
 use Rattle.firmware_trace.specs.declared.Run.{Run}
 use Rattle.firmware_trace.specs.Trace.{goes_on, ran_on, ram_on, given_to}
 use Rattle.firmware_print.specs.declared.Asked.{Asked}
-use Rattle.firmware_print.specs.declared.Item.{Item}
-use Rattle.firmware_print.specs.declared.Item.TheVariants.{Event, End}
 use Rattle.firmware_print.specs.Marked.{marked}
 
 -- ---- instructions with no event between
@@ -44,12 +42,9 @@ Proceeded rom traced to run ram r left = ProceededBy (goes_on run.number run.pri
 -- ---- an item
 
 -- the number of the instruction that it comes before; every instruction comes before the end
-abbrev pub number_before : Item → ℕ
-number_before (Event e) = e / 4294967296
-number_before End = 4294967295
-
-abbrev pub least_of : ℕ → ℕ → ℕ
-least_of a b = pick (ltb a b) a b
+abbrev pub number_before : Option Event → ℕ
+number_before (Some e) = e.number
+number_before None = 4294967295
 
 -- an event is given where another instruction may follow
 abbrev pub GivenBy : Bool → List ℕ → Run → ℕ → Run → Type 0
@@ -57,12 +52,12 @@ GivenBy true rom run w r = r ≡ marked (given_to rom run w) r.printed
 GivenBy false rom run w r = r ≡ run
 
 -- at the end the last line is printed
-abbrev pub ItemTaken : List ℕ → ℕ → Item → Run → Run → Type 0
-ItemTaken rom count (Event e) run r = GivenBy (goes_on run.number run.printed run.next count) rom run (e % 4294967296) r
-ItemTaken rom count End run r = r ≡ marked run r.printed
+abbrev pub ItemTaken : List ℕ → ℕ → Option Event → Run → Run → Type 0
+ItemTaken rom count (Some e) run r = GivenBy (goes_on run.number run.printed run.next count) rom run e.word r
+ItemTaken rom count None run r = r ≡ marked run r.printed
 
 -- the instructions before the item leave `before` and RAM; then the item is taken
-pub record Taken (rom : List ℕ) (asked : Asked) (item : Item) (run : Run) (ram : List ℕ) (r : Run) (left : List ℕ) : Type 0 where
+pub record Taken (rom : List ℕ) (asked : Asked) (item : Option Event) (run : Run) (ram : List ℕ) (r : Run) (left : List ℕ) : Type 0 where
   pub before : Run
-  pub proceeded : Proceeded rom asked.traced (least_of asked.count (number_before item)) run ram before left
+  pub proceeded : Proceeded rom asked.traced (min asked.count (number_before item)) run ram before left
   pub taken : ItemTaken rom asked.count item before r

@@ -6,10 +6,11 @@
 ghost use Rattle.std.specs.Prelude.{◌≡◌, false};
 ghost use Rattle.firmware_trace.specs.Trace.{goes_on, given_to};
 ghost use Rattle.firmware_print.specs.Marked.{marked};
-ghost use Rattle.firmware_print.specs.Taken.{is_followed, TracedTo, Proceeded, number_before, least_of, Taken};
+ghost use Rattle.firmware_print.specs.Taken.{is_followed, TracedTo, Proceeded, number_before, Taken};
 
 use cpu_memory::Loaded;
 use cpu_operations::Cpu;
+use firmware_event_lines::Event;
 use firmware_trace::{Fetched, Run};
 use std::io::{Error, Print};
 
@@ -18,13 +19,6 @@ use std::io::{Error, Print};
 pub struct Asked {
     pub count: u32,
     pub traced: bool,
-}
-
-// What a list has next: an event, with the number of its instruction in bits 63..32 and its word below, or its end.
-#[derive(Clone, Copy)]
-pub enum Item {
-    Event(u64),
-    End,
 }
 
 // Where the lines go, and why the last write that failed did; none where all is written.
@@ -53,18 +47,17 @@ fn print_number<P: Print>(out: &mut Output<P>, n: u64) -> bool {
 }
 
 fn print_registers<P: Print>(out: &mut Output<P>, cpu: Cpu) -> bool {
-    let line = firmware_lines::register_line(cpu);
-    print(out, &line)
+    print(out, &firmware_lines::register_line(cpu))
 }
 
 fn print_event<P: Print>(out: &mut Output<P>, next: u32, word: u32, answer: u32) -> bool {
     let text = firmware_lines::event_text(word, answer);
-    print_number(out, next as u64) & print(out, &text)
+    print_number(out, u64::from(next)) & print(out, &text)
 }
 
 // The number of an instruction, a text, and the registers.
 fn print_line<P: Print>(out: &mut Output<P>, next: u32, text: &[u8], cpu: Cpu) -> bool {
-    print_number(out, next as u64) & print(out, text) & print_registers(out, cpu)
+    print_number(out, u64::from(next)) & print(out, text) & print_registers(out, cpu)
 }
 
 // The line of an instruction that was done: from where RESET is low it has no opcode.
@@ -99,16 +92,8 @@ fn print_turn<P: Print>(
 ) -> bool {
     let entered = fetched.cpu;
     let opcode = fetched.opcode;
-    let told = if fetched.taken {
-        print_line(out, next, b" interrupt ", entered)
-    } else {
-        true
-    };
-    let shown = if number == 0 {
-        print_done(out, next, entered.pc, fetched.high, opcode, after)
-    } else {
-        true
-    };
+    let told = !fetched.taken || print_line(out, next, b" interrupt ", entered);
+    let shown = number != 0 || print_done(out, next, entered.pc, fetched.high, opcode, after);
     told & shown
 }
 
@@ -122,16 +107,15 @@ fn print_given<P: Print>(
     if traced {
         print_event(out, next, word, answer)
     } else {
-        let line = hex_digits::hex_line(answer);
-        print(out, &line)
+        print(out, &hex_digits::hex_line(answer))
     }
 }
 
 fn print_end<P: Print>(out: &mut Output<P>, cpu: Cpu, number: u8, next: u32, given: u64) -> bool {
     let counts = print(out, b"number ")
-        & print_number(out, number as u64)
+        & print_number(out, u64::from(number))
         & print(out, b" counted ")
-        & print_number(out, next as u64)
+        & print_number(out, u64::from(next))
         & print(out, b" given ")
         & print_number(out, given);
     counts & print(out, b" ") & print_registers(out, cpu)
@@ -142,7 +126,7 @@ fn print_end<P: Print>(out: &mut Output<P>, cpu: Cpu, number: u8, next: u32, giv
 fn is_followed(number: u8, printed: bool) -> bool
     ensures { result ≡ is_followed number printed }
 {
-    (number == 0) & printed
+    number == 0 && printed
 }
 
 // Some instructions, each with its lines.
@@ -156,16 +140,12 @@ fn trace_on<P: Print>(
     ensures { TracedTo rom.now instructions start ram.old result ram.new }
 {
     let mut run = start;
-    let mut i = 0;
-    while i < instructions {
+    for _ in 0..instructions {
         let next = run.next;
         let fetched = firmware_trace::fetch(run, ram, rom);
         run = firmware_trace::run_on(run, ram, rom, 1);
-        let cpu = run.cpu;
-        let printed = print_turn(out, next, fetched, run.number, cpu);
-        run.printed = printed;
-        i += 1;
-        if !is_followed(run.number, printed) {
+        run.printed = print_turn(out, next, fetched, run.number, run.cpu);
+        if !is_followed(run.number, run.printed) {
             return run;
         }
     }
@@ -198,26 +178,18 @@ fn proceed<P: Print>(
 fn give<P: Print>(out: &mut Output<P>, run: Run, rom: &[u8], traced: bool, word: u32) -> Run
     ensures { result ≡ marked (given_to rom.now run word) result.printed }
 {
-    let mut after = firmware_trace::give(run, rom, word);
-    let printed = print_given(out, traced, after.next, word, after.answer);
-    after.printed = printed;
-    after
-}
-
-fn least(a: u32, b: u32) -> u32
-    ensures { result ≡ least_of a b }
-{
-    if a < b { a } else { b }
+    let after = firmware_trace::give(run, rom, word);
+    Run {
+        printed: print_given(out, traced, after.next, word, after.answer),
+        ..after
+    }
 }
 
 // The number of the instruction that an item of a list comes before: every instruction comes before the end.
-fn number_of(item: Item) -> u32
+fn number_of(item: Option<Event>) -> u32
     ensures { result ≡ number_before item }
 {
-    match item {
-        Item::Event(e) => (e / 4294967296) as u32,
-        Item::End => u32::MAX,
-    }
+    item.map_or(u32::MAX, |e| e.number)
 }
 
 // The last line, where all before it is printed.
@@ -227,14 +199,13 @@ fn finish<P: Print>(out: &mut Output<P>, run: Run) -> Run
     if !run.printed {
         return run;
     }
-    let cpu = run.cpu;
-    let mut after = run;
-    let printed = print_end(out, cpu, run.number, run.next, run.given);
-    after.printed = printed;
-    after
+    Run {
+        printed: print_end(out, run.cpu, run.number, run.next, run.given),
+        ..run
+    }
 }
 
-// The instructions before an item of a list; then an event is given where another instruction follows, and at the end the last line is printed.
+// The instructions before an item of a list, an event or `None` for its end; then an event is given where another instruction follows, and at the end the last line is printed.
 // Where no instruction may follow, as behind a refused one, nothing is done, and only whether all is printed can change.
 pub fn take<P: Print>(
     out: &mut Output<P>,
@@ -242,7 +213,7 @@ pub fn take<P: Print>(
     ram: &mut [u8; 256],
     rom: &[u8],
     asked: Asked,
-    item: Item,
+    item: Option<Event>,
 ) -> Run
     ensures { (goes_on run.number run.printed run.next asked.count ≡ false → (result ≡ marked run result.printed) × (ram.new ≡ ram.old))
         × Taken rom.now asked item run ram.old result ram.new }
@@ -253,15 +224,15 @@ pub fn take<P: Print>(
         ram,
         rom,
         asked.traced,
-        least(asked.count, number_of(item)),
+        asked.count.min(number_of(item)),
     );
     match item {
-        Item::Event(e) => {
+        Some(e) => {
             if firmware_trace::goes_on(r.number, r.printed, r.next, asked.count) {
-                return give(out, r, rom, asked.traced, (e % 4294967296) as u32);
+                return give(out, r, rom, asked.traced, e.word);
             }
             r
         }
-        Item::End => finish(out, r),
+        None => finish(out, r),
     }
 }

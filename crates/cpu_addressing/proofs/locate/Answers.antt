@@ -63,15 +63,15 @@ relative_at-requires c = search rules
 
 pub returns-in-Implied : goal.returns-in-Implied
 unfolding locate
-returns-in-Implied c = says _ _ (simp (run_then, run_read, run_done, run_undocumented, c.in-Implied.is, c.ahead-b.ensures, c.ahead-a.ensures))
+returns-in-Implied c = says _ _ (simp (run_then, run_read, run_done, run_undocumented, c.in-Implied.is, c.uncrossed.ensures, c.ahead-b.ensures, c.ahead-a.ensures))
 
 pub returns-in-Accumulator : goal.returns-in-Accumulator
 unfolding locate
-returns-in-Accumulator c = says _ _ (simp (run_then, run_read, run_done, run_undocumented, c.in-Accumulator.is, c.ahead-b.ensures, c.ahead-a.ensures))
+returns-in-Accumulator c = says _ _ (simp (run_then, run_read, run_done, run_undocumented, c.in-Accumulator.is, c.uncrossed-in-Accumulator.ensures, c.ahead-b.ensures, c.ahead-a.ensures))
 
 pub returns-in-Immediate : goal.returns-in-Immediate
 unfolding locate
-returns-in-Immediate c = says _ _ (simp (run_then, run_read, run_done, run_undocumented, c.in-Immediate.is, c.ahead-b.ensures, c.ahead-a.ensures))
+returns-in-Immediate c = says _ _ (simp (run_then, run_read, run_done, run_undocumented, c.in-Immediate.is, c.uncrossed-in-Immediate.ensures, c.ahead-b.ensures, c.ahead-a.ensures))
 
 pub returns-in-ZeroPage : goal.returns-in-ZeroPage
 unfolding locate

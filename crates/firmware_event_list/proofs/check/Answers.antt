@@ -1,35 +1,35 @@
--- `firmware_event_list::check` meets its contract: what is left of the block, from here, comes to what the whole comes to.
+-- `firmware_event_list::check` meets its contract.
 -- Assumes nothing.
-use mathlib.Core.Path.{refl, ap, ◌∙◌}
-use Prim.Native.Nat.{◌+◌, ◌-◌}
-use native.Mathlib.Omega.{arith}
+use mathlib.Core.Path.{sym, ap, ◌∙◌}
+use Prim.Native.Nat.{◌+◌}
 use borrow.Author.Rules.{rules}
 use lib.ListN.{drop}
+use Rattle.std.specs.Prelude.{Result}
+use Rattle.std.proofs.lemmas.Result.{err_from_is_err_and}
 use Rattle.firmware_event_list.specs.declared.Checked.{Checked}
-use Rattle.firmware_event_list.specs.Lists.{checked_on}
-use Rattle.firmware_event_list.proofs.Reading.{check_next, check_stop, check_end}
+use Rattle.firmware_event_list.specs.declared.MalformedLine.{MalformedLine}
+use Rattle.firmware_event_list.specs.Lists.{on_checked, checked_on}
+use Rattle.firmware_event_list.proofs.Reading.{check_next, check_end}
 use Rattle.firmware_event_list.proofs.check.Goals as goal
 
-pub loop-i-init : goal.loop-i-init
-loop-i-init c = (search rules, refl)
+pub returns-in_err-checked : goal.returns-in_err-checked
+returns-in_err-checked c =
+    let bytes = c.args.bytes.now in
+    let rest = λ (d : Checked). checked_on d (drop (c.loop-b.b-index + 1) bytes) in
+    let p = err_from_is_err_and c.from_residual.result c.from_residual.ensures.1 in
+    rw
+    (p.1, p.2)
+    (ap (λ (x : Result Checked MalformedLine). on_checked x rest) (sym c.in_err-checked.was ∙ c.checked_byte.ensures)
+    ∙ sym (check_next c.loop-b.checked bytes c.loop-b.b-index (search rules))
+    ∙ c.loop-b.invariant)
 
-pub returns-then-at : goal.returns-then-at
-returns-then-at c = check_stop _ _ c.if-at.true ∙ c.loop-i.invariant.1
-
-pub overflow_add-i : goal.overflow_add-i
-overflow_add-i c = omega arith
-
-pub loop-i-smaller : goal.loop-i-smaller
-loop-i-smaller c = omega arith
-
-pub loop-i-preserved : goal.loop-i-preserved
-loop-i-preserved c =
-    let bytes = c.args.bytes.now in (
-      omega arith,
-      ap (λ (k : Checked). checked_on k (drop (c.loop-i.i + 1) bytes)) c.checked_byte-at.ensures
-          ∙ check_next c.loop-i.at bytes c.loop-i.i (search rules) c.if-at.false
-          ∙ c.loop-i.invariant.1,
-    )
+pub loop-b-preserved : goal.loop-b-preserved
+loop-b-preserved c =
+    let bytes = c.args.bytes.now in
+    let rest = λ (d : Checked). checked_on d (drop (c.loop-b.b-index + 1) bytes) in
+    ap (λ (x : Result Checked MalformedLine). on_checked x rest) (sym c.in_ok-checked.was ∙ c.checked_byte.ensures)
+    ∙ sym (check_next c.loop-b.checked bytes c.loop-b.b-index (search rules))
+    ∙ c.loop-b.invariant
 
 pub returns : goal.returns
-returns c = check_end _ _ c.loop-i.i (search rules) ∙ c.loop-i.invariant.1
+returns c = sym (check_end c.loop-b.checked _ c.loop-b.b-index (search rules)) ∙ c.loop-b.invariant

@@ -1,12 +1,8 @@
--- What the loop of `firmware_event_list::check` keeps.
+-- What the loop of `firmware_event_list::check` keeps: what is left of the block comes to what the whole comes to.
 use mathlib.Core.Path.{◌≡◌}
-use Prim.Native.Nat.{◌-◌, ◌≤◌}
-use lib.ListN.{length, drop}
+use lib.ListN.{drop}
 use Rattle.firmware_event_list.specs.Lists.{checked_on}
 use Rattle.firmware_event_list.proofs.check.Given as goal
 
-abbrev pub invariant-loop-i : goal.invariant-loop-i
-invariant-loop-i l = (l.i ≤ length l.bytes) × (checked_on l.at (drop l.i l.bytes) ≡ checked_on l.initial.at l.bytes)
-
-abbrev pub decreases-loop-i : goal.decreases-loop-i
-decreases-loop-i l = length l.bytes - l.i
+abbrev pub invariant-loop-b : goal.invariant-loop-b
+invariant-loop-b l = checked_on l.checked (drop l.b-index l.bytes) ≡ checked_on l.initial.checked l.bytes

@@ -1,5 +1,0 @@
-use mathlib.Core.Path.{refl}
-use Rattle.cpu_arithmetic.proofs.nzc.Goals as goal
-
-pub returns : goal.returns
-returns c = refl
