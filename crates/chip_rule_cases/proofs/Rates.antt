@@ -10,9 +10,6 @@ use Rattle.rates.specs.declared.NoRate.TheVariants.{NothingLatched, Overflow}
 use Rattle.chip_cases.specs.Cases.{Tells}
 use Rattle.chip_rule_cases.specs.Rates.{latches}
 
-abbrev Report : Type 0
-Report = Result Float NoRate
-
 -- HSEL 1: 525 lines in 2,000 periods of 8 µs are 32,812.5 Hz
 pub line_by_field : Tells (line_report (latches 525 false 2000 false) true) 65625 2
 unfolding line_report by_field well_sync round
@@ -29,7 +26,7 @@ unfolding field_report by_periods well_sync round
 field_by_periods = (refl, refl)
 
 -- overflow before nothing latched, each of a counter that the rate needs
-pub no_rate : ◌≡◌ {A = Report × Report × Report × Report × Report × Report} (
+pub no_rate : ◌≡◌ {A = Result Float NoRate × Result Float NoRate × Result Float NoRate × Result Float NoRate × Result Float NoRate × Result Float NoRate} (
   line_report (latches 0 true 2000 false) true,
   line_report (latches 0 false 2000 true) true,
   line_report (latches 525 false 0 false) true,

@@ -15,11 +15,8 @@ pub calls_answered : given rows ≡ expected rows
 unfolding rows counted overflowed latched zeroed cycle_next step_lines latch_lines clear_lines zero_lines latch_periods clear_periods on_hsync lines_on_vsync on_vsync hsel_cleared clear_overflow periods_last interval_last per_field restarts step_periods_to interval_next_to lines_on_period_to on_period_to well_to well_formed clear_lines_of hsync_moved vsync_moved clocked hsel_set enhsel_set cleared_h cleared_v on_enhsel answered answer refusal_number
 calls_answered = refl
 
-abbrev Start : Type 0
-Start = Result Counters Refusal
-
 -- all zero, both bits and both levels 1; no chip but these two
-pub fresh_states : ◌≡◌ {A = Start × Start × Start × Start} (
+pub fresh_states : ◌≡◌ {A = Result Counters Refusal × Result Counters Refusal × Result Counters Refusal × Result Counters Refusal} (
   fresh 6861,
   fresh 6862,
   fresh 6863,
