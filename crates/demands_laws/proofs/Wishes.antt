@@ -78,7 +78,7 @@ use Rattle.vcd_grammar_laws.specs.Words.{Spells}
 use Rattle.vcd_grammar_laws.specs.Body.{Item, body_words, Means, Accepted}
 use Rattle.vcd_grammar_laws.specs.Header.{Section, dump_words, Declares}
 use Rattle.vcd_grammar_laws.proofs.Header as dump
-use Rattle.plain_bus.specs.declared.Fault.TheVariants.{NoFault}
+use Rattle.std.specs.Prelude.{None}
 use Rattle.plain_bus.specs.Plain.{addresses, changes_to_stop}
 use Rattle.plain_bus.specs.Reading as plain
 use Rattle.plain_bus.specs.Numbers.{Exactly}
@@ -263,7 +263,7 @@ dump_read = dump.dump_read
 -- ---- Wish 11: the plain reading of the bus
 
 -- the addresses found by looking at the whole list are those that the stepped chip completes, in their order, up to the stop
-pub reading_agrees : (own : ℕ) (c : Chip) → Begins own c → (changes : List ℕ) → plain.first_fault changes ≡ NoFault
+pub reading_agrees : (own : ℕ) (c : Chip) → Begins own c → (changes : List ℕ) → plain.first_fault changes ≡ None
     → addresses own changes ≡ completed_by c (take (changes_to_stop own changes) changes)
 reading_agrees = plain-bus.agree
 

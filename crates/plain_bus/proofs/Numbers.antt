@@ -7,19 +7,21 @@ use mathlib.Core.List.{List, ◌++◌, map}
 use native.Mathlib.Omega.{arith}
 use lib.Dec.{eqb, ltb}
 use lib.ListN.{length, drop}
+use Rattle.std.specs.Prelude.{Some, None}
+use Rattle.std.specs.declared.option.Option.{Option}
 use Rattle.plain_bus.specs.Plain.{addresses}
 use Rattle.plain_bus.specs.Reading.{first_fault, number_of, reading_by, number_by, reading, word_of, written, places_left, ReadingCase}
 use Rattle.plain_bus.specs.declared.Fault.{Fault}
-use Rattle.plain_bus.specs.declared.Fault.TheVariants.{NoFault, OtherLine, OtherLevel}
+use Rattle.plain_bus.specs.declared.Fault.TheVariants.{OtherLine, OtherLevel}
 use Rattle.plain_bus.specs.declared.Reading.{Reading}
 use Rattle.plain_bus.specs.declared.Reading.TheVariants.{Listed, BadLine, BadLevel, TooFewPlaces}
 use Rattle.plain_bus.specs.Numbers.{Exactly}
 
-exactly_by : (fault : Fault) (room count : ℕ) (short : Bool) → ltb room count ≡ short → Exactly (number_of (reading_by fault room count)) fault short
-exactly_by NoFault room count true e = rw e (record { zero = refl; two = refl; three = refl; seven = refl })
-exactly_by NoFault room count false e = rw e (record { zero = refl; two = refl; three = refl; seven = refl })
-exactly_by OtherLine room count short e = record { zero = refl; two = refl; three = refl; seven = refl }
-exactly_by OtherLevel room count short e = record { zero = refl; two = refl; three = refl; seven = refl }
+exactly_by : (fault : Option Fault) (room count : ℕ) (short : Bool) → ltb room count ≡ short → Exactly (number_of (reading_by fault room count)) fault short
+exactly_by None room count true e = rw e (record { zero = refl; two = refl; three = refl; seven = refl })
+exactly_by None room count false e = rw e (record { zero = refl; two = refl; three = refl; seven = refl })
+exactly_by (Some OtherLine) room count short e = record { zero = refl; two = refl; three = refl; seven = refl }
+exactly_by (Some OtherLevel) room count short e = record { zero = refl; two = refl; three = refl; seven = refl }
 
 -- 2 and 3 by the first bad change; then 7 where there are fewer places than addresses; else 0
 pub exactly : (own : ℕ) (cs places : List ℕ) → Exactly (number_of (reading own cs places)) (first_fault cs) (ltb (length places) (length (addresses own cs)))
@@ -37,12 +39,12 @@ pub refused_untouched : (own : ℕ) (cs places : List ℕ) → eqb (number_of (r
 unfolding places_left
 refused_untouched own cs places e = untouched_by (reading own cs places) (map word_of (addresses own cs)) places e
 
-listed_by : (fault : Fault) (room count : ℕ) (words places : List ℕ) (short : Bool) → ltb room count ≡ short → eqb (number_of (reading_by fault room count)) 0 ≡ true
+listed_by : (fault : Option Fault) (room count : ℕ) (words places : List ℕ) (short : Bool) → ltb room count ≡ short → eqb (number_of (reading_by fault room count)) 0 ≡ true
     → (reading_by fault room count ≡ Listed count) × (written (reading_by fault room count) words places ≡ words ++ drop count places)
-listed_by NoFault room count words places true s e = absurd (true≢false (sym (rw s at e)))
-listed_by NoFault room count words places false s e = rw s (refl, refl)
-listed_by OtherLine room count words places short s e = absurd (true≢false (sym e))
-listed_by OtherLevel room count words places short s e = absurd (true≢false (sym e))
+listed_by None room count words places true s e = absurd (true≢false (sym (rw s at e)))
+listed_by None room count words places false s e = rw s (refl, refl)
+listed_by (Some OtherLine) room count words places short s e = absurd (true≢false (sym e))
+listed_by (Some OtherLevel) room count words places short s e = absurd (true≢false (sym e))
 
 -- with 0 all addresses are listed, and places past them keep their content
 pub all_listed : (own : ℕ) (cs places : List ℕ) → eqb (number_of (reading own cs places)) 0 ≡ true
@@ -52,11 +54,11 @@ all_listed own cs places e = listed_by (first_fault cs) (length places) (length 
 
 -- ---- the contract of the reading
 
-values_by : (fault : Fault) (room count : ℕ) (short : Bool) → ltb room count ≡ short → number_of (reading_by fault room count) ≡ 0 → reading_by fault room count ≡ Listed count
-values_by NoFault room count true e z = let no : ⊥ = omega (arith, rw e at z) in absurd no
-values_by NoFault room count false e z = rw e
-values_by OtherLine room count short e z = let no : ⊥ = omega arith in absurd no
-values_by OtherLevel room count short e z = let no : ⊥ = omega arith in absurd no
+values_by : (fault : Option Fault) (room count : ℕ) (short : Bool) → ltb room count ≡ short → number_of (reading_by fault room count) ≡ 0 → reading_by fault room count ≡ Listed count
+values_by None room count true e z = let no : ⊥ = omega (arith, rw e at z) in absurd no
+values_by None room count false e z = rw e
+values_by (Some OtherLine) room count short e z = let no : ⊥ = omega arith in absurd no
+values_by (Some OtherLevel) room count short e z = let no : ⊥ = omega arith in absurd no
 
 given_values : (own : ℕ) (cs places : List ℕ) → number_of (reading own cs places) ≡ 0 → reading own cs places ≡ Listed (length (addresses own cs))
 unfolding reading
@@ -69,13 +71,13 @@ pub read_case : (own : ℕ) (cs places left : List ℕ) (r : Reading) → (r ≡
 read_case own cs places left r e n = (e.0, e.1, record { number = n; values = rw e.0 (given_values own cs places) })
 
 -- the number of a list without a fault, by the places
-good_by : (room count : ℕ) (short : Bool) → ltb room count ≡ short → number_of (reading_by NoFault room count) ≡ number_by NoFault (ltb room count)
+good_by : (room count : ℕ) (short : Bool) → ltb room count ≡ short → number_of (reading_by None room count) ≡ number_by None (ltb room count)
 good_by room count true e = rw e
 good_by room count false e = rw e
 
 -- the answer to a list without a fault
-pub good_case : (own : ℕ) (cs places left : List ℕ) (r : Reading) → first_fault cs ≡ NoFault → (r ≡ reading_by NoFault (length places) (length (addresses own cs)))
-    × (left ≡ written (reading_by NoFault (length places) (length (addresses own cs))) (map word_of (addresses own cs)) places)
+pub good_case : (own : ℕ) (cs places left : List ℕ) (r : Reading) → first_fault cs ≡ None → (r ≡ reading_by None (length places) (length (addresses own cs)))
+    × (left ≡ written (reading_by None (length places) (length (addresses own cs))) (map word_of (addresses own cs)) places)
     → (r ≡ reading own cs places) × (left ≡ places_left own cs places) × ReadingCase own cs places r
 unfolding reading places_left
 good_case own cs places left r f e =

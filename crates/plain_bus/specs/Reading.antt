@@ -1,16 +1,17 @@
 -- The call: what it gives back, and what it leaves in the places lent to it (document 02, Wish 11).
-use Rattle.std.specs.Prelude.{ℕ, ◌+◌, ◌*◌, ◌%◌, ◌≡◌, Bool, ◌&&◌, ◌||◌, List, [], ◌∷◌, ◌++◌, map, eqb, ltb, length, drop, take}
+use Rattle.std.specs.Prelude.{ℕ, ◌+◌, ◌*◌, ◌%◌, ◌≡◌, Bool, ◌&&◌, ◌||◌, List, [], ◌∷◌, ◌++◌, map, eqb, ltb, length, drop, take, Some, None}
+use Rattle.std.specs.declared.option.Option.{Option}
 use Rattle.bits.specs.Byte.{pick, num}
 use Rattle.events.specs.Pins.{SDA, SCL}
 use Rattle.bus.specs.declared.OwnAddress.{OwnAddress}
 use Rattle.bus.specs.declared.OwnAddress.TheVariants.{A0, IiAdr, Both}
 use Rattle.bus.specs.declared.Comparison.{Comparison}
-use Rattle.bus.specs.declared.Comparison.TheVariants.{None, Own}
+use Rattle.bus.specs.declared.Comparison.TheVariants.{None as NoAddress, Own}
 use Rattle.bus.specs.Bus.{is_own}
 use Rattle.bus_ddc2b.specs.Ddc2b.{compared}
 use Rattle.plain_bus.specs.Plain.{line_of, level_of, rises_since, levels_at, byte_of, sda_before, rise_at, start_at, Found, addresses}
 use Rattle.plain_bus.specs.declared.Fault.{Fault}
-use Rattle.plain_bus.specs.declared.Fault.TheVariants.{NoFault, OtherLine, OtherLevel}
+use Rattle.plain_bus.specs.declared.Fault.TheVariants.{OtherLine, OtherLevel}
 use Rattle.plain_bus.specs.declared.Reading.{Reading}
 use Rattle.plain_bus.specs.declared.Reading.TheVariants.{Listed, BadLine, BadLevel, TooFewPlaces}
 use Rattle.plain_bus.specs.declared.Transfer.{Transfer}
@@ -18,21 +19,20 @@ use Rattle.plain_bus.specs.declared.Transfer.{Transfer}
 -- ---- refusals
 
 -- a level above 1
-abbrev pub level_fault : ℕ → Fault
-level_fault change = pick (ltb 1 (level_of change)) OtherLevel NoFault
+abbrev pub level_fault : ℕ → Option Fault
+level_fault change = pick (ltb 1 (level_of change)) (Some OtherLevel) None
 
 -- what is wrong with a change: a line that is neither SDA nor SCL, then its level
-unfoldable pub fault_of : ℕ → Fault
-fault_of change = pick (eqb (line_of change) SDA || eqb (line_of change) SCL) (level_fault change) OtherLine
+unfoldable pub fault_of : ℕ → Option Fault
+fault_of change = pick (eqb (line_of change) SDA || eqb (line_of change) SCL) (level_fault change) (Some OtherLine)
 
-abbrev pub or_else : Fault → Fault → Fault
-or_else NoFault f = f
-or_else OtherLine f = OtherLine
-or_else OtherLevel f = OtherLevel
+abbrev pub or_else : Option Fault → Option Fault → Option Fault
+or_else None f = f
+or_else (Some fault) f = Some fault
 
 -- that of the first bad change, wherever it stands
-unfoldable pub first_fault : List ℕ → Fault
-first_fault [] = NoFault
+unfoldable pub first_fault : List ℕ → Option Fault
+first_fault [] = None
 first_fault (c ∷ cs) = or_else (fault_of c) (first_fault cs)
 
 -- ---- the answer
@@ -44,19 +44,19 @@ number_of BadLine = 2
 number_of BadLevel = 3
 number_of TooFewPlaces = 7
 
-abbrev pub reading_by : Fault → ℕ → ℕ → Reading
-reading_by NoFault room count = pick (ltb room count) TooFewPlaces (Listed count)
-reading_by OtherLine room count = BadLine
-reading_by OtherLevel room count = BadLevel
+abbrev pub reading_by : Option Fault → ℕ → ℕ → Reading
+reading_by None room count = pick (ltb room count) TooFewPlaces (Listed count)
+reading_by (Some OtherLine) room count = BadLine
+reading_by (Some OtherLevel) room count = BadLevel
 
 unfoldable pub reading : ℕ → List ℕ → List ℕ → Reading
 reading own cs places = reading_by (first_fault cs) (length places) (length (addresses own cs))
 
 -- the number of a list of changes: that of its first bad change, next 7 where there are fewer places than addresses
-abbrev pub number_by : Fault → Bool → ℕ
-number_by NoFault short = pick short 7 0
-number_by OtherLine short = 2
-number_by OtherLevel short = 3
+abbrev pub number_by : Option Fault → Bool → ℕ
+number_by None short = pick short 7 0
+number_by (Some OtherLine) short = 2
+number_by (Some OtherLevel) short = 3
 
 -- the number and the values of an answer
 pub record ReadingCase (own : ℕ) (cs places : List ℕ) (r : Reading) : Type 0 where
@@ -70,7 +70,7 @@ own_number IiAdr = 2
 own_number Both = 3
 
 abbrev pub outcome_number : Comparison → ℕ
-outcome_number None = 0
+outcome_number NoAddress = 0
 outcome_number (Own matched) = own_number matched
 
 -- an address in one number: the byte above, the number of its outcome below

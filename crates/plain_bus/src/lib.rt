@@ -2,12 +2,11 @@
 // answered by looking at the list anew, so the time grows with the square of its length.
 #![tactic(auto)]
 
-ghost use Rattle.std.specs.Prelude.{◌≡◌, ◌+◌, ◌*◌, ◌%◌, ◌<◌, ◌≤◌, map, ◌++◌, length, drop, set};
+ghost use Rattle.std.specs.Prelude.{None, ◌≡◌, ◌+◌, ◌*◌, ◌%◌, ◌<◌, ◌≤◌, map, ◌++◌, length, drop, set};
 ghost use Rattle.bits.specs.Byte.{pick, num};
 ghost use Rattle.plain_bus.specs.Plain.{level_before, rise_at, start_at, stop_at, rises_since, levels_at, found, addresses};
 ghost use Rattle.plain_bus.specs.Reading.{level_fault, fault_of, first_fault, number_of, reading_by, reading, own_number, outcome_number, word_of, written, places_left, transfer_of, transfer_at, risen_of, taken_at, has_address, ends_by, ReadingCase};
 ghost use Rattle.bus.specs.Bus.{is_own};
-ghost use Rattle.plain_bus.specs.declared.Fault.{Fault};
 
 use bus::{Comparison, OwnAddress};
 
@@ -18,7 +17,6 @@ const SCL: u16 = 25;
 // What is wrong with a change.
 #[derive(Clone, Copy)]
 pub enum Fault {
-    NoFault,
     OtherLine,
     OtherLevel,
 }
@@ -46,9 +44,7 @@ fn level_before(line: u16, changes: &[u16], place: usize) -> bool
     requires { place ≤ length changes.now }
     ensures { result ≡ level_before line changes.now place }
 {
-    let mut i = place;
-    while 0 < i {
-        i -= 1;
+    for i in (0..place).rev() {
         if changes[i] / 256 == line {
             return changes[i] % 256 == 1;
         }
@@ -144,8 +140,7 @@ fn transfer_since(changes: &[u16], start: usize) -> Transfer
     ensures { result ≡ transfer_of (levels_at changes.now (rises_since changes.now start)) }
 {
     let mut t = Transfer { rises: 0, byte: 0 };
-    let mut i = start + 1;
-    while i < changes.len() {
+    for i in start + 1..changes.len() {
         if is_start(changes, i) {
             return t;
         }
@@ -153,7 +148,6 @@ fn transfer_since(changes: &[u16], start: usize) -> Transfer
             return t;
         }
         t = taken(changes, i, t);
-        i += 1;
     }
     t
 }
@@ -222,14 +216,12 @@ fn count(own: u8, changes: &[u16]) -> usize
     ensures { result ≡ length (addresses own changes.now) }
 {
     let mut n = 0;
-    let mut i = 0;
-    while i < changes.len() {
+    for i in 0..changes.len() {
         let t = transfer_at(changes, i);
         n = counted(n, t);
         if ends(own, t) {
             return n;
         }
-        i += 1;
     }
     n
 }
@@ -257,31 +249,29 @@ fn list(own: u8, changes: &[u16], places: &mut [u16])
     ensures { places.new ≡ map word_of (addresses own changes.now) ++ drop (length (addresses own changes.now)) places.old }
 {
     let mut n = 0;
-    let mut i = 0;
-    while i < changes.len() {
+    for i in 0..changes.len() {
         let t = transfer_at(changes, i);
         put(own, t, places, n);
         n = counted(n, t);
         if ends(own, t) {
             return;
         }
-        i += 1;
     }
 }
 
 // ---- the call
 
-fn level_fault(change: u16) -> Fault
+fn level_fault(change: u16) -> Option<Fault>
     ensures { result ≡ level_fault change }
 {
     if 1 < change % 256 {
-        Fault::OtherLevel
+        Some(Fault::OtherLevel)
     } else {
-        Fault::NoFault
+        None
     }
 }
 
-fn fault_of(change: u16) -> Fault
+fn fault_of(change: u16) -> Option<Fault>
     ensures { result ≡ fault_of change }
 {
     let line = change / 256;
@@ -291,27 +281,18 @@ fn fault_of(change: u16) -> Fault
     if line == SCL {
         return level_fault(change);
     }
-    Fault::OtherLine
+    Some(Fault::OtherLine)
 }
 
-fn first_fault(changes: &[u16]) -> Fault
+fn first_fault(changes: &[u16]) -> Option<Fault>
     ensures { result ≡ first_fault changes.now }
 {
-    let mut i = 0;
-    while i < changes.len() {
-        match fault_of(changes[i]) {
-            Fault::NoFault => {
-                i += 1;
-            }
-            Fault::OtherLine => {
-                return Fault::OtherLine;
-            }
-            Fault::OtherLevel => {
-                return Fault::OtherLevel;
-            }
+    for change in changes {
+        if let Some(fault) = fault_of(*change) {
+            return Some(fault);
         }
     }
-    Fault::NoFault
+    None
 }
 
 // The number of an answer: 0, 2, 3 or 7.
@@ -327,7 +308,7 @@ pub fn number(r: Reading) -> u8
 }
 
 fn listed(own: u8, changes: &[u16], places: &mut [u16]) -> Reading
-    ensures { (result ≡ reading_by Fault.NoFault (length places.old) (length (addresses own changes.now))) × (places.new ≡ written (reading_by Fault.NoFault (length places.old) (length (addresses own changes.now))) (map word_of (addresses own changes.now)) places.old) }
+    ensures { (result ≡ reading_by None (length places.old) (length (addresses own changes.now))) × (places.new ≡ written (reading_by None (length places.old) (length (addresses own changes.now))) (map word_of (addresses own changes.now)) places.old) }
 {
     let n = count(own, changes);
     if places.len() < n {
@@ -342,8 +323,8 @@ pub fn read(own: u8, changes: &[u16], places: &mut [u16]) -> Reading
     ensures { (result ≡ reading own changes.now places.old) × (places.new ≡ places_left own changes.now places.old) × ReadingCase own changes.now places.old result }
 {
     match first_fault(changes) {
-        Fault::NoFault => listed(own, changes, places),
-        Fault::OtherLine => Reading::BadLine,
-        Fault::OtherLevel => Reading::BadLevel,
+        None => listed(own, changes, places),
+        Some(Fault::OtherLine) => Reading::BadLine,
+        Some(Fault::OtherLevel) => Reading::BadLevel,
     }
 }

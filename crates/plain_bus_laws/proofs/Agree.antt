@@ -27,8 +27,10 @@ use Rattle.step.specs.Step.{advance, step}
 use Rattle.chip_laws.proofs.WellFormed.{step_well_formed}
 use Rattle.isolation_laws.specs.Related.{frame}
 use Rattle.isolation_laws.proofs.Theorems.{flags_lt}
+use Rattle.std.specs.Prelude.{Some, None}
+use Rattle.std.specs.declared.option.Option.{Option}
 use Rattle.plain_bus.specs.declared.Fault.{Fault}
-use Rattle.plain_bus.specs.declared.Fault.TheVariants.{NoFault, OtherLine, OtherLevel}
+use Rattle.plain_bus.specs.declared.Fault.TheVariants.{OtherLine, OtherLevel}
 use Rattle.events.specs.Pins.{SDA, SCL}
 use Rattle.plain_bus.specs.Plain.{line_of, level_of, line_at, high_at, level_before, scl_before, sda_before, Found, addresses, changes_to_stop}
 use Rattle.plain_bus.specs.Reading.{fault_of, or_else, first_fault}
@@ -43,23 +45,22 @@ pub data Good (change : ℕ) : Type 0 where
   on_scl_lem : line_of change ≡ SCL → level_of change < 2 → Good change
 
 good_by : (change : ℕ) (a b t : Bool) → eqb (line_of change) SDA ≡ a → eqb (line_of change) SCL ≡ b → ltb 1 (level_of change) ≡ t
-    → pick (a || b) (pick t OtherLevel NoFault) OtherLine ≡ NoFault → Good change
+    → pick (a || b) (pick t (Some OtherLevel) None) (Some OtherLine) ≡ None → Good change
 good_by change true b false p q r e = on_sda_lem (eqb-true (line_of change) SDA p) (omega (arith, ltb-false 1 (level_of change) r))
 good_by change false true false p q r e = on_scl_lem (eqb-true (line_of change) SCL q) (omega (arith, ltb-false 1 (level_of change) r))
 good_by change true b true p q r e = absurd (let z : ◌≡◌ {A = ℕ} 0 1 = cc in omega arith)
 good_by change false true true p q r e = absurd (let z : ◌≡◌ {A = ℕ} 0 1 = cc in omega arith)
 good_by change false false t p q r e = absurd (let z : ◌≡◌ {A = ℕ} 0 1 = cc in omega arith)
 
-good : (change : ℕ) → fault_of change ≡ NoFault → Good change
+good : (change : ℕ) → fault_of change ≡ None → Good change
 unfolding fault_of
 good change e = good_by change _ _ _ refl refl refl e
 
-first_good : (f g : Fault) → or_else f g ≡ NoFault → (f ≡ NoFault) × (g ≡ NoFault)
-first_good NoFault g e = (refl, e)
-first_good OtherLine g e = absurd (let z : ◌≡◌ {A = ℕ} 0 1 = cc in omega arith)
-first_good OtherLevel g e = absurd (let z : ◌≡◌ {A = ℕ} 0 1 = cc in omega arith)
+first_good : (f g : Option Fault) → or_else f g ≡ None → (f ≡ None) × (g ≡ None)
+first_good None g e = (refl, e)
+first_good (Some fault) g e = absurd (let z : ◌≡◌ {A = ℕ} 0 1 = cc in omega arith)
 
-all_good : (change : ℕ) (cs : List ℕ) → first_fault (change ∷ cs) ≡ NoFault → Good change × (first_fault cs ≡ NoFault)
+all_good : (change : ℕ) (cs : List ℕ) → first_fault (change ∷ cs) ≡ None → Good change × (first_fault cs ≡ None)
 unfolding first_fault
 all_good change cs e = let both = first_good (fault_of change) (first_fault cs) e in (good change both.0, both.1)
 
@@ -177,7 +178,7 @@ module _ (own : ℕ) (cs : List ℕ) (i n : ℕ) (c : Chip) {h : Sampled} (m : l
   agrees_good w (on_sda_lem e l) rest = agrees_by _ (at_sda cs i e) (goes_sda own cs i c w f e l) _ refl (rest _)
   agrees_good w (on_scl_lem e l) rest = agrees_by _ (at_scl cs i e) (goes_scl own cs i c w f e l) _ refl (rest _)
 
-agrees : (own : ℕ) (cs : List ℕ) (n i : ℕ) (c : Chip) (h : Sampled) → length cs ≡ i + n → well_formed c ≡ true → first_fault (drop i cs) ≡ NoFault
+agrees : (own : ℕ) (cs : List ℕ) (n i : ℕ) (c : Chip) (h : Sampled) → length cs ≡ i + n → well_formed c ≡ true → first_fault (drop i cs) ≡ None
     → Follows own c.core (scl_before cs i) (sda_before cs i) h → Agrees own cs i n c h
 agrees own cs zero i c h m w g f =
     let ends = end_reads own cs i h (follows_few f) in
@@ -200,7 +201,7 @@ first : {own : ℕ} (c : Chip) → Begins own c → Follows own c.core true true
 first c b = first_by c c.core.bus.phase c.core.scl c.core.sda c.core.reset b b.idle b.scl_high_lem b.sda_high b.reset_high
 
 -- the addresses that the plain reading lists, their order and their outcomes are those that the stepping engine completes, up to the stop
-pub agree : (own : ℕ) (c : Chip) → Begins own c → (cs : List ℕ) → first_fault cs ≡ NoFault
+pub agree : (own : ℕ) (c : Chip) → Begins own c → (cs : List ℕ) → first_fault cs ≡ None
     → addresses own cs ≡ completed_by c (take (changes_to_stop own cs) cs)
 unfolding level_before
 agree own c b cs g =

@@ -7,8 +7,8 @@ use Rattle.bus.specs.declared.OwnAddress.TheVariants.{A0, IiAdr}
 use Rattle.bus.specs.declared.Comparison.TheVariants.{None, Own}
 use Rattle.bus_ddc2b.specs.Ddc2b.{compared}
 use Rattle.plain_bus.specs.Plain.{level_before, rise_at, start_at, stop_at, rises_from, address_at, ends_at, addresses_from, addresses, changes_to_stop}
+use Rattle.std.specs.Prelude.{None}
 use Rattle.plain_bus.specs.Reading.{fault_of, first_fault}
-use Rattle.plain_bus.specs.declared.Fault.TheVariants.{NoFault}
 use Rattle.chip.specs.declared.Chip.{Chip}
 use Rattle.chip_cases.proofs.Opened.{opened}
 use Rattle.plain_bus_laws.specs.Stepping.{told, completed_by, Begins}
@@ -19,7 +19,7 @@ pub example_found : addresses 0x6e example ≡ told 0x50 None ∷ told 0xa1 (Own
 unfolding addresses_from address_at ends_at rises_from level_before rise_at start_at stop_at compared
 example_found = refl
 
-pub example_good : first_fault example ≡ NoFault
+pub example_good : first_fault example ≡ None
 unfolding first_fault fault_of
 example_good = refl
 

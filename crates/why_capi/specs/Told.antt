@@ -1,5 +1,5 @@
 -- Why request lines are up, in numbers (document 02, Wish 3), from a state in a lent area (Wish 14).
-use Rattle.std.specs.Prelude.{ℕ, List, [], ◌∷◌, eqb}
+use Rattle.std.specs.Prelude.{ℕ, List, [], ◌∷◌, eqb, Ok, Err}
 use Rattle.bits.specs.Byte.{pick}
 use Rattle.bus.specs.declared.OwnAddress.{OwnAddress}
 use Rattle.bus.specs.declared.OwnAddress.TheVariants.{A0, IiAdr, Both}
@@ -8,9 +8,7 @@ use Rattle.why_last_set.specs.declared.Sort.TheVariants.{VsyncRise, P16Rise, Tim
 use Rattle.why_reasons.specs.declared.Reason.{Reason}
 use Rattle.why_reasons.specs.declared.Reason.TheVariants.{NotRequested, AlreadySet, Event}
 use Rattle.why_reasons.specs.declared.Reasons.{Reasons}
-use Rattle.why_reasons.specs.declared.Explanation.{Explanation}
-use Rattle.why_reasons.specs.declared.Explanation.TheVariants.{IllFormed, Told}
-use Rattle.why_reasons.specs.Explain.{why, why_number}
+use Rattle.why_reasons.specs.Explain.{Explanation, why, why_number}
 use Rattle.state_area.specs.Area.{number_in, state_in}
 
 -- the code of an answer: 0 not requested, 1 set at the start and never cleared, and the sorts from 2 on, a matched address by its outcome
@@ -51,8 +49,8 @@ numbers_of r =
 
 -- what is left in the places of an answer: nothing is written where the state is ill formed
 abbrev pub told_by : Explanation → List ℕ → List ℕ
-told_by IllFormed places = places
-told_by (Told reasons) places = numbers_of reasons
+told_by (Err e) places = places
+told_by (Ok reasons) places = numbers_of reasons
 
 -- the number given back: 15, then 8, for the area
 unfoldable pub why_number_in : List ℕ → List ℕ → ℕ

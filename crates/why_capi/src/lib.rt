@@ -5,8 +5,10 @@ ghost use Rattle.std.specs.Prelude.{◌≡◌};
 ghost use Rattle.why_capi.specs.Told.{own_code, sort_code, reason_code, reason_place, numbers_of, why_number_in, told_in};
 
 use bus::OwnAddress;
+use chip_well_formed::IllFormed;
+use state_area::AreaFault;
 use why_last_set::Sort;
-use why_reasons::{Explanation, Reason, Reasons};
+use why_reasons::{Reason, Reasons};
 
 fn own_code(own: OwnAddress) -> u64
     ensures { result ≡ own_code own }
@@ -86,8 +88,8 @@ pub extern "C" fn nt6861_why(area: &[u8], words: &[u32], told: &mut [u64; 12]) -
 {
     match state_area::load(area) {
         Ok(c) => match why_reasons::why(c, words) {
-            Explanation::IllFormed => 8,
-            Explanation::Told(reasons) => {
+            Err(IllFormed) => u8::from(AreaFault::IllFormed),
+            Ok(reasons) => {
                 *told = numbers_of(reasons);
                 0
             },

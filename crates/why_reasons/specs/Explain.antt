@@ -1,9 +1,11 @@
 -- Why a request line is up (document 02, Wish 3): for a state and a list of words, a reason for each of the six sources.
-use Rattle.std.specs.Prelude.{ℕ, ◌+◌, ◌≡◌, Bool, true, false, List, [], ◌∷◌, ltb}
+use Rattle.std.specs.Prelude.{ℕ, ◌+◌, ◌≡◌, Bool, true, false, List, [], ◌∷◌, ltb, Ok, Err}
+use Rattle.std.specs.declared.result.Result.{Result}
 use Rattle.bits.specs.Byte.{pick, bit}
 use Rattle.events.specs.Word.{decode}
 use Rattle.chip.specs.declared.Chip.{Chip}
 use Rattle.chip.specs.State.{mode_of, requests}
+use Rattle.chip_well_formed.specs.declared.IllFormed.{IllFormed}
 use Rattle.chip_well_formed.specs.WellFormed.{well_formed}
 use Rattle.step.specs.Step.{advance}
 use Rattle.list_call.specs.Run.{advanced}
@@ -15,8 +17,6 @@ use Rattle.why_last_set.specs.LastSet.Source.{IntV, IntE, IntR, IntA, IntD, IntS
 use Rattle.why_reasons.specs.declared.Reason.{Reason}
 use Rattle.why_reasons.specs.declared.Reason.TheVariants.{NotRequested, AlreadySet, Event}
 use Rattle.why_reasons.specs.declared.Reasons.{Reasons}
-use Rattle.why_reasons.specs.declared.Explanation.{Explanation}
-use Rattle.why_reasons.specs.declared.Explanation.TheVariants.{IllFormed, Told}
 use Rattle.why_reasons.specs.declared.Followed.{Followed}
 
 -- ---- over the whole list
@@ -61,19 +61,23 @@ reasons_after c words =
       s = reason_of IntS c words;
     }
 
+-- what is told of a state and a list: the six reasons, or that the state is ill formed
+abbrev pub Explanation : Type 0
+Explanation = Result Reasons IllFormed
+
 -- an ill formed state is told before all else, else the six reasons
 unfoldable pub why : Chip → List ℕ → Explanation
-why c words = pick (well_formed c) (Told (reasons_after c words)) IllFormed
+why c words = pick (well_formed c) (Ok (reasons_after c words)) (Err (record {}))
 
 -- document 01's number of each case
 abbrev pub why_number : Explanation → ℕ
-why_number IllFormed = 8
-why_number (Told reasons) = 0
+why_number (Err e) = 8
+why_number (Ok reasons) = 0
 
 -- what a case says of the state and the words
 unfoldable pub WhyValues : Chip → List ℕ → Explanation → Type 0
-WhyValues c words IllFormed = well_formed c ≡ false
-WhyValues c words (Told reasons) = (well_formed c ≡ true) × (reasons ≡ reasons_after c words)
+WhyValues c words (Err e) = well_formed c ≡ false
+WhyValues c words (Ok reasons) = (well_formed c ≡ true) × (reasons ≡ reasons_after c words)
 
 -- the number that is told: 8 where the state is ill formed, and no other
 abbrev pub number_at : Chip → ℕ

@@ -5,6 +5,7 @@ ghost use Rattle.std.specs.Prelude.{◌≡◌};
 ghost use Rattle.why_reasons.specs.Explain.{next_place, start as start_of, followed, reason_by, reasons_of, why as why_of, WhyCase};
 
 use chip::Chip;
+use chip_well_formed::IllFormed;
 use registers::{INTA, INTD, INTE, INTR, INTS, INTV};
 use why_last_set::{Last, LastSet, Sort};
 
@@ -26,13 +27,6 @@ pub struct Reasons {
     pub a: Reason,
     pub d: Reason,
     pub s: Reason,
-}
-
-// What is told of a state and a list: that the state is ill formed, or the six reasons.
-#[derive(Clone, Copy)]
-pub enum Explanation {
-    IllFormed,
-    Told(Reasons),
 }
 
 // What is kept on the way through the words: the chip, the place of the next word, and the last change of each flag.
@@ -75,23 +69,18 @@ pub fn follow(f: Followed, words: &[u32]) -> Followed
     let mut core = c.core;
     let mut place = f.place;
     let mut last = f.last;
-    let mut i = 0;
-    while i < words.len() {
+    for word in words {
         let irqx = core.irqx;
         let mode = chip::mode_of(core);
-        let done = step::advance_word(&mut registers, core, words[i]);
+        let done = step::advance_word(&mut registers, core, *word);
         core = done.core;
         last = why_last_set::noted(last, place, irqx, mode, core);
         place = next_place(place);
-        i += 1;
     }
     Followed {
-        chip: Chip {
-            registers: registers,
-            core: core,
-        },
-        place: place,
-        last: last,
+        chip: Chip { registers, core },
+        place,
+        last,
     }
 }
 
@@ -112,32 +101,25 @@ fn reason_by(requested: bool, last: Last) -> Reason
 pub fn reasons_after(f: Followed) -> Reasons
     ensures { result ≡ reasons_of f }
 {
-    let c = f.chip;
     let last = f.last;
-    let lines = chip::requests(c);
-    let v = last.v;
-    let e = last.e;
-    let r = last.r;
-    let a = last.a;
-    let d = last.d;
-    let s = last.s;
+    let lines = chip::requests(f.chip);
     Reasons {
-        v: reason_by(bits::bit(INTV, lines), v),
-        e: reason_by(bits::bit(INTE, lines), e),
-        r: reason_by(bits::bit(INTR, lines), r),
-        a: reason_by(bits::bit(INTA, lines), a),
-        d: reason_by(bits::bit(INTD, lines), d),
-        s: reason_by(bits::bit(INTS, lines), s),
+        v: reason_by(bits::bit(INTV, lines), last.v),
+        e: reason_by(bits::bit(INTE, lines), last.e),
+        r: reason_by(bits::bit(INTR, lines), last.r),
+        a: reason_by(bits::bit(INTA, lines), last.a),
+        d: reason_by(bits::bit(INTD, lines), last.d),
+        s: reason_by(bits::bit(INTS, lines), last.s),
     }
 }
 
 // Why the lines are as they are after the words. An ill formed state is told before all else.
-pub fn why(c: Chip, words: &[u32]) -> Explanation
+pub fn why(c: Chip, words: &[u32]) -> Result<Reasons, IllFormed>
     ensures { (result ≡ why_of c words.now) × WhyCase c words.now result }
 {
     if chip_well_formed::well_formed(c) {
-        Explanation::Told(reasons_after(follow(start(c), words)))
+        Ok(reasons_after(follow(start(c), words)))
     } else {
-        Explanation::IllFormed
+        Err(IllFormed)
     }
 }

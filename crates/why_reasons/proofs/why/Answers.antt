@@ -2,26 +2,9 @@
 -- Assumes nothing.
 use mathlib.Core.Path.{sym, ◌∙◌}
 use native.Mathlib.Omega.{arith}
-use borrow.Author.Rules.{rules}
 use Rattle.why_reasons.specs.Explain.{why, WhyValues}
 use Rattle.why_reasons.proofs.Whole.{whole}
 use Rattle.why_reasons.proofs.why.Goals as goal
-
-pub well_formed-requires : goal.well_formed-requires
-unfolding why WhyValues
-well_formed-requires c = search rules
-
-pub start-requires : goal.start-requires
-unfolding why WhyValues
-start-requires c = search rules
-
-pub follow-requires : goal.follow-requires
-unfolding why WhyValues
-follow-requires c = search rules
-
-pub reasons_after-requires : goal.reasons_after-requires
-unfolding why WhyValues
-reasons_after-requires c = search rules
 
 pub returns-then-well_formed : goal.returns-then-well_formed
 unfolding why WhyValues
