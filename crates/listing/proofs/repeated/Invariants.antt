@@ -4,5 +4,5 @@ use Prim.Native.Nat.{◌-◌}
 use Rattle.listing.specs.Listing.{repeated}
 use Rattle.listing.proofs.repeated.Given as goal
 
-abbrev pub invariant-loop-_done : goal.invariant-loop-_done
-invariant-loop-_done l = repeated (l.times - l._done) l.p l.word l.expected ≡ repeated l.times l.initial.p l.word l.expected
+abbrev pub invariant-loop-done : goal.invariant-loop-done
+invariant-loop-done l = repeated (l.times - l._done) l.p l.word l.expected ≡ repeated l.times l.initial.p l.word l.expected
