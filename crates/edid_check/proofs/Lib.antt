@@ -1,4 +1,3 @@
-pub mod Sums
 pub mod Framed
 pub mod Exactly
 pub mod Example

@@ -1,5 +1,6 @@
 -- An EDID base block: what holds of it in every edition (document 02, Wish 7). Bytes count from 0.
 use Rattle.std.specs.Prelude.{ℕ, ◌+◌, ◌%◌, ◌≡◌, Bool, true, ◌&&◌, List, [], ◌∷◌, eqb, length, get_or, take}
+use Rattle.std.specs.List as list
 use Rattle.bits.specs.Byte.{pick}
 
 -- the byte at a place; 0 past the end
@@ -20,8 +21,7 @@ header_fits block =
 
 -- all bytes added up
 abbrev pub sum_of : List ℕ → ℕ
-sum_of [] = 0
-sum_of (b ∷ bs) = b + sum_of bs
+sum_of block = list.sum block
 
 -- the sum of all bytes is 0 modulo 256
 unfoldable pub sum_fits : List ℕ → Bool

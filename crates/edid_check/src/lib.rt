@@ -1,7 +1,7 @@
 // The check of an EDID base block before it goes into RAM (document 02, Wishes 7 and 8).
 #![tactic(auto)]
 
-ghost use Rattle.std.specs.Prelude.{◌≡◌, ◌<◌, length};
+ghost use Rattle.std.specs.Prelude.{◌≡◌, ◌≤◌, length};
 ghost use Rattle.edid_check.specs.Block.{header_fits, sum_of, sum_fits};
 ghost use Rattle.edid_check.specs.Edid.{version_fits, digital_fits, depth_fits, interface_fits, input_by3, input_by4, input_verdict, contents as contents_of, Judged, number_of};
 
@@ -44,24 +44,12 @@ fn version_fits(block: &[u8]) -> bool
     (block[18] == 1) & ((block[19] == 3) | (block[19] == 4))
 }
 
-fn widened(x: u8) -> u32
-    ensures { (result ≡ x) × (result < 256) }
-{
-    x as u32
-}
-
 // 128 bytes add up to 32,640 at most.
 fn sum(block: &[u8]) -> u32
-    requires { length block.now ≡ 128 }
+    requires { length block.now ≤ 128 }
     ensures { result ≡ sum_of block.now }
 {
-    let mut total: u32 = 0;
-    let mut i = 0;
-    while i < block.len() {
-        total = total + widened(block[i]);
-        i += 1;
-    }
-    total
+    block.iter().map(|b| u32::from(*b)).sum()
 }
 
 fn sum_fits(block: &[u8]) -> bool

@@ -44,7 +44,7 @@ fn sending_word(b: u8, i: usize) -> u32
 {
     match i {
         0 => CLEAR_WATCHDOG,
-        1 => WRITE_DATA + b as u32,
+        1 => WRITE_DATA + u32::from(b),
         _ => pulse_word(i - 2),
     }
 }
@@ -67,10 +67,8 @@ fn put_words(block: &[u8], words: &mut [u32])
     ensures { words.new ≡ feed_words block.now ++ drop (length (feed_words block.now)) words.old }
 {
     let n = 21 + 20 * block.len();
-    let mut i = 0;
-    while i < n {
+    for i in 0..n {
         words[i] = feed_word(block, i);
-        i += 1;
     }
 }
 
@@ -106,11 +104,9 @@ fn put_bytes(words: &[u32], bytes: &mut [u8])
     ensures { bytes.new ≡ bytes_of_all words.now ++ drop (length (bytes_of_all words.now)) bytes.old }
 {
     let n = 4 * words.len();
-    let mut i = 0;
-    while i < n {
+    for i in 0..n {
         let k = i / 4;
         bytes[i] = word_byte(words[k], i % 4);
-        i += 1;
     }
 }
 

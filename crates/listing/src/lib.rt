@@ -97,11 +97,9 @@ fn repeated(times: u32, start: Progress, word: u32, expected: u32) -> Progress
     ensures { result ≡ repeated_of times start word expected }
 {
     let mut p = start;
-    let mut left = times;
-    while left > 0 {
+    for _done in 0..times {
         let verdict = p.verdict;
         p = given_at(verdict, p, word, expected);
-        left -= 1;
     }
     p
 }
@@ -192,11 +190,9 @@ pub fn read(start: Progress, text: &[u8]) -> Progress
     ensures { result ≡ read_of start text.now }
 {
     let mut p = start;
-    let mut i = 0;
-    while i < text.len() {
+    for b in text {
         let verdict = p.verdict;
-        p = byte_read(verdict, p, text[i]);
-        i += 1;
+        p = byte_read(verdict, p, *b);
     }
     p
 }

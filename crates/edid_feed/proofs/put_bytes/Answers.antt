@@ -25,19 +25,10 @@ word_byte-requires c = omega arith
 pub bounds-bytes-i : goal.bounds-bytes-i
 bounds-bytes-i c = omega (arith, kept _ _ _ _ c.loop-i.invariant)
 
-pub overflow_add-i : goal.overflow_add-i
-overflow_add-i c = omega arith
-
-pub loop-i-smaller : goal.loop-i-smaller
-loop-i-smaller c = omega arith
-
 pub loop-i-preserved : goal.loop-i-preserved
 loop-i-preserved c =
     let words = c.args.words.now in
     more _ _ _ _ c.loop-i.invariant (omega (arith, length_bytes words)) _ (c.word_byte.ensures ∙ byte_at words c.loop-i.i (omega arith))
-
-pub shape_of-bytes : goal.shape_of-bytes
-shape_of-bytes c = kept _ _ _ _ c.loop-i.invariant
 
 pub returns : goal.returns
 returns c = all _ _ _ _ c.loop-i.invariant (omega (arith, length_bytes c.args.words.now))

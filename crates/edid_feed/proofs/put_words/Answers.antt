@@ -19,23 +19,11 @@ loop-i-init c = record { within = omega arith; room = omega (arith, length_feed 
 pub feed_word-requires : goal.feed_word-requires
 feed_word-requires c = omega arith
 
-pub offset_bounds-words-i : goal.offset_bounds-words-i
-offset_bounds-words-i c = omega (arith, kept _ _ _ _ c.loop-i.invariant)
-
 pub bounds-words-i : goal.bounds-words-i
 bounds-words-i c = omega (arith, kept _ _ _ _ c.loop-i.invariant)
 
-pub overflow_add-i : goal.overflow_add-i
-overflow_add-i c = omega arith
-
-pub loop-i-smaller : goal.loop-i-smaller
-loop-i-smaller c = omega arith
-
 pub loop-i-preserved : goal.loop-i-preserved
 loop-i-preserved c = more _ _ _ _ c.loop-i.invariant (omega (arith, length_feed c.args.block.now)) _ c.feed_word.ensures
-
-pub shape_of-words : goal.shape_of-words
-shape_of-words c = kept _ _ _ _ c.loop-i.invariant
 
 pub returns : goal.returns
 returns c = all _ _ _ _ c.loop-i.invariant (omega (arith, length_feed c.args.block.now))

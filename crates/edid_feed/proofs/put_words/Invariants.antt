@@ -1,11 +1,7 @@
 -- What the loop of `edid_feed::put_words` keeps.
-use Prim.Native.Nat.{◌-◌}
 use Rattle.edid_feed.specs.Words.{feed_words}
 use Rattle.edid_feed.proofs.Filled.{Filled}
 use Rattle.edid_feed.proofs.put_words.Given as goal
 
 abbrev pub invariant-loop-i : goal.invariant-loop-i
 invariant-loop-i l = Filled (feed_words l.block) l.initial.words l.words l.i
-
-abbrev pub decreases-loop-i : goal.decreases-loop-i
-decreases-loop-i l = l.n - l.i

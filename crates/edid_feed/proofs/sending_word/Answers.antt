@@ -24,7 +24,7 @@ returns-in-0 c = simp c.in-0.is
 
 pub returns-in-1 : goal.returns-in-1
 unfolding sending
-returns-in-1 c = simp c.in-1.is
+returns-in-1 c = simp (c.in-1.is, c.from.ensures)
 
 pub returns-in_default : goal.returns-in_default
 unfolding sending

@@ -1,8 +1,7 @@
 -- `listing::read` meets its contract: what is left of the text, from here, comes to what the whole comes to.
 -- Assumes nothing.
 use mathlib.Core.Path.{refl, ap, ◌∙◌}
-use Prim.Native.Nat.{◌+◌, ◌-◌}
-use native.Mathlib.Omega.{arith}
+use Prim.Native.Nat.{◌+◌}
 use borrow.Author.Rules.{rules}
 use lib.ListN.{drop}
 use Rattle.listing.specs.declared.Progress.{Progress}
@@ -10,21 +9,13 @@ use Rattle.listing.specs.Listing.{read}
 use Rattle.listing.proofs.Reading.{read_next, read_end}
 use Rattle.listing.proofs.read.Goals as goal
 
-pub loop-i-init : goal.loop-i-init
-loop-i-init c = (search rules, refl)
+pub loop-b-init : goal.loop-b-init
+loop-b-init c = refl
 
-pub overflow_add-i : goal.overflow_add-i
-overflow_add-i c = omega arith
-
-pub loop-i-smaller : goal.loop-i-smaller
-loop-i-smaller c = omega arith
-
-pub loop-i-preserved : goal.loop-i-preserved
-loop-i-preserved c =
-    let text = c.args.text.now in (
-      omega arith,
-      ap (λ (p : Progress). read p (drop (c.loop-i.i + 1) text)) c.byte_read-p.ensures ∙ read_next c.loop-i.p text c.loop-i.i (search rules) ∙ c.loop-i.invariant.1,
-    )
+pub loop-b-preserved : goal.loop-b-preserved
+loop-b-preserved c =
+    let text = c.args.text.now in
+    ap (λ (p : Progress). read p (drop (c.loop-b.b-index + 1) text)) c.byte_read-p.ensures ∙ read_next c.loop-b.p text c.loop-b.b-index (search rules) ∙ c.loop-b.invariant
 
 pub returns : goal.returns
-returns c = read_end _ _ c.loop-i.i (search rules) ∙ c.loop-i.invariant.1
+returns c = read_end _ _ c.loop-b.b-index (search rules) ∙ c.loop-b.invariant

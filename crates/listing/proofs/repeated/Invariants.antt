@@ -4,8 +4,5 @@ use Prim.Native.Nat.{◌-◌}
 use Rattle.listing.specs.Listing.{repeated}
 use Rattle.listing.proofs.repeated.Given as goal
 
-abbrev pub invariant-loop-left : goal.invariant-loop-left
-invariant-loop-left l = repeated l.left l.p l.word l.expected ≡ repeated l.times l.initial.p l.word l.expected
-
-abbrev pub decreases-loop-left : goal.decreases-loop-left
-decreases-loop-left l = l.left
+abbrev pub invariant-loop-done : goal.invariant-loop-done
+invariant-loop-done l = repeated (l.times - l._done) l.p l.word l.expected ≡ repeated l.times l.initial.p l.word l.expected
