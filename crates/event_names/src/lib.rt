@@ -7,6 +7,7 @@ ghost use Rattle.hex_digits.specs.Hex.{hex_digit};
 ghost use Rattle.event_names.specs.Digits.{below, digit_of, joined as joined_of, hex as hex_of, unhex as unhex_of};
 ghost use Rattle.event_names.specs.Names.{number_of, kind_with, names, kind_of, named, name_in, unnamed as unnamed_of, field_of, token_of, clocks, lower, kind_shown, shown_of};
 
+// Numbers, and no byte strings: a token is read byte by byte into one number, and a constant cannot be computed from its bytes.
 const READ: u64 = 0x52454144;
 
 const READ_SHOWN: u64 = 0x72656164;
@@ -270,7 +271,7 @@ const POLARITIES: [u64; 2] = [
     0x56, // V
 ];
 
-// The names in a line of this kind; 0 where a number has none.
+// The names in a line of this kind; 0, the token of no bytes, where a number has none: so the tables of the definitions have it.
 #[tactic(auto, unfolding(crate::specs::Names::names, crate::specs::Names::registers, crate::specs::Names::pins, crate::specs::Names::clocks, crate::specs::Names::polarities))]
 fn names_of(kind: Kind) -> &'static [u64]
     ensures { result.now ≡ names kind }
@@ -343,6 +344,7 @@ fn token_of(kind: Kind, a: u8) -> u64
     name
 }
 
+#[tactic(auto, using(crate::proofs::Names::last_clock), unfolding(crate::specs::Names::clocks, crate::specs::Names::lower, crate::specs::Names::lowered))]
 fn clock_shown(a: u8) -> u64
     requires { a < 4 }
     ensures { result ≡ lower 8 (name_in clocks a) }

@@ -10,7 +10,8 @@ ghost use Rattle.event_text_read.specs.Event.{takes_b, digits_b, limit_b, bound_
 use event_names::{Keyword, Kind};
 use line_tokens::{BadToken, Token};
 
-// What the tokens of a line so far are: none; a kind; a kind and a field A; `word`; a whole word; or a bad token, by its place.
+// What the tokens of a line so far are: none; a kind; a kind and a field A; `word`; a whole word; or a bad token, by its place. A bad token
+// is a state and no `Err`, since the tokens behind it are still taken.
 #[derive(Clone, Copy)]
 pub enum Event {
     Start,

@@ -5,7 +5,8 @@ ghost use Rattle.std.specs.Prelude.{◌≡◌, ◌+◌, ◌*◌, ◌≤◌, leng
 ghost use Rattle.line_tokens.specs.Written.{written, piece, pieces};
 ghost use Rattle.line_text.specs.Line.{Put, line_size, line_content};
 
-// A token put at a place of the buffer, n bytes of it at most; where it ends.
+// A token put at a place of the buffer, n bytes of it at most; where it ends. Buffer and place are two arguments, as `Put` of the laws has
+// them: a struct of both would carry a loan, and be no plainer for three functions.
 fn put(buf: &mut [u8], at: usize, n: u32, v: u64) -> usize
     requires { at + n ≤ length buf.old }
     ensures { Put buf.old at (written n v) result buf.new }
