@@ -31,7 +31,7 @@ pub enum Store {
 }
 
 // Where an address leads. ROM is asked for first, and RAM before registers, as they are commonest: a `match` on ranges is compiled to
-// a search from the lowest one, and an instruction of firmware then takes 126 machine instructions where 111 are allowed.
+// a search from the lowest one, and an instruction of firmware then takes 126 machine instructions in place of 106.
 #[tactic(auto, unfolding(crate::specs::Memory::place))]
 pub fn place_of(a: u16) -> Place
     ensures { (result ≡ place a) × Reaches result }

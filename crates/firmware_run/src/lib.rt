@@ -76,13 +76,14 @@ pub fn was_reset(registers: &[u8; 38], c: Core, event: Result<Event, Refusal>) -
 fn event_at(events: &[u64], k: usize) -> u64
     ensures { result ≡ get_or events.now k 0 }
 {
-    if k < events.len() { events[k] } else { 0 }
+    events.get(k).copied().unwrap_or(0)
 }
 
 // An answer put in its place; past the places nothing is written.
 fn put(answers: &mut [u32], k: usize, answer: u32)
     ensures { answers.new ≡ set answers.old k answer }
 {
+    // not get_mut: what is written through its loan was not proved
     if k < answers.len() {
         answers[k] = answer;
     }
@@ -100,7 +101,7 @@ fn until(events: &[u64], next: usize, n: u32) -> u32
 {
     if next < events.len() {
         let at = events[next] / 4294967296;
-        if at < (n as u64) { at as u32 } else { n }
+        if at < u64::from(n) { at as u32 } else { n }
     } else {
         n
     }
@@ -134,7 +135,7 @@ fn occur(
         }
     } else {
         Occurred {
-            cpu: cpu,
+            cpu,
             core: after,
             answer: done.answer,
         }
@@ -143,11 +144,11 @@ fn occur(
 
 // ---- parts of an instruction
 
+#[tactic(auto, unfolding(firmware_machine::specs::Machine::is_requesting))]
 fn is_requesting(registers: &[u8; 38], core: Core) -> bool
     ensures { result ≡ is_requesting (chip_of registers.now core) }
 {
-    let n = chip::requested(core.irqx, chip::register_at(registers, IEX));
-    !(n == 0)
+    chip::requested(core.irqx, chip::register_at(registers, IEX)) != 0
 }
 
 fn watchdog_after(count: u8, b: u8) -> u8
@@ -173,7 +174,7 @@ fn interrupt(ram: &mut [u8; 256], rom: &[u8], core: Core, c: Cpu) -> Interrupted
     let t = e.store;
     cpu_execution::commit(ram, t);
     let q = e.cpu;
-    let n = (q.over as u16) + (e.cycles as u16);
+    let n = cycles(q, e.cycles);
     Interrupted {
         cpu: cpu_operations::set_over((n % 32) as u8, q),
         core: core_after_cycles(n, core),
@@ -184,7 +185,7 @@ fn interrupt(ram: &mut [u8; 256], rom: &[u8], core: Core, c: Cpu) -> Interrupted
 fn cycles(q: Cpu, n: u8) -> u16
     ensures { result ≡ q.over + n }
 {
-    (q.over as u16) + (n as u16)
+    u16::from(q.over) + u16::from(n)
 }
 
 fn are_few(n: u16) -> bool
@@ -220,6 +221,7 @@ fn advance(
     ensures { (settled_end result ram.new registers.new ≡ runs (to - from) from rom.now [] (machine cpu ram.old (chip_of registers.old core)))
         × Knows seen.new (chip_of registers.new result.core) × (length seen.new ≡ 38) }
 {
+    // no `for`: an instruction takes one turn or several, by interrupts, clocks and registers that are not yet known
     let mut k = core;
     let mut c = cpu;
     let mut i = from;
@@ -355,6 +357,7 @@ fn run_all(
         × (answers.new ≡ (called (runs instructions 0 rom.now events.now (machine cpu ram.old chip)) answers.old).answers)
         × (ram.new ≡ (called (runs instructions 0 rom.now events.now (machine cpu ram.old chip)) answers.old).ram) }
 {
+    // no `for`: a turn gives an event, or does any number of instructions
     let table = cpu_opcodes::table();
     let mut seen = NONE_SEEN;
     let mut registers = chip.registers;
@@ -423,11 +426,7 @@ fn not_run(number: u8, cpu: Cpu, chip: Chip) -> FirmwareResult
 fn is_well_formed(cpu: Cpu, chip: Chip) -> bool
     ensures { result ≡ is_well_formed cpu chip }
 {
-    if cpu.over < 32 {
-        chip_well_formed::well_formed(chip)
-    } else {
-        false
-    }
+    cpu.over < 32 && chip_well_formed::well_formed(chip)
 }
 
 // The firmware call: `instructions` instructions from the CPU, with the events of the list between them. Where it is refused before anything
