@@ -94,6 +94,7 @@ fn settle(text: &[u8], places: &mut [usize], pins: &mut [u8], h: Head) -> Head
 
 // ---- the header
 
+// The tokens one after the other. A `while`: a token, and not the loop, says where the next begins.
 fn read_header(text: &[u8], places: &mut [usize], pins: &mut [u8]) -> Head
     requires { (length places.old ≡ 64) × (length pins.old ≡ 32) }
     ensures { heading result (variables text.now places.new pins.new 0 result.entries) ≡ header_of text.now }

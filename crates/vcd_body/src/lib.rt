@@ -266,7 +266,7 @@ impl<'a> Reader<'a> {
         run
     }
 
-    // As many tokens as go on with the run.
+    // As many tokens as go on with the run. A `while`: a token, and not the loop, says where the next begins.
     fn run_tokens(&self, out: &mut [u32], from: Run) -> Run
         requires tables { Ready self.now }
         requires scale_nonzero { 0 < self.now.scale }
@@ -326,7 +326,7 @@ impl<'a> Reader<'a> {
         from
     }
 
-    // The tokens one after the other.
+    // The tokens one after the other. A `while`: a token, and not the loop, says where the next begins.
     fn read_tokens(&self, out: &mut [u32], from: Cursor) -> Piece
         requires { Ready self.now }
         ensures { answer out.new result ≡ pieces (look self.now) self.now.scale from.state from.done 0 out.old (tokens false from.at (drop from.at self.now.text.now)) }

@@ -3,7 +3,6 @@
 
 ghost use Rattle.std.specs.Prelude.{◌≡◌, [], ◌∷◌, length, get_or};
 ghost use Rattle.vcd_capi.specs.Export.{exported, vcd_of, mode_number, mode_of, flag_of, cursor_of, cursor_numbers, continued, more_of};
-ghost use Rattle.bits.specs.Byte.{num};
 
 use vcd_body::{Cursor, Piece};
 use vcd_steps::{Mode, State};
@@ -27,24 +26,23 @@ fn tell(told: &mut [u64], count: usize, place: usize)
     requires { length told.old ≡ 2 }
     ensures { told.new ≡ count ∷ place ∷ [] }
 {
-    told[0] = count as u64;
-    told[1] = place as u64;
+    told.copy_from_slice(&[count as u64, place as u64]);
 }
 
 // ---- a call that goes on
 
+#[tactic(auto, unfolding(crate::specs::Export::mode_of))]
 fn mode_of(n: u64) -> Mode
     ensures { result ≡ mode_of n }
 {
-    if n == 0 {
-        return Mode::Plain;
+    match n {
+        0 => Mode::Plain,
+        1 => Mode::Code,
+        _ => Mode::Comment,
     }
-    if n == 1 {
-        return Mode::Code;
-    }
-    Mode::Comment
 }
 
+#[tactic(auto, unfolding(crate::specs::Export::mode_number))]
 fn mode_number(mode: Mode) -> u64
     ensures { result ≡ mode_number mode }
 {
@@ -55,52 +53,49 @@ fn mode_number(mode: Mode) -> u64
     }
 }
 
+#[tactic(auto, unfolding(crate::specs::Export::flag_of))]
 fn flag_of(n: u64) -> bool
     ensures { result ≡ flag_of n }
 {
-    if n == 0 { false } else { true }
+    n != 0
 }
 
-fn flag_number(flag: bool) -> u64
-    ensures { result ≡ num flag }
-{
-    if flag { 1 } else { 0 }
-}
-
+#[tactic(auto, unfolding(crate::specs::Export::cursor_of))]
 fn cursor_of(cursor: &[u64]) -> Cursor
     requires { length cursor.now ≡ 8 }
     ensures { result ≡ cursor_of cursor.now }
 {
-    let mode = mode_of(cursor[6]);
     let state = State {
         mark: cursor[2] as usize,
         opened: cursor[3] as usize,
         time: cursor[4],
         clocks: cursor[5],
-        mode: mode,
+        mode: mode_of(cursor[6]),
         inside: flag_of(cursor[7]),
     };
     Cursor {
         at: cursor[0] as usize,
         done: cursor[1],
-        state: state,
+        state,
     }
 }
 
+#[tactic(auto, unfolding(crate::specs::Export::cursor_numbers))]
 fn keep(cursor: &mut [u64], next: Cursor)
     requires { length cursor.old ≡ 8 }
     ensures { cursor.new ≡ cursor_numbers next }
 {
     let state = next.state;
-    let mode = state.mode;
-    cursor[0] = next.at as u64;
-    cursor[1] = next.done;
-    cursor[2] = state.mark as u64;
-    cursor[3] = state.opened as u64;
-    cursor[4] = state.time;
-    cursor[5] = state.clocks;
-    cursor[6] = mode_number(mode);
-    cursor[7] = flag_number(state.inside);
+    cursor.copy_from_slice(&[
+        next.at as u64,
+        next.done,
+        state.mark as u64,
+        state.opened as u64,
+        state.time,
+        state.clocks,
+        mode_number(state.mode),
+        u64::from(state.inside),
+    ]);
 }
 
 fn tell_more(cursor: &mut [u64], told: &mut [u64], piece: Piece) -> u8

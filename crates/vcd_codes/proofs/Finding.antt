@@ -3,22 +3,28 @@
 use mathlib.Core.Bool.{Bool, true, false}
 use mathlib.Core.Path.{◌≡◌, refl, sym, ap, ◌∙◌}
 use mathlib.Core.List.{List, [], ◌∷◌}
-use Prim.Native.Nat.{ℕ, zero, suc, ◌+◌, ◌-◌, ◌*◌, ◌/◌, ◌%◌, ◌<◌, ◌≤◌}
+use Prim.Native.Nat.{ℕ, zero, suc, min, ◌+◌, ◌-◌, ◌*◌, ◌/◌, ◌%◌, ◌<◌, ◌≤◌}
 use native.Mathlib.Omega.{arith}
 use lib.ListN.{length, take, drop, get_or, length-drop, get_or-eq_default}
 use lib.Seq.{take_all}
 use lib.Dec.{eqb, ltb}
-use borrow.Author.Tests.{eqb-true, eqb-false, ltb-true, ltb-false, lt-ltb, le-ltb, eq-eqb, ne_eqb}
+use borrow.Author.Tests.{eqb-true, eqb-false, ltb-true, ltb-false, lt-ltb, ne_eqb}
 use Rattle.bits.specs.Byte.{pick}
-use Rattle.vcd_text.specs.Token.{same_bytes}
 use Rattle.vcd_output.specs.Room.{unpacked}
-use Rattle.vcd_codes.specs.Codes.{Variable, Found, undeclared, declared, joins, find, code_at, variables, meant, joined_to, found_after}
+use Rattle.vcd_codes.specs.Codes.{undeclared, declared, joins, find, variables, meant, joined_to, found_after}
 
 -- an entry that the table has no place for
 pub past_table : (l : List ℕ) (i : ℕ) → length l ≤ i → 0 ≡ get_or l i 0
 past_table l i h = sym (get_or-eq_default l 0 {n = i} h)
 
 -- ---- a slice with its ends kept within the text
+
+min_pick : (a b : ℕ) → min a b ≡ pick (ltb a b) a b
+min_pick a b = by (ltb a b) refl
+  where
+    by : (q : Bool) → ltb a b ≡ q → min a b ≡ pick q a b
+    by true e = let l : a < b = ltb-true a b e in omega arith
+    by false e = let l : b ≤ a = ltb-false a b e in omega arith
 
 clip_from : (text : List ℕ) (from to : ℕ) (q : Bool) → ltb from to ≡ q → to ≤ length text
     → take (to - pick q from to) (drop (pick q from to) text) ≡ take (to - from) (drop from text)
@@ -37,20 +43,13 @@ clip_to : (text : List ℕ) (from to : ℕ) (q : Bool) → ltb to (length text) 
 clip_to text from to true e = refl
 clip_to text from to false e = let l : length text ≤ to = ltb-false to (length text) e in past_end text from (length text - from) (to - from) (omega arith) (omega arith)
 
-least_below : (a b : ℕ) (q : Bool) → ltb a b ≡ q → pick q a b ≤ b
-least_below a b true e = let l : a < b = ltb-true a b e in omega arith
-least_below a b false e = omega arith
-
-pub least_fits : (a b : ℕ) → pick (ltb a b) a b ≤ b
-least_fits a b = least_below a b (ltb a b) refl
-
 pub clipped : (text : List ℕ) (from to : ℕ)
-    → take (pick (ltb to (length text)) to (length text) - pick (ltb from (pick (ltb to (length text)) to (length text))) from (pick (ltb to (length text)) to (length text)))
-    (drop (pick (ltb from (pick (ltb to (length text)) to (length text))) from (pick (ltb to (length text)) to (length text))) text)
-    ≡ take (to - from) (drop from text)
+    → take (min to (length text) - min from (min to (length text))) (drop (min from (min to (length text))) text) ≡ take (to - from) (drop from text)
 clipped text from to =
-    clip_from text from (pick (ltb to (length text)) to (length text)) (ltb from (pick (ltb to (length text)) to (length text))) refl (least_fits to (length text))
-    ∙ clip_to text from to (ltb to (length text)) refl
+    let m = min to (length text) in
+    let begin : take (m - min from m) (drop (min from m) text) ≡ take (m - from) (drop from text) = rw (min_pick from m) (clip_from text from m (ltb from m) refl (omega arith)) in
+    let stop : take (m - from) (drop from text) ≡ take (to - from) (drop from text) = rw (min_pick to (length text)) (clip_to text from to (ltb to (length text)) refl) in
+    begin ∙ stop
 
 -- ---- pins as a number
 

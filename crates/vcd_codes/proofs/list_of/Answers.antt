@@ -1,6 +1,5 @@
 -- `vcd_codes::list_of` meets its contract.
 -- Assumes nothing.
-use Prim.Native.Nat.{◌-◌}
 use Rattle.vcd_codes.proofs.Finding.{entry_more, entry_none, entry_all}
 use mathlib.Core.Path.{refl, ◌∙◌}
 use native.Mathlib.Omega.{arith}
@@ -8,10 +7,10 @@ use borrow.Author.Rules.{rules}
 use Rattle.vcd_codes.proofs.list_of.Goals as goal
 
 pub loop-k-init : goal.loop-k-init
-loop-k-init c = (omega arith, entry_none _ _ _ _ _ _ refl)
+loop-k-init c = entry_none _ _ _ _ _ _ refl
 
 pub loop-k-preserved : goal.loop-k-preserved
-loop-k-preserved c = (omega arith, c.with_entry-list.ensures ∙ rw c.loop-k.invariant.1 (entry_more _ _ _ _ _ c.loop-k.k (search rules) c.loop-k.invariant.0))
+loop-k-preserved c = c.with_entry-list.ensures ∙ rw c.loop-k.invariant (entry_more _ _ _ _ _ c.loop-k.k (omega arith) (omega arith))
 
 pub returns : goal.returns
-returns c = c.loop-k.invariant.1 ∙ entry_all _ _ _ _ _ c.loop-k.k (search rules)
+returns c = c.loop-k.invariant ∙ entry_all _ _ _ _ _ c.loop-k.k (search rules)
