@@ -11,6 +11,7 @@ pub struct Text {
     pub count: usize,
 }
 
+#[tactic(auto, unfolding(crate::specs::Text::empty))]
 fn empty() -> Text
     ensures { result ≡ empty_of }
 {
@@ -21,6 +22,7 @@ fn empty() -> Text
 }
 
 // A byte more; a full text stands.
+#[tactic(auto, unfolding(crate::specs::Text::pushed))]
 fn push(t: Text, b: u8) -> Text
     ensures { result ≡ pushed t b }
 {
@@ -38,12 +40,14 @@ fn push(t: Text, b: u8) -> Text
 }
 
 // The last digit of a number.
+#[tactic(auto, unfolding(crate::specs::Text::digits_to))]
 fn one_digit(t: Text, n: u16) -> Text
     ensures { result ≡ digits_to 0 t n }
 {
     push(t, 48 + (n % 10) as u8)
 }
 
+#[tactic(auto, unfolding(crate::specs::Text::digits_to))]
 fn two_digits(t: Text, n: u16) -> Text
     ensures { result ≡ digits_to 1 t n }
 {
@@ -54,6 +58,7 @@ fn two_digits(t: Text, n: u16) -> Text
     }
 }
 
+#[tactic(auto, unfolding(crate::specs::Text::digits_to))]
 fn three_digits(t: Text, n: u16) -> Text
     ensures { result ≡ digits_to 2 t n }
 {
@@ -64,6 +69,7 @@ fn three_digits(t: Text, n: u16) -> Text
     }
 }
 
+#[tactic(auto, unfolding(crate::specs::Text::digits_to))]
 fn four_digits(t: Text, n: u16) -> Text
     ensures { result ≡ digits_to 3 t n }
 {
@@ -75,6 +81,7 @@ fn four_digits(t: Text, n: u16) -> Text
 }
 
 // A number of up to five digits, without leading zeros.
+#[tactic(auto, unfolding(crate::specs::Text::digits_to))]
 fn five_digits(t: Text, n: u16) -> Text
     ensures { result ≡ digits_to 4 t n }
 {
@@ -92,17 +99,11 @@ fn put_number(t: Text, n: u16) -> Text
     five_digits(push(t, 32), n)
 }
 
-fn wide(n: u8) -> u16
-    ensures { result ≡ n }
-{
-    n as u16
-}
-
 // The whole line, without its end.
 pub fn line(number: u8, n: [u16; 12]) -> Text
     ensures { (result ≡ line_to number n) × (result.count ≤ length result.bytes) }
 {
-    let t0 = five_digits(empty(), wide(number));
+    let t0 = five_digits(empty(), u16::from(number));
     let t1 = put_number(t0, n[0]);
     let t2 = put_number(t1, n[1]);
     let t3 = put_number(t2, n[2]);

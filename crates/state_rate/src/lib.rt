@@ -35,6 +35,7 @@ fn reported(c: Chip, scan: Scan, hertz: &mut f64) -> u32
     }
 }
 
+#[tactic(auto, unfolding(crate::specs::Rate::rate_word, crate::specs::Rate::rate_hertz))]
 fn asked(c: Chip, which: u32, hertz: &mut f64) -> u32
     ensures { (result ≡ rate_word c which) × (hertz.new ≡ rate_hertz c which hertz.old) }
 {
