@@ -34,6 +34,7 @@ pub enum Line {
     Word(u32, u32, u8),
     // behind the word
     End(Event),
+    // a state, and no `Err` of `next`: the reader goes on in it to the end of the line, where `meaning_of` gives the error
     Malformed,
 }
 

@@ -30,6 +30,8 @@ pub struct Output<P> {
 
 // ---- lines on an output
 
+// Whether it went well, and no `io::Result` for `?`: where a part of a line is not written the program has always tried the next part too, and
+// told the last failure.
 fn print<P: Print>(out: &mut Output<P>, text: &[u8]) -> bool {
     match out.to.write_all(text) {
         Ok(()) => true,
