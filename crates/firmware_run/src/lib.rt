@@ -66,8 +66,8 @@ pub fn was_reset(registers: &[u8; 38], c: Core, event: Result<Event, Refusal>) -
     ensures { result ≡ was_reset (chip_of registers.now c) event }
 {
     match event {
-        Ok(Event::Pin(p, level)) => (p == RESET) & (c.reset & !level),
-        Ok(Event::Clock(k)) => c.reset & ((k == WATCHDOG) & counters::watchdog_fires(c.watchdog)),
+        Ok(Event::Pin(RESET, level)) => c.reset & !level,
+        Ok(Event::Clock(WATCHDOG)) => c.reset & counters::watchdog_fires(c.watchdog),
         _ => false,
     }
 }
