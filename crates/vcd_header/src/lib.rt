@@ -51,7 +51,7 @@ pub struct Unit {
 pub struct Pending {
     pub from: usize,
     pub to: usize,
-    pub index: u8,
+    pub index: u32,
     pub pin: u8,
     pub scalar: bool,
     pub whole: bool,
@@ -100,7 +100,7 @@ fn with_unit(h: Head, section: Section, first: usize, scale: u64, unit: u64) -> 
     Head { unit, section, ..h }
 }
 
-fn variable_read(from: usize, to: usize, pin: u8, index: u8, scalar: bool, whole: bool) -> Pending
+fn variable_read(from: usize, to: usize, pin: u8, index: u32, scalar: bool, whole: bool) -> Pending
     ensures { result ≡ pending_of from to pin index scalar whole }
 {
     Pending {

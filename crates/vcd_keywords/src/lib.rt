@@ -232,10 +232,10 @@ fn index_class(b: u8) -> u8
 }
 
 #[tactic(auto, unfolding(crate::specs::Words::index_by))]
-fn index_next(q: u8, c: u8) -> u8
+fn index_next(q: u32, c: u8) -> u32
     ensures { result ≡ index_next q c }
 {
-    match u16::from(q) * 8 + u16::from(c) {
+    match u64::from(q) * 8 + u64::from(c) {
         3 => 1,
         8 => 3,
         9 => 2,
@@ -253,7 +253,7 @@ fn index_next(q: u8, c: u8) -> u8
 }
 
 // How far an index is read, from a state on.
-pub fn index_state(from: u8, t: &[u8]) -> u8
+pub fn index_state(from: u32, t: &[u8]) -> u32
     ensures { result ≡ index_state from t.now }
 {
     t.iter().fold(from, |q, b| index_next(q, index_class(*b)))
