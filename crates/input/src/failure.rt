@@ -94,17 +94,12 @@ fn message_size(text: &[u8; ROOM]) -> usize
     ensures { result ≤ 128 }
 {
     let mut size = 0;
-    let mut at = 0;
-    while at < ROOM {
-        if text[at] == 0 {
-            return if size == 0 { at } else { size };
+    for (at, b) in text.iter().enumerate() {
+        match *b {
+            0 => return if size == 0 { at } else { size },
+            b'(' if at > 0 => size = at - 1,
+            _ => {}
         }
-        if text[at] == b'(' {
-            if at > 0 {
-                size = at - 1;
-            }
-        }
-        at += 1;
     }
     size
 }

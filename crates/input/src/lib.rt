@@ -37,6 +37,7 @@ pub fn fill<R: Read>(from: &mut R, buf: &mut [u8]) -> Filled
 pub fn read_block<R: Read>(from: &mut R, buf: &mut [u8]) -> Block
     ensures { IsPrefixLen result.count buf.new }
 {
+    // a `while`: the reader, and not the loop, says where the next read begins
     let mut done = 0;
     while done < buf.len() {
         match from.read(&mut buf[done..]) {
