@@ -14,7 +14,8 @@ pub struct Outcome {
     pub byte: u8,
 }
 
-// What the tokens of an answer so far are; a bad one by its place. Requests have their bits.
+// What the tokens of an answer so far are; a bad one by its place: a state and no `Err`, since the tokens behind it are still taken.
+// Requests have their bits.
 #[derive(Clone, Copy)]
 pub enum Answer {
     Start,

@@ -47,7 +47,7 @@ pub fn cycle_next(last: u16, n: u16) -> u16
     if n < last { n + 1 } else { 0 }
 }
 
-// The base timer after its clock.
+// The base timer after its clock. An `if`, as for the watchdog: `wrapping_add` would say it of this width alone.
 #[tactic(auto, unfolding(crate::specs::Count::cycle_next, crate::specs::Count::timer_next))]
 pub fn timer_next(n: u8) -> u8
     ensures { result ≡ timer_next n }

@@ -163,6 +163,7 @@ fn enhsel_asked(part: Part, value: u32) -> Result<Asked, Refusal>
     }
 }
 
+// What a call by number asks for. No `TryFrom`: the number alone is no call, its value and the chip decide too.
 #[tactic(auto, unfolding(crate::specs::Numbers::asked))]
 fn asked_for(part: Part, call: u32, value: u32) -> Result<Asked, Refusal>
     ensures { result ≡ asked_of part call value }
