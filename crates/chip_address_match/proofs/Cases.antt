@@ -21,7 +21,7 @@ unfolding OutcomeValues
 outcome_by c true h = kept_case c (compared_in c.core.bus.phase) (h, refl)
 outcome_by c false h = h
 
-outcome_case : (c : Chip) → OutcomeValues c (outcome_report c)
+pub outcome_case : (c : Chip) → OutcomeValues c (outcome_report c)
 unfolding outcome_report
 outcome_case c = outcome_by c (well_formed c) refl
 

@@ -28,7 +28,7 @@ unfolding HoldValues
 hold_by c true h = phase_case c c.core.bus.phase refl h
 hold_by c false h = h
 
-hold_case : (c : Chip) → HoldValues c (hold_report c)
+pub hold_case : (c : Chip) → HoldValues c (hold_report c)
 unfolding hold_report
 hold_case c = hold_by c (well_formed c) refl
 

@@ -13,7 +13,7 @@ unfolding LinesValues
 lines_by c true h = (h, refl, refl, refl, refl)
 lines_by c false h = h
 
-lines_case : (c : Chip) → LinesValues c (lines_report c)
+pub lines_case : (c : Chip) → LinesValues c (lines_report c)
 unfolding lines_report
 lines_case c = lines_by c (well_formed c) refl
 

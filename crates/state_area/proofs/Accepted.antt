@@ -25,10 +25,10 @@ use Rattle.state_area.specs.Area.{same_bytes, accepted, holds, refused, loaded, 
 
 -- ---- equal lists
 
-same_equal : (s t : List ℕ) → same_bytes s t ≡ true → s ≡ t
+pub same_equal : (s t : List ℕ) → same_bytes s t ≡ true → s ≡ t
 same_equal s t h = same_text s t (sym h)
 
-same_refl : (s : List ℕ) → same_bytes s s ≡ true
+pub same_refl : (s : List ℕ) → same_bytes s s ≡ true
 same_refl s = nat_list_eq_equiv.refl s
 
 -- a whole list copied over one of the same length
