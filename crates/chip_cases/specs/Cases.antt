@@ -1,11 +1,13 @@
 -- The cases of document 01, "Replay program and cases": words given to a fresh chip, and what is to come of them.
-use Rattle.std.specs.Prelude.{ℕ, Bool, true, false, ◌≡◌, List, [], ◌∷◌, ◌++◌, length, replicate, Float, Result, Ok, Err}
+use Rattle.std.specs.Prelude.{ℕ, Bool, true, false, ◌≡◌, List, [], ◌∷◌, ◌++◌, length, replicate, Result, Ok, Err}
 use Rattle.registers.specs.Names.{MDCON, HVCON, IEX, IRQX, CLRFLG, CLRWDT, IISTS, BT, BTCON, DACH0, INTA, INTD}
 use Rattle.bits.specs.Byte.{weight}
 use Rattle.events.specs.Pins.{P16, HSYNCI, VSYNCI}
 use Rattle.events.specs.Clocks.{period, base0, watchdog}
 use Rattle.rates.specs.Hertz.{Exactly}
 use Rattle.rates.specs.declared.NoRate.{NoRate}
+use Rattle.rates.specs.declared.Rate.{Rate}
+use Rattle.rates.specs.declared.Rate.TheVariants.{FieldRate, LineRate}
 use Rattle.chip_rate_report.specs.declared.Scan.TheVariants.{Field, Line}
 use Rattle.chip_rate_report.specs.Report.{rate_report}
 use Rattle.chip.specs.declared.Chip.{Chip}
@@ -22,16 +24,22 @@ pub data Claim : Type 0 where
   field_rate : ℕ → ℕ → Claim
   line_rate : ℕ → ℕ → Claim
 
--- a report tells a rate, and nothing of the fraction is lost in it
-abbrev pub Tells : Result Float NoRate → ℕ → ℕ → Type 0
-Tells (Err why) a b = ⊥
-Tells (Ok x) a b = Exactly x a b
+-- a report is the field rate, or the line rate, and nothing of the fraction is lost in it
+abbrev pub IsField : Result Rate NoRate → ℕ → ℕ → Type 0
+IsField (Err why) a b = ⊥
+IsField (Ok (FieldRate x)) a b = Exactly x a b
+IsField (Ok (LineRate x)) a b = ⊥
+
+abbrev pub IsLine : Result Rate NoRate → ℕ → ℕ → Type 0
+IsLine (Err why) a b = ⊥
+IsLine (Ok (FieldRate x)) a b = ⊥
+IsLine (Ok (LineRate x)) a b = Exactly x a b
 
 abbrev pub Meets : Chip → Claim → Type 0
 Meets c none = Unit
 Meets c (vcnt count overflow) = ◌≡◌ {A = ℕ × Bool} (c.core.sync.periods.count.0, c.core.sync.periods.overflow) (count, overflow)
-Meets c (field_rate a b) = Tells (rate_report c Field) a b
-Meets c (line_rate a b) = Tells (rate_report c Line) a b
+Meets c (field_rate a b) = IsField (rate_report c Field) a b
+Meets c (line_rate a b) = IsLine (rate_report c Line) a b
 
 -- a case by the number that document 01 gives it, 0 for the example of the replay program: words, an answer to each, and the claim
 pub record Case : Type 0 where

@@ -1,12 +1,13 @@
 -- What the case of a report says holds of the chip reported on.
 use mathlib.Core.Path.{◌≡◌, refl, sym, ◌∙◌}
 use mathlib.Core.Bool.{Bool, true, false, true≢false}
-use lib.Ieee.{Float}
 use Rattle.std.proofs.Common.{Result, Ok, Err}
 use Rattle.bits.specs.Byte.{pick}
 use Rattle.sync.specs.Sync.{well_sync}
 use Rattle.rates.specs.declared.NoRate.{NoRate}
 use Rattle.rates.specs.declared.NoRate.TheVariants.{IllFormed, NothingLatched, Overflow}
+use Rattle.rates.specs.declared.Rate.{Rate}
+use Rattle.rates.specs.declared.Rate.TheVariants.{FieldRate, LineRate}
 use Rattle.rates.specs.Report.{rate_number, FieldValues, LineValues}
 use Rattle.rates.proofs.Cases.{field_case, line_case}
 use Rattle.chip.specs.declared.Chip.{Chip}
@@ -39,12 +40,13 @@ scan_ill_formed c Field e = out_of_range c e
 scan_ill_formed c Line e = out_of_range c e
 
 -- at a well formed chip the rate's own case says it all
-formed_case : (c : Chip) (scan : Scan) (r : Result Float NoRate) → well_formed c ≡ true → ScanValues c scan r → RateValues c scan r
+formed_case : (c : Chip) (scan : Scan) (r : Result Rate NoRate) → well_formed c ≡ true → ScanValues c scan r → RateValues c scan r
 unfolding RateValues
 formed_case c scan (Err IllFormed) h e = scan_ill_formed c scan e
 formed_case c scan (Err NothingLatched) h e = (h, e)
 formed_case c scan (Err Overflow) h e = (h, e)
-formed_case c scan (Ok x) h e = (h, e)
+formed_case c scan (Ok (FieldRate x)) h e = (h, e)
+formed_case c scan (Ok (LineRate x)) h e = (h, e)
 
 rate_by : (c : Chip) (scan : Scan) (formed : Bool) → well_formed c ≡ formed → RateValues c scan (pick formed (scan_report c scan) (Err IllFormed))
 unfolding RateValues
@@ -61,17 +63,18 @@ in_range c true e h = e
 in_range c false e h = absurd (true≢false (sym h ∙ out_of_range c e))
 
 -- a rate that is the report, with its number and what its case says
-pub rate_says : (c : Chip) (scan : Scan) (r : Result Float NoRate) → r ≡ rate_report c scan → rate_number r ≡ number_at c
+pub rate_says : (c : Chip) (scan : Scan) (r : Result Rate NoRate) → r ≡ rate_report c scan → rate_number r ≡ number_at c
     → (r ≡ rate_report c scan) × RateCase c scan r
 rate_says c scan r e n = (e, record { number = n; values = rw e (rate_case c scan) })
 
 -- a report is told with 8 exactly at an ill formed chip, and with no number else
-number_by : (c : Chip) (scan : Scan) (r : Result Float NoRate) → RateValues c scan r → rate_number r ≡ pick (well_formed c) 0 8
+number_by : (c : Chip) (scan : Scan) (r : Result Rate NoRate) → RateValues c scan r → rate_number r ≡ pick (well_formed c) 0 8
 unfolding RateValues rate_number
 number_by c scan (Err IllFormed) e = rw e refl
 number_by c scan (Err NothingLatched) e = rw e.0 refl
 number_by c scan (Err Overflow) e = rw e.0 refl
-number_by c scan (Ok x) e = rw e.0 refl
+number_by c scan (Ok (FieldRate x)) e = rw e.0 refl
+number_by c scan (Ok (LineRate x)) e = rw e.0 refl
 
 pub rate_number_lem : (c : Chip) (scan : Scan) → rate_number (rate_report c scan) ≡ pick (well_formed c) 0 8
 rate_number_lem c scan = number_by c scan (rate_report c scan) (rate_case c scan)

@@ -5,7 +5,7 @@ ghost use Rattle.std.specs.Prelude.{◌≡◌};
 ghost use Rattle.chip_rate_report.specs.Report.{rate_report, RateCase};
 
 use chip::Chip;
-use rates::NoRate;
+use rates::{NoRate, Rate};
 
 // Which rate is asked for: fields in a second, or lines.
 #[derive(Clone, Copy, Debug, PartialEq, Eq)]
@@ -15,7 +15,7 @@ pub enum Scan {
 }
 
 // The report. An ill formed state is told before all else.
-pub fn rate(c: Chip, scan: Scan) -> Result<f64, NoRate>
+pub fn rate(c: Chip, scan: Scan) -> Result<Rate, NoRate>
     ensures { (result ≡ rate_report c scan) × RateCase c scan result }
 {
     if chip_well_formed::well_formed(c) {

@@ -4,7 +4,7 @@
 #![tactic(auto)]
 
 use counters6862_script::{Event, Progress};
-use rates::NoRate;
+use rates::{NoRate, Rate};
 use std::io;
 use std::io::{Print, Read};
 use std::process::ExitCode;
@@ -15,13 +15,22 @@ fn print_answer<P: Print>(out: &P, number: u8, n: [u16; 12]) -> io::Result<()> {
     out.write_all(&line.bytes[..line.count])
 }
 
-// The rate's 64 bits as sixteen hex digits, or why there is no rate.
-fn print_report<P: Print>(out: &P, rate: Result<f64, NoRate>) -> io::Result<()> {
+// Eight hex digits.
+fn print_half<P: Print>(out: &P, w: u32) -> io::Result<()> {
+    let line = hex_digits::hex_line(w);
+    out.write_all(&line[..8])
+}
+
+// The rate's 64 bits as sixteen hex digits.
+fn print_bits<P: Print>(out: &P, bits: u64) -> io::Result<()> {
+    print_half(out, (bits / 4294967296) as u32)?;
+    print_half(out, (bits % 4294967296) as u32)
+}
+
+// The rate's 64 bits, or why there is no rate.
+fn print_report<P: Print>(out: &P, rate: Result<Rate, NoRate>) -> io::Result<()> {
     match rate {
-        Ok(_) => {
-            let bits = counters6862_script::rate_bits(rate);
-            print!(out; "{bits:016X}")
-        }
+        Ok(_) => print_bits(out, counters6862_script::rate_bits(rate)),
         Err(NoRate::IllFormed) => out.write_all(b"ill-formed"),
         Err(NoRate::NothingLatched) => out.write_all(b"nothing-latched"),
         Err(NoRate::Overflow) => out.write_all(b"overflow"),
@@ -56,7 +65,7 @@ fn print_with_report<P: Print>(
     out: &P,
     number: u8,
     n: [u16; 12],
-    rate: Result<f64, NoRate>,
+    rate: Result<Rate, NoRate>,
 ) -> io::Result<()> {
     print_answer(out, number, n)?;
     out.write_all(b" ")?;

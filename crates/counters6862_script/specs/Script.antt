@@ -4,7 +4,8 @@ use Rattle.std.specs.Float.{binary64}
 use Rattle.std.specs.Float.Ieee.{of_bits, to_bits, lt}
 use Rattle.bits.specs.Byte.{pick}
 use Rattle.rates.specs.declared.NoRate.{NoRate}
-use Rattle.rates.specs.Report.{rate_number}
+use Rattle.rates.specs.declared.Rate.{Rate}
+use Rattle.rates.specs.Report.{rate_number, in_hertz}
 use Rattle.numbers6862.specs.Numbers as numbers
 use Rattle.counters6862_orders.specs.declared.Reader.{Reader}
 use Rattle.counters6862_orders.specs.declared.Found.{Found}
@@ -80,6 +81,6 @@ next p b = pick p.ended (record { progress = p; event = Nothing }) (found (line.
 unfoldable pub positive_bits : Float → ℕ
 positive_bits x = pick (lt (of_bits binary64 0) x) (to_bits binary64 x) 0
 
-unfoldable pub rate_bits : Result Float NoRate → ℕ
+unfoldable pub rate_bits : Result Rate NoRate → ℕ
 rate_bits (Err why) = 0
-rate_bits (Ok x) = positive_bits x
+rate_bits (Ok rate) = positive_bits (in_hertz rate)

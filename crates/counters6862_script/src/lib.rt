@@ -6,7 +6,7 @@ ghost use Rattle.rates.specs.Report.{rate_number};
 ghost use Rattle.counters6862_script.specs.Script.{one_more, opened as opened_of, with_reader, next_line, stopped as stopped_of, put_at, called_with, reported as reported_of, obeyed as obeyed_of, within as within_of, found as found_of, next as next_of, positive_bits, rate_bits};
 
 use counters6862_orders::{Found, Order, Reader};
-use rates::NoRate;
+use rates::{NoRate, Rate};
 
 // What a byte of a script brings to print: nothing, the number of a line, that with the report on the field rate, or that the line is
 // malformed.
@@ -14,7 +14,7 @@ use rates::NoRate;
 pub enum Event {
     Nothing,
     Answer(u8),
-    Report(u8, Result<f64, NoRate>),
+    Report(u8, Result<Rate, NoRate>),
     Malformed,
 }
 
@@ -82,7 +82,7 @@ fn stopped(p: Progress) -> Step
 
 // The number of a report.
 #[tactic(auto, unfolding(rates::specs::Report::rate_number))]
-fn rate_number(rate: Result<f64, NoRate>) -> u8
+fn rate_number(rate: Result<Rate, NoRate>) -> u8
     ensures { result ≡ rate_number rate }
 {
     match rate {
@@ -194,11 +194,11 @@ fn positive_bits(x: f64) -> u64
 
 // The 64 bits of the rate that a report tells, or 0 where it tells none.
 #[tactic(auto, unfolding(crate::specs::Script::rate_bits))]
-pub fn rate_bits(rate: Result<f64, NoRate>) -> u64
+pub fn rate_bits(rate: Result<Rate, NoRate>) -> u64
     ensures { result ≡ rate_bits rate }
 {
     match rate {
-        Ok(x) => positive_bits(x),
+        Ok(told) => positive_bits(told.hertz()),
         Err(_) => 0,
     }
 }

@@ -62,6 +62,7 @@ use Rattle.sync6862_laws.specs.Counting as counting
 use Rattle.sync6862_laws.proofs.Since as since
 use Rattle.rates.specs.Hertz.{Between, field_hz}
 use Rattle.std.proofs.Common.{Ok}
+use Rattle.rates.specs.declared.Rate.TheVariants.{FieldRate}
 use Rattle.rates6862.specs.Report.{field_report, lowest}
 use Rattle.rates6862.proofs.Cases as rate
 use Rattle.edid_check.specs.Block.{header_fits, length_fits, sum_fits}
@@ -215,7 +216,7 @@ pub lines_counted : (s : Counters) (call : Call) (calls : List Call) → unit.we
 lines_counted = since.lines_since
 
 -- the field rate of 14 bits lies between 7 and 125,000 Hz: `lowest` of the NT6862 is 7
-pub field_rate_between : (s : Counters) (x : Float) → field_report s ≡ Ok x
+pub field_rate_between : (s : Counters) (x : Float) → field_report s ≡ Ok (FieldRate x)
     → (x ≡ field_hz s.sync.periods.latch) × Between (lowest s.part) 125000 x
 field_rate_between = rate.rate_between
 

@@ -13,9 +13,9 @@ use Rattle.std.specs.Prelude.{Ok, Err}
 use Rattle.events.specs.Decoded.{Decoded}
 use Rattle.events.specs.declared.Event.{Event}
 use Rattle.events.specs.declared.Refusal.{Refusal}
-use Rattle.events.specs.declared.Refusal.TheVariants.{NoEvent, NoPlace, BadByte}
+use Rattle.events.specs.declared.Refusal.TheVariants.{NoEvent, NoPlace, BadByte, Other}
 use Rattle.events.specs.declared.Event.TheVariants.{Read, Write, Pin, Clock, Polarity}
-use Rattle.events.specs.Word.{kind, reserved, field_a, field_b, event_word, refused_word, event, no_event, no_place, bad_byte, DecodedCase}
+use Rattle.events.specs.Word.{kind, reserved, field_a, field_b, event_word, refused_word, OfWord, event, no_event, no_place, bad_byte, DecodedCase}
 use Rattle.events.specs.Word.{decode, encode, number_of, kind_of, InRange}
 
 -- the fields of a word made of a kind, an A and a B
@@ -32,11 +32,12 @@ module _ (k a b : ℕ) (ha : a < 256) (hb : b < 256) where
   field_b_is : field_b (event_word k a b) ≡ b
   field_b_is = omega arith
 
-decode_refused : (r : Refusal) → decode (refused_word r) ≡ Err r
+decode_refused : (r : Refusal) → OfWord r → decode (refused_word r) ≡ Err r
 unfolding decode no_event no_place bad_byte event
-decode_refused NoEvent = refl
-decode_refused NoPlace = refl
-decode_refused BadByte = refl
+decode_refused NoEvent h = refl
+decode_refused NoPlace h = refl
+decode_refused BadByte h = refl
+decode_refused (Other number) h = absurd h
 
 pub decode_encode : (e : Decoded) → InRange e → decode (encode e) ≡ e
 unfolding decode no_event no_place bad_byte event
@@ -61,7 +62,7 @@ decode_encode (Ok (Polarity true true)) h = refl
 decode_encode (Ok (Polarity true false)) h = refl
 decode_encode (Ok (Polarity false true)) h = refl
 decode_encode (Ok (Polarity false false)) h = refl
-decode_encode (Err r) h = decode_refused r
+decode_encode (Err r) h = decode_refused r h.0
 
 none_of : (x y z : Bool) → (x || (y || z)) ≡ false → (x ≡ false) × (y ≡ false) × (z ≡ false)
 none_of false false false h = (refl, refl, refl)
@@ -109,7 +110,7 @@ kind_of_word (Ok (Write a b)) h z = omega arith
 kind_of_word (Ok (Pin a level)) h z = omega (arith, pin_lt a h, num_lt level)
 kind_of_word (Ok (Clock a)) h z = omega arith
 kind_of_word (Ok (Polarity vertical level)) h z = omega (arith, num_lt vertical, num_lt level)
-kind_of_word (Err r) h z = omega arith
+kind_of_word (Err r) h z = omega (arith, h.1)
 
 pub kind_of_decode : (w : ℕ) → number_of (decode w) ≡ 0 → kind_of (decode w) ≡ kind w
 kind_of_decode w z = sym (kind_of_word (decode w) (decode_in_range w) z) ∙ ap kind (encode_decode w z)

@@ -75,9 +75,9 @@ in_range_by false false false false a b hb h = tt
 pub decode_in_range : (w : ℕ) → InRange (decode w)
 unfolding decode event no_place
 decode_in_range w =
-    pick_by InRange (no_event w) (λ _. (omega arith, omega arith))
-    (λ _. pick_by InRange (no_place w) (λ _. (omega arith, omega arith))
-    (λ h. pick_by InRange (bad_byte w) (λ _. (omega arith, omega arith))
+    pick_by InRange (no_event w) (λ _. (tt, omega arith, omega arith))
+    (λ _. pick_by InRange (no_place w) (λ _. (tt, omega arith, omega arith))
+    (λ h. pick_by InRange (bad_byte w) (λ _. (tt, omega arith, omega arith))
     (λ _. in_range_by (eqb (kind w) 1) (eqb (kind w) 2) (eqb (kind w) 3) (eqb (kind w) 4) (field_a w) (field_b w) (omega arith) h)))
 
 pin_by : (low high : Bool) (a : ℕ) → (low ≡ true → a < 29) → (low || (high && ltb a 29)) ≡ true → a < 29

@@ -5,7 +5,7 @@ use Rattle.events.specs.Decoded.{Decoded}
 use Rattle.events.specs.declared.Event.{Event}
 use Rattle.events.specs.declared.Refusal.{Refusal}
 use Rattle.events.specs.declared.Event.TheVariants.{Read, Write, Pin, Clock, Polarity}
-use Rattle.events.specs.declared.Refusal.TheVariants.{NoEvent, NoPlace, BadByte}
+use Rattle.events.specs.declared.Refusal.TheVariants.{NoEvent, NoPlace, BadByte, Other}
 
 -- "Event words": bits 31..24 of a word
 abbrev pub kind : ℕ → ℕ
@@ -72,11 +72,12 @@ unfoldable pub decode : ℕ → Decoded
 decode word =
     pick (no_event word) (Err NoEvent) (pick (no_place word) (Err NoPlace) (pick (bad_byte word) (Err BadByte) (Ok (event word))))
 
--- "Numbers given back", 1 to 3: the number of each refusal
+-- "Numbers given back", 1 to 3: the number of each refusal; a step is also asked about a refusal with another number
 abbrev pub refusal_number : Refusal → ℕ
 refusal_number NoEvent = 1
 refusal_number NoPlace = 2
 refusal_number BadByte = 3
+refusal_number (Other number) = number
 
 -- "Numbers given back": the number of each case; an event is not refused
 abbrev pub number_of : Decoded → ℕ
@@ -87,6 +88,13 @@ number_of (Ok (Clock a)) = 0
 number_of (Ok (Polarity vertical level)) = 0
 number_of (Err r) = refusal_number r
 
+-- a refusal that a word is given
+abbrev pub OfWord : Refusal → Type 0
+OfWord NoEvent = Unit
+OfWord NoPlace = Unit
+OfWord BadByte = Unit
+OfWord (Other number) = ⊥
+
 -- "Event words" and "Numbers given back": the values of columns A and B, and the three numbers
 abbrev pub InRange : Decoded → Type 0
 InRange (Ok (Read a)) = a < 38
@@ -94,17 +102,19 @@ InRange (Ok (Write a b)) = (a < 38) × (b < 256)
 InRange (Ok (Pin a level)) = is_pin a ≡ true
 InRange (Ok (Clock a)) = a < 4
 InRange (Ok (Polarity vertical level)) = Unit
-InRange (Err r) = (0 < refusal_number r) × (refusal_number r < 4)
+InRange (Err r) = OfWord r × (0 < refusal_number r) × (refusal_number r < 4)
 
 -- "Event words": the word with these fields and zero in bits 23..16
 abbrev pub event_word : ℕ → ℕ → ℕ → ℕ
 event_word kind a b = kind * 16777216 + a * 256 + b
 
--- "Numbers given back": a word of each refusal: of kind 0, a read of 26H, a read with B 1
+-- "Numbers given back": a word that each number refuses: of kind 0, a read of 26H, a read with B 1
+abbrev pub word_refused_with : ℕ → ℕ
+word_refused_with number = pick (eqb number 2) (event_word 1 0x26 0) (pick (eqb number 3) (event_word 1 0 1) 0)
+
+-- a word of each refusal
 abbrev pub refused_word : Refusal → ℕ
-refused_word NoEvent = 0
-refused_word NoPlace = event_word 1 0x26 0
-refused_word BadByte = event_word 1 0 1
+refused_word r = word_refused_with (refusal_number r)
 
 -- "Event words", the table: the kind and the values of each case, as its word; for a refusal, a word that it refuses
 abbrev pub encode : Decoded → ℕ

@@ -3,7 +3,7 @@
 
 ghost use Rattle.std.specs.Prelude.{◌≡◌};
 ghost use Rattle.events.specs.Word.{decode as decode_of, encode as encode_of, event as event_of, is_pin, no_event, no_place, bad_byte};
-ghost use Rattle.events.specs.Word.{DecodedCase, refusal_number, refused_word, event_word};
+ghost use Rattle.events.specs.Word.{DecodedCase, refusal_number, word_refused_with, refused_word, event_word};
 
 // Pins that a rule names, by their number.
 pub const P16: u8 = 14;
@@ -66,6 +66,8 @@ pub enum Refusal {
     NoEvent,
     NoPlace,
     BadByte,
+    // a number that `decode` gives for no word
+    Other(u8),
 }
 
 impl Refusal {
@@ -77,6 +79,7 @@ impl Refusal {
             Refusal::NoEvent => 1,
             Refusal::NoPlace => 2,
             Refusal::BadByte => 3,
+            Refusal::Other(number) => number,
         }
     }
 }
@@ -183,15 +186,22 @@ fn event_word(kind: u8, a: u8, b: u8) -> u32
     u32::from_be_bytes([kind, 0, a, b])
 }
 
+// A word that is refused with this number; of kind 0 for a number with which none is.
+fn word_refused_with(number: u8) -> u32
+    ensures { result ≡ word_refused_with number }
+{
+    match number {
+        2 => event_word(1, 0x26, 0),
+        3 => event_word(1, 0, 1),
+        _ => 0,
+    }
+}
+
 // A word that is refused so.
 fn refused_word(refusal: Refusal) -> u32
     ensures { result ≡ refused_word refusal }
 {
-    match refusal {
-        Refusal::NoEvent => 0,
-        Refusal::NoPlace => event_word(1, 0x26, 0),
-        Refusal::BadByte => event_word(1, 0, 1),
-    }
+    word_refused_with(refusal.number())
 }
 
 // The word of an event; for a refusal, one of the words that it refuses.

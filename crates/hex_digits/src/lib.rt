@@ -44,6 +44,6 @@ pub fn put_lines(words: &[u32], text: &mut [u8])
 {
     let fitting = &words[..words.len().min(text.len() / LINE)];
     for (i, word) in fitting.iter().enumerate() {
-        text[LINE * i..LINE * i + LINE].copy_from_slice(&hex_line(*word));
+        byte_copy::copy(&hex_line(*word), &mut text[LINE * i..]);
     }
 }

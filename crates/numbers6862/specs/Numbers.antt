@@ -1,5 +1,5 @@
 -- A state of the counters as twelve numbers, and calls by number on them: what the C interface and the program go by.
-use Rattle.std.specs.Prelude.{ℕ, Bool, ◌&&◌, List, [], ◌∷◌, eqb, ltb, get_or, Float, Option, Some, None, Result, Ok, Err}
+use Rattle.std.specs.Prelude.{ℕ, Bool, ◌&&◌, List, [], ◌∷◌, eqb, ltb, get_or, Option, Some, None, Result, Ok, Err}
 use Rattle.bits.specs.Byte.{pick, num}
 use Rattle.sync6862.specs.declared.Part.{Part}
 use Rattle.sync6862.specs.declared.Part.TheVariants.{Nt6861, Nt6862}
@@ -12,6 +12,7 @@ use Rattle.sync6862.specs.Unit.{chip_number, well_formed, answer, refusal_number
 use Rattle.sync6862_laws.specs.Counting.{run, clocks}
 use Rattle.rates.specs.declared.NoRate.{NoRate}
 use Rattle.rates.specs.declared.NoRate.TheVariants as no-rate
+use Rattle.rates.specs.declared.Rate.{Rate}
 use Rattle.rates6862.specs.Report.{field_report}
 use Rattle.numbers6862.specs.declared.Asked.{Asked}
 use Rattle.numbers6862.specs.declared.Asked.TheVariants.{Do, Clocks}
@@ -150,9 +151,9 @@ call_number n code value = pick (eqb code 0) (fresh_number (fresh value)) (offer
 
 -- ---- the field rate: numbers that are no well formed state are ill formed
 
-unfoldable pub field_offered : Option Counters → Result Float NoRate
+unfoldable pub field_offered : Option Counters → Result Rate NoRate
 field_offered (Some s) = field_report s
 field_offered None = Err no-rate.IllFormed
 
-unfoldable pub field : List ℕ → Result Float NoRate
+unfoldable pub field : List ℕ → Result Rate NoRate
 field n = field_offered (read n)

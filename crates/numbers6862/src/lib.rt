@@ -6,7 +6,7 @@ ghost use Rattle.sync6862.specs.Unit.{chip_number};
 ghost use Rattle.sync6862_laws.specs.Counting.{run, clocks as clocks_of};
 ghost use Rattle.numbers6862.specs.Numbers.{enhsel_number, numbers_of, bits_fit, part_of, state_of, offered_as, read as read_of, with_bit, alone as alone_of, enhsel_asked, asked as asked_of, given as given_of, given_as, after as after_of, call as call_of, field as field_of};
 
-use rates::NoRate;
+use rates::{NoRate, Rate};
 use sync::{LatchedLines, LatchedPeriods, LineCounter, Lines, PeriodCounter, Periods, Sync};
 use sync6862::{Call, Counters, Part, Refusal};
 
@@ -236,7 +236,7 @@ pub fn call(n: [u16; 12], code: u32, value: u32) -> Result<[u16; 12], Refusal>
 
 // The report on the field rate of the state that the numbers are.
 #[tactic(auto, unfolding(crate::specs::Numbers::field, crate::specs::Numbers::field_offered))]
-pub fn field(n: [u16; 12]) -> Result<f64, NoRate>
+pub fn field(n: [u16; 12]) -> Result<Rate, NoRate>
     ensures { result ≡ field_of n }
 {
     match read(n) {

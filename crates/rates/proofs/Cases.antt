@@ -5,7 +5,6 @@ use mathlib.Core.Bool.{Bool, true, false, ◌||◌}
 use Rattle.std.proofs.Common.{Result, Ok, Err}
 use native.Mathlib.Omega.{arith}
 use lib.Dec.{eqb}
-use lib.Ieee.{Float}
 use borrow.Author.Tests.{eqb-false}
 use Rattle.bits.specs.Byte.{pick}
 use Rattle.bits.proofs.Finite.{neither}
@@ -16,6 +15,7 @@ use Rattle.sync.proofs.WellFormed.{fits}
 use Rattle.rates.specs.Report.{told, by_periods, by_interval, by_field, rate_number, field_report, line_report, PeriodsValues, PeriodsCase, FieldValues, FieldCase, LineValues, LineCase}
 use Rattle.rates.specs.declared.NoRate.{NoRate}
 use Rattle.rates.specs.declared.NoRate.TheVariants.{IllFormed, NothingLatched, Overflow}
+use Rattle.rates.specs.declared.Rate.{Rate}
 use Rattle.rates.proofs.Hertz.{field_between, interval_exact}
 
 -- a latch that is not 0
@@ -30,7 +30,7 @@ or_false true = refl
 or_false false = refl
 
 -- what is told, by the tests in their order
-pub told_case : (Says : Result Float NoRate → Type 0) (overflow unlatched : Bool) (rate : Float)
+pub told_case : (Says : Result Rate NoRate → Type 0) (overflow unlatched : Bool) (rate : Rate)
     → (overflow ≡ true → Says (Err Overflow)) → (overflow ≡ false → unlatched ≡ true → Says (Err NothingLatched)) → (overflow ≡ false → unlatched ≡ false → Says (Ok rate))
     → Says (told overflow unlatched rate)
 told_case Says true unlatched rate over none good = over refl
@@ -49,7 +49,7 @@ told_ok false true a b h = grind arith
 told_ok false false a b h = (refl, refl)
 
 -- no state is told ill formed by its latches
-pub told_number : (overflow unlatched : Bool) (x : Float) → rate_number (told overflow unlatched x) ≡ 0
+pub told_number : (overflow unlatched : Bool) (x : Rate) → rate_number (told overflow unlatched x) ≡ 0
 unfolding rate_number
 told_number true unlatched x = refl
 told_number false true x = refl
@@ -65,7 +65,7 @@ periods_number : (v : PeriodCounter) → rate_number (by_periods v) ≡ 0
 unfolding by_periods
 periods_number v = told_number _ _ _
 
-pub periods_says : (v : PeriodCounter) (r : Result Float NoRate) → r ≡ by_periods v → (r ≡ by_periods v) × PeriodsCase v r
+pub periods_says : (v : PeriodCounter) (r : Result Rate NoRate) → r ≡ by_periods v → (r ≡ by_periods v) × PeriodsCase v r
 periods_says v r e = (e, record { number = rw e (periods_number v); values = rw e (periods_case v) })
 
 -- ---- the field report
@@ -114,9 +114,9 @@ line_case s hsel = line_by s hsel (well_sync s) refl
 
 -- ---- a rate that is the report, with its number and what its case says
 
-pub field_says : (s : Sync) (r : Result Float NoRate) → r ≡ field_report s → rate_number r ≡ pick (well_sync s) 0 8 → (r ≡ field_report s) × FieldCase s r
+pub field_says : (s : Sync) (r : Result Rate NoRate) → r ≡ field_report s → rate_number r ≡ pick (well_sync s) 0 8 → (r ≡ field_report s) × FieldCase s r
 field_says s r e n = (e, record { number = n; values = rw e (field_case s) })
 
-pub line_says : (s : Sync) (hsel : Bool) (r : Result Float NoRate) → r ≡ line_report s hsel → rate_number r ≡ pick (well_sync s) 0 8
+pub line_says : (s : Sync) (hsel : Bool) (r : Result Rate NoRate) → r ≡ line_report s hsel → rate_number r ≡ pick (well_sync s) 0 8
     → (r ≡ line_report s hsel) × LineCase s hsel r
 line_says s hsel r e n = (e, record { number = n; values = rw e (line_case s hsel) })

@@ -8,47 +8,55 @@ use Rattle.sync.specs.declared.Sync.{Sync}
 use Rattle.rates.specs.Hertz.{Exactly, Between, field_hz, interval_hz, line_hz}
 use Rattle.rates.specs.declared.NoRate.{NoRate}
 use Rattle.rates.specs.declared.NoRate.TheVariants.{IllFormed, NothingLatched, Overflow}
+use Rattle.rates.specs.declared.Rate.{Rate}
+use Rattle.rates.specs.declared.Rate.TheVariants.{FieldRate, LineRate}
+
+-- a rate in Hz, of fields or of lines
+abbrev pub in_hertz : Rate → Float
+in_hertz (FieldRate x) = x
+in_hertz (LineRate x) = x
 
 -- an overflow is told before a latch of 0, and that before a rate
 abbrev pub told : {A : Type 0} → Bool → Bool → A → Result A NoRate
 told overflow unlatched rate = pick overflow (Err Overflow) (pick unlatched (Err NothingLatched) (Ok rate))
 
 -- the field rate needs VCNT
-unfoldable pub by_periods : PeriodCounter → Result Float NoRate
-by_periods v = told v.overflow (eqb v.latch.0 0) (field_hz v.latch)
+unfoldable pub by_periods : PeriodCounter → Result Rate NoRate
+by_periods v = told v.overflow (eqb v.latch.0 0) (FieldRate (field_hz v.latch))
 
 -- the line rate at HSEL 0 needs HCNT
-unfoldable pub by_interval : LineCounter → Result Float NoRate
-by_interval h = told h.overflow (eqb h.latch.0 0) (interval_hz h.latch)
+unfoldable pub by_interval : LineCounter → Result Rate NoRate
+by_interval h = told h.overflow (eqb h.latch.0 0) (LineRate (interval_hz h.latch))
 
 -- the line rate at HSEL 1 needs both counters
-unfoldable pub by_field : LineCounter → PeriodCounter → Result Float NoRate
-by_field h v = told (h.overflow || v.overflow) (eqb h.latch.0 0 || eqb v.latch.0 0) (line_hz h.latch v.latch)
+unfoldable pub by_field : LineCounter → PeriodCounter → Result Rate NoRate
+by_field h v = told (h.overflow || v.overflow) (eqb h.latch.0 0 || eqb v.latch.0 0) (LineRate (line_hz h.latch v.latch))
 
 -- an ill formed state is told before all else
-unfoldable pub field_report : Sync → Result Float NoRate
+unfoldable pub field_report : Sync → Result Rate NoRate
 field_report s = pick (well_sync s) (by_periods s.periods) (Err IllFormed)
 
-unfoldable pub line_report : Sync → Bool → Result Float NoRate
+unfoldable pub line_report : Sync → Bool → Result Rate NoRate
 line_report s hsel = pick (well_sync s) (pick hsel (by_field s.lines s.periods) (by_interval s.lines)) (Err IllFormed)
 
 -- the number of a report (document 01, "Numbers"): an ill formed state is 8, and nothing else is refused
-unfoldable pub rate_number : Result Float NoRate → ℕ
+unfoldable pub rate_number : Result Rate NoRate → ℕ
 rate_number (Err IllFormed) = 8
 rate_number (Err NothingLatched) = 0
 rate_number (Err Overflow) = 0
-rate_number (Ok x) = 0
+rate_number (Ok rate) = 0
 
 -- ---- what the cases say: each what it is told for, and that nothing told before it holds; and the number that it is told with
 
 -- of the field rate from VCNT, which is told of every counter
-unfoldable pub PeriodsValues : PeriodCounter → Result Float NoRate → Type 0
+unfoldable pub PeriodsValues : PeriodCounter → Result Rate NoRate → Type 0
 PeriodsValues v (Err IllFormed) = ⊥
 PeriodsValues v (Err Overflow) = v.overflow ≡ true
 PeriodsValues v (Err NothingLatched) = (v.overflow ≡ false) × (eqb v.latch.0 0 ≡ true)
-PeriodsValues v (Ok x) = (v.overflow ≡ false) × (eqb v.latch.0 0 ≡ false) × (x ≡ field_hz v.latch)
+PeriodsValues v (Ok (FieldRate x)) = (v.overflow ≡ false) × (eqb v.latch.0 0 ≡ false) × (x ≡ field_hz v.latch)
+PeriodsValues v (Ok (LineRate x)) = ⊥
 
-pub record PeriodsCase (v : PeriodCounter) (r : Result Float NoRate) : Type 0 where
+pub record PeriodsCase (v : PeriodCounter) (r : Result Rate NoRate) : Type 0 where
   pub number : rate_number r ≡ 0
   pub values : PeriodsValues v r
 
@@ -63,13 +71,14 @@ abbrev pub SaysRate : Sync → Bool → Bool → Type 0
 SaysRate s overflow unlatched = (well_sync s ≡ true) × (overflow ≡ false) × (unlatched ≡ false)
 
 -- of a field report
-unfoldable pub FieldValues : Sync → Result Float NoRate → Type 0
+unfoldable pub FieldValues : Sync → Result Rate NoRate → Type 0
 FieldValues s (Err IllFormed) = well_sync s ≡ false
 FieldValues s (Err Overflow) = SaysOverflow s s.periods.overflow
 FieldValues s (Err NothingLatched) = SaysNothingLatched s s.periods.overflow (eqb s.periods.latch.0 0)
-FieldValues s (Ok x) = SaysRate s s.periods.overflow (eqb s.periods.latch.0 0) × (x ≡ field_hz s.periods.latch) × Between 30 125000 x
+FieldValues s (Ok (FieldRate x)) = SaysRate s s.periods.overflow (eqb s.periods.latch.0 0) × (x ≡ field_hz s.periods.latch) × Between 30 125000 x
+FieldValues s (Ok (LineRate x)) = ⊥
 
-pub record FieldCase (s : Sync) (r : Result Float NoRate) : Type 0 where
+pub record FieldCase (s : Sync) (r : Result Rate NoRate) : Type 0 where
   pub number : rate_number r ≡ pick (well_sync s) 0 8
   pub values : FieldValues s r
 
@@ -81,13 +90,14 @@ abbrev pub line_unlatched : Sync → Bool → Bool
 line_unlatched s hsel = eqb s.lines.latch.0 0 || pick hsel (eqb s.periods.latch.0 0) false
 
 -- of a line report
-unfoldable pub LineValues : Sync → Bool → Result Float NoRate → Type 0
+unfoldable pub LineValues : Sync → Bool → Result Rate NoRate → Type 0
 LineValues s hsel (Err IllFormed) = well_sync s ≡ false
 LineValues s hsel (Err Overflow) = SaysOverflow s (line_overflow s hsel)
 LineValues s hsel (Err NothingLatched) = SaysNothingLatched s (line_overflow s hsel) (line_unlatched s hsel)
-LineValues s true (Ok x) = SaysRate s (line_overflow s true) (line_unlatched s true) × (x ≡ line_hz s.lines.latch s.periods.latch)
-LineValues s false (Ok x) = SaysRate s (line_overflow s false) (line_unlatched s false) × Exactly x (s.lines.latch.0 * 15625) 128
+LineValues s true (Ok (LineRate x)) = SaysRate s (line_overflow s true) (line_unlatched s true) × (x ≡ line_hz s.lines.latch s.periods.latch)
+LineValues s false (Ok (LineRate x)) = SaysRate s (line_overflow s false) (line_unlatched s false) × Exactly x (s.lines.latch.0 * 15625) 128
+LineValues s hsel (Ok (FieldRate x)) = ⊥
 
-pub record LineCase (s : Sync) (hsel : Bool) (r : Result Float NoRate) : Type 0 where
+pub record LineCase (s : Sync) (hsel : Bool) (r : Result Rate NoRate) : Type 0 where
   pub number : rate_number r ≡ pick (well_sync s) 0 8
   pub values : LineValues s hsel r

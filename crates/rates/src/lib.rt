@@ -3,7 +3,7 @@
 
 ghost use Rattle.std.specs.Prelude.{◌≡◌, ◌≤◌, ◌<◌, ◌*◌};
 ghost use Rattle.rates.specs.Hertz.{Exactly, field_hz, interval_hz, line_hz};
-ghost use Rattle.rates.specs.Report.{told, rate_number, by_periods, by_interval, by_field, field_report, line_report, PeriodsCase, FieldCase, LineCase};
+ghost use Rattle.rates.specs.Report.{in_hertz, told, rate_number, by_periods, by_interval, by_field, field_report, line_report, PeriodsCase, FieldCase, LineCase};
 
 use sync::{LatchedLines, LatchedPeriods, LineCounter, PeriodCounter, Sync};
 
@@ -13,6 +13,25 @@ pub enum NoRate {
     IllFormed,
     NothingLatched,
     Overflow,
+}
+
+// A rate in Hz, of fields or of lines.
+#[derive(Clone, Copy)]
+pub enum Rate {
+    FieldRate(f64),
+    LineRate(f64),
+}
+
+impl Rate {
+    // In Hz, whichever it is.
+    pub fn hertz(self) -> f64
+        ensures { result ≡ in_hertz self }
+    {
+        match self {
+            Rate::FieldRate(x) => x,
+            Rate::LineRate(x) => x,
+        }
+    }
 }
 
 // The field rate of a VCNT latch: one division, so one rounding.
@@ -61,37 +80,37 @@ fn latched(overflow: bool, unlatched: bool) -> Result<(), NoRate>
 }
 
 // The field rate from VCNT of any width, or why there is none.
-pub fn by_periods(v: PeriodCounter) -> Result<f64, NoRate>
+pub fn by_periods(v: PeriodCounter) -> Result<Rate, NoRate>
     ensures { (result ≡ by_periods v) × PeriodsCase v result }
 {
     latched(v.overflow, v.latch.0 == 0)?;
     let latch = v.latch;
-    Ok(field_hz(latch))
+    Ok(Rate::FieldRate(field_hz(latch)))
 }
 
 // The line rate from HCNT over the interval, or why there is none.
-fn by_interval(h: LineCounter) -> Result<f64, NoRate>
+fn by_interval(h: LineCounter) -> Result<Rate, NoRate>
     requires { h.latch.0 < 4096 }
     ensures { (result ≡ by_interval h) × (rate_number result ≡ 0) }
 {
     latched(h.overflow, h.latch.0 == 0)?;
     let latch = h.latch;
-    Ok(interval_hz(latch))
+    Ok(Rate::LineRate(interval_hz(latch)))
 }
 
 // The line rate from both counters over a field, or why there is none.
-fn by_field(h: LineCounter, v: PeriodCounter) -> Result<f64, NoRate>
+fn by_field(h: LineCounter, v: PeriodCounter) -> Result<Rate, NoRate>
     requires { (h.latch.0 < 4096) × (v.latch.0 < 4096) }
     ensures { (result ≡ by_field h v) × (rate_number result ≡ 0) }
 {
     latched(h.overflow | v.overflow, (h.latch.0 == 0) | (v.latch.0 == 0))?;
     let lines = h.latch;
     let periods = v.latch;
-    Ok(line_hz(lines, periods))
+    Ok(Rate::LineRate(line_hz(lines, periods)))
 }
 
 // The report on the field rate.
-pub fn field_rate(s: Sync) -> Result<f64, NoRate>
+pub fn field_rate(s: Sync) -> Result<Rate, NoRate>
     ensures { (result ≡ field_report s) × FieldCase s result }
 {
     if sync::well_sync(s) {
@@ -103,7 +122,7 @@ pub fn field_rate(s: Sync) -> Result<f64, NoRate>
 }
 
 // The report on the line rate, HSEL being this.
-pub fn line_rate(s: Sync, hsel: bool) -> Result<f64, NoRate>
+pub fn line_rate(s: Sync, hsel: bool) -> Result<Rate, NoRate>
     ensures { (result ≡ line_report s hsel) × LineCase s hsel result }
 {
     if sync::well_sync(s) {

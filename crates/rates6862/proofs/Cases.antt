@@ -16,6 +16,8 @@ use Rattle.rates.specs.Hertz.{Between, field_hz}
 use Rattle.rates.specs.Report.{by_periods, rate_number}
 use Rattle.rates.specs.declared.NoRate.{NoRate}
 use Rattle.rates.specs.declared.NoRate.TheVariants.{IllFormed}
+use Rattle.rates.specs.declared.Rate.{Rate}
+use Rattle.rates.specs.declared.Rate.TheVariants.{FieldRate}
 use Rattle.rates.proofs.Hertz.{field_between}
 use Rattle.rates.proofs.Cases.{positive, told_case}
 use Rattle.rates6862.specs.Report.{field_report, lowest, FieldValues, number_at, FieldCase}
@@ -47,10 +49,10 @@ unfolding field_report
 field_case s = field_by s (well_formed s) refl
 
 -- a rate that is the report, with its number and what its case says
-pub field_says : (s : Counters) (r : Result Float NoRate) → r ≡ field_report s → rate_number r ≡ number_at s → (r ≡ field_report s) × FieldCase s r
+pub field_says : (s : Counters) (r : Result Rate NoRate) → r ≡ field_report s → rate_number r ≡ number_at s → (r ≡ field_report s) × FieldCase s r
 field_says s r e n = (e, record { number = n; values = rw e (field_case s) })
 
 -- a rate that is reported is 125,000 divided by the latch, rounded once, and lies between the chip's lowest and 125,000
-pub rate_between : (s : Counters) (x : Float) → field_report s ≡ Ok x → (x ≡ field_hz s.sync.periods.latch) × Between (lowest s.part) 125000 x
+pub rate_between : (s : Counters) (x : Float) → field_report s ≡ Ok (FieldRate x) → (x ≡ field_hz s.sync.periods.latch) × Between (lowest s.part) 125000 x
 unfolding FieldValues
-rate_between s x e = let c : FieldValues s (Ok x) = rw e at (field_case s) in (c.1, c.2)
+rate_between s x e = let c : FieldValues s (Ok (FieldRate x)) = rw e at (field_case s) in (c.1, c.2)

@@ -4,11 +4,11 @@
 ghost use Rattle.std.specs.Prelude.{◌≡◌};
 ghost use Rattle.rates6862.specs.Report.{field_report, FieldCase};
 
-use rates::NoRate;
+use rates::{NoRate, Rate};
 use sync6862::Counters;
 
 // The report on the field rate. An ill formed state is told before all else.
-pub fn field_rate(s: Counters) -> Result<f64, NoRate>
+pub fn field_rate(s: Counters) -> Result<Rate, NoRate>
     ensures { (result ≡ field_report s) × FieldCase s result }
 {
     if sync6862::well_formed(s) {

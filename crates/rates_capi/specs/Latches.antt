@@ -4,6 +4,8 @@ use Rattle.sync.specs.declared.Sync.{Sync}
 use Rattle.rates.specs.Hertz.{quotient}
 use Rattle.rates.specs.declared.NoRate.{NoRate}
 use Rattle.rates.specs.declared.NoRate.TheVariants.{IllFormed, NothingLatched, Overflow}
+use Rattle.rates.specs.declared.Rate.{Rate}
+use Rattle.rates.specs.Report.{in_hertz}
 
 -- counts of 0 and no overflow, with these latches of HCNT and VCNT
 abbrev pub latches : ℕ → ℕ → Sync
@@ -15,8 +17,8 @@ latches h v =
     }
 
 -- the rate of a report; 0, which is no rate, where it tells none
-unfoldable pub hertz : Result Float NoRate → Float
+unfoldable pub hertz : Result Rate NoRate → Float
 hertz (Err IllFormed) = quotient 0 1
 hertz (Err NothingLatched) = quotient 0 1
 hertz (Err Overflow) = quotient 0 1
-hertz (Ok x) = x
+hertz (Ok rate) = in_hertz rate

@@ -5,7 +5,7 @@ ghost use Rattle.std.specs.Prelude.{◌≡◌, true, false};
 ghost use Rattle.rates.specs.Report.{field_report, line_report};
 ghost use Rattle.rates_capi.specs.Latches.{latches as latches_of, hertz as hertz_of};
 
-use rates::NoRate;
+use rates::{NoRate, Rate};
 use sync::{LatchedLines, LatchedPeriods, LineCounter, Lines, PeriodCounter, Periods, Sync};
 
 // Counters with these latches.
@@ -28,10 +28,13 @@ fn latches(h: u16, v: u16) -> Sync
 }
 
 // The rate of a report, or 0 where it tells none.
-fn hertz(rate: Result<f64, NoRate>) -> f64
+fn hertz(rate: Result<Rate, NoRate>) -> f64
     ensures { result ≡ hertz_of rate }
 {
-    rate.unwrap_or(0.0)
+    match rate {
+        Ok(told) => told.hertz(),
+        Err(_) => 0.0,
+    }
 }
 
 // The field rate, v being the VCNT latch; 0 where there is none.

@@ -91,7 +91,7 @@ fn put_four(area: &mut [u8], at: usize, n: u32)
     requires { at + 4 ≤ length area.old }
     ensures { area.new ≡ take at area.old ++ (four_bytes n ++ drop (at + 4) area.old) }
 {
-    area[at..at + 4].copy_from_slice(&n.to_le_bytes());
+    byte_copy::copy(&n.to_le_bytes(), &mut area[at..]);
 }
 
 // The whole words of bytes, four for each, to the start of the places, as many as fit.

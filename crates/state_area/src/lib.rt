@@ -51,7 +51,7 @@ pub fn put(c: Chip, area: &mut [u8])
     ensures { area.new ≡ put_in c area.old }
 {
     if area.len() == 128 {
-        area.copy_from_slice(&state_bytes::bytes_of(c));
+        byte_copy::copy(&state_bytes::bytes_of(c), area);
     }
 }
 

@@ -27,8 +27,8 @@ fn reported(c: Chip, scan: Scan, hertz: &mut f64) -> u32
 {
     let rate = chip_rate_report::rate(c, scan);
     match rate {
-        Ok(x) => {
-            *hertz = x;
+        Ok(told) => {
+            *hertz = told.hertz();
             0
         }
         Err(why) => no_rate_word(why),

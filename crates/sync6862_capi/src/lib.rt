@@ -4,7 +4,7 @@
 ghost use Rattle.std.specs.Prelude.{◌≡◌, Err};
 ghost use Rattle.sync6862_capi.specs.Lent.{lent, hertz as hertz_of, field_lent};
 
-use rates::NoRate;
+use rates::{NoRate, Rate};
 
 // The number for another length than twelve.
 const NOT_TWELVE: u8 = 15;
@@ -39,11 +39,11 @@ fn no_rate(why: NoRate) -> f64
 
 // The field rate in Hz, or why there is none.
 #[tactic(auto, unfolding(crate::specs::Lent::hertz))]
-fn hertz(rate: Result<f64, NoRate>) -> f64
+fn hertz(rate: Result<Rate, NoRate>) -> f64
     ensures { result ≡ hertz_of rate }
 {
     match rate {
-        Ok(x) => x,
+        Ok(told) => told.hertz(),
         Err(why) => no_rate(why),
     }
 }

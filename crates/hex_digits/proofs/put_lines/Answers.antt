@@ -1,30 +1,34 @@
 -- `hex_digits::put_lines` meets its contract.
 -- Assumes nothing.
-use mathlib.Core.Path.{◌≡◌, refl, ap, ap₂, ◌∙◌}
+use mathlib.Core.Path.{◌≡◌, refl, ap, ◌∙◌}
 use mathlib.Core.List.{List, ◌++◌}
 use Prim.Native.Nat.{ℕ, ◌+◌, ◌-◌, ◌*◌, ◌/◌, ◌≤◌, min}
 use native.Mathlib.Omega.{arith}
 use borrow.Rule.Slice.PartMut.{put_mid}
-use lib.ListN.{length, take, drop, length-take}
-use lib.Seq.{drop-drop}
+use lib.ListN.{length, take, drop, length-take, length-drop}
+use Rattle.list_laws.proofs.Place.{placed_as}
 use Rattle.hex_digits.specs.Hex.{hex_lines}
-use Rattle.hex_digits.proofs.Line.{line_more, lines_fit, all_fit}
+use Rattle.hex_digits.proofs.Line.{length_line, line_more, lines_fit, all_fit}
 use Rattle.hex_digits.proofs.put_lines.Goals as goal
 
 pub loop-i-init : goal.loop-i-init
 unfolding hex_lines
 loop-i-init c = refl
 
--- a part of a list put anew
-put_part : (now l m : List ℕ) (at end : ℕ) → at ≤ end → l ≡ m → put_mid at (end - at) now l ≡ take at now ++ (m ++ drop end now)
-put_part now l m at end h e =
-    ap₂ (λ (k r : List ℕ). take at now ++ (k ++ r)) e (drop-drop (end - at) at now ∙ ap (λ (n : ℕ). drop n now) (omega arith))
+-- a line is within the rest of the text
+within_rest : (now line : List ℕ) (at : ℕ) → length line ≡ 9 → at + 9 ≤ length now → length line ≤ length (take (length now - at) (drop at now))
+within_rest now line at n h = omega (arith, length-take (length now - at) (drop at now), length-drop at now)
 
 pub loop-i-preserved : goal.loop-i-preserved
 loop-i-preserved c =
     let i = c.loop-i.i in
+    let now = c.loop-i.text in
+    let line = c.hex_line.result in
+    let size : length line ≡ 9 = ap length c.hex_line.ensures ∙ length_line _ in
+    let room : 9 * i + 9 ≤ length now = omega (arith, c.loop-i-test.true, c.loop-i.auto.text, c.min.ensures, length-take c.min.result c.args.words.now) in
     line_more (take c.min.result c.args.words.now) c.args.text.now _ i c.loop-i-test.true c.loop-i.invariant _
-    (put_part _ _ _ (9 * i) (9 * i + 9) (omega arith) (c.copy_from_slice.ensures.after ∙ c.hex_line.ensures))
+    (ap (put_mid (9 * i) (length now - 9 * i) now) (c.copy.ensures.fits (within_rest now line (9 * i) size room)).1
+    ∙ placed_as now line _ (9 * i) 9 c.hex_line.ensures (length_line _) room)
 
 -- the words that fit have their lines
 all_put : (xs old now : List ℕ) (n i : ℕ) → now ≡ hex_lines (take i (take n xs)) ++ drop (9 * i) old → n ≡ min (length xs) (length old / 9)

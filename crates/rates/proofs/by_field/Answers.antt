@@ -1,6 +1,7 @@
 -- `rates::by_field` meets its contract.
 use Rattle.std.proofs.Common.{rules, ◌≡◌, sym, ◌∙◌, refl, ap, Err}
 use Rattle.rates.specs.Hertz.{line_hz}
+use Rattle.rates.specs.declared.Rate.TheVariants.{LineRate}
 use Rattle.rates.specs.Report.{by_field, rate_number}
 use Rattle.rates.proofs.Cases.{told_err, told_ok, told_number, both_positive}
 use Rattle.rates.proofs.by_field.Goals as goal
@@ -15,7 +16,7 @@ pub returns-in_err-latched : goal.returns-in_err-latched
 unfolding by_field
 returns-in_err-latched c =
     let is : c.from_residual.result ≡ Err c.in_err-latched.field-0.0 = search rules in
-    let told = is ∙ sym (told_err _ _ _ tt (line_hz c.args.h.latch c.args.v.latch) (sym c.latched.ensures ∙ c.in_err-latched.was)) in
+    let told = is ∙ sym (told_err _ _ _ tt (LineRate (line_hz c.args.h.latch c.args.v.latch)) (sym c.latched.ensures ∙ c.in_err-latched.was)) in
     (told, ap rate_number told ∙ told_number _ _ _)
 
 pub returns : goal.returns

@@ -5,7 +5,7 @@ use Rattle.state_rate.proofs.reported.Goals as goal
 
 pub returns-in-Ok : goal.returns-in-Ok
 unfolding report_word report_hertz
-returns-in-Ok c = rw (sym c.rate-rate.ensures.0 ∙ c.in-Ok.is) (refl, refl)
+returns-in-Ok c = rw (sym c.rate-rate.ensures.0 ∙ c.in-Ok.is) (refl, c.hertz.ensures)
 
 pub returns-in-Err : goal.returns-in-Err
 unfolding report_hertz
