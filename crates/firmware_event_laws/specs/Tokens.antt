@@ -107,7 +107,7 @@ malformed_line text = malformed_at 1 (split newline text)
 
 -- what a check of the whole text tells
 abbrev pub told_by : Result Checked MalformedLine → Option ℕ
-told_by (Ok c) = pick (ends_well c) None (Some c.line)
+told_by (Ok c) = pick (ends_well (Ok c)) None (Some c.line)
 told_by (Err e) = Some e.number
 
 -- ---- what a text means

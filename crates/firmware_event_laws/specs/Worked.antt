@@ -1,5 +1,5 @@
 -- Texts as bytes, and what is told of them.
-use Rattle.std.specs.Prelude.{ℕ, List, [], ◌∷◌, Option}
+use Rattle.std.specs.Prelude.{ℕ, List, [], ◌∷◌, Option, Ok}
 use Prim.Native.Char.{code}
 use Prim.Native.String.{String, [] as empty, ◌∷◌ as ◌then◌}
 use Rattle.firmware_event_lines.specs.Lines.{Meaning, event as event_line, line_means}
@@ -16,7 +16,7 @@ abbrev pub means : String → Meaning
 means s = line_means (codes s)
 
 abbrev pub told : String → Option ℕ
-told s = told_by (checked_on opened_list (codes s))
+told s = told_by (checked_on (Ok opened_list) (codes s))
 
 -- a line of a number and a word
 abbrev pub event : ℕ → ℕ → Meaning

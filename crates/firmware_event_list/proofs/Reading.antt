@@ -18,26 +18,26 @@ use Rattle.firmware_event_list.specs.Lists.{is_something, checked_byte, on_check
 
 -- ---- every line checked
 
+-- a malformed line ends it
+pub check_stop : (e : MalformedLine) (bs : List ℕ) → Err e ≡ checked_on (Err e) bs
+unfolding checked_on
+check_stop e [] = refl
+check_stop e (b ∷ bs) = check_stop e bs
+
 module _ (c : Checked) (t : List ℕ) (i : ℕ) where
-  pub check_next : i < length t → checked_on c (drop i t) ≡ on_checked (checked_byte c (get_or t i 0)) (λ (d : Checked). checked_on d (drop (i + 1) t))
+  pub check_next : i < length t → checked_on (Ok c) (drop i t) ≡ checked_on (checked_byte c (get_or t i 0)) (drop (i + 1) t)
   unfolding checked_on
   check_next h = rw (add-one, drop-cons t i 0 h) refl
 
-  pub check_end : length t ≤ i → checked_on c (drop i t) ≡ Ok c
+  pub check_end : length t ≤ i → checked_on (Ok c) (drop i t) ≡ Ok c
   unfolding checked_on
   check_end h = rw (drop_of_length-le t {i = i} h) refl
 
 -- a text checked in two blocks
-block_step : (x : Result Checked MalformedLine) (xs ys : List ℕ)
-    → ((c : Checked) → checked_on c (xs ++ ys) ≡ on_checked (checked_on c xs) (λ (d : Checked). checked_on d ys))
-    → on_checked x (λ (c : Checked). checked_on c (xs ++ ys)) ≡ on_checked (on_checked x (λ (c : Checked). checked_on c xs)) (λ (d : Checked). checked_on d ys)
-block_step (Ok c) xs ys ih = ih c
-block_step (Err e) xs ys ih = refl
-
-pub check_append : (c : Checked) (xs ys : List ℕ) → checked_on c (xs ++ ys) ≡ on_checked (checked_on c xs) (λ (d : Checked). checked_on d ys)
+pub check_append : (c : Result Checked MalformedLine) (xs ys : List ℕ) → checked_on c (xs ++ ys) ≡ checked_on (checked_on c xs) ys
 unfolding checked_on
 check_append c [] ys = refl
-check_append c (b ∷ xs) ys = block_step (checked_byte c b) xs ys (λ d. check_append d xs ys)
+check_append c (b ∷ xs) ys = check_append (on_checked c (λ (d : Checked). checked_byte d b)) xs ys
 
 -- ---- event by event
 

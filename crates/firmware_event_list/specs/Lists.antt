@@ -29,13 +29,13 @@ checked r n = record { reader = r; line = n }
 abbrev pub opened : Checked
 opened = checked line_start 1
 
--- the error of a malformed line, by its number
-abbrev pub malformed_line : ℕ → Result Checked MalformedLine
-malformed_line n = Err (record { number = n })
+-- the error of a malformed line: its reader, at its end, and its number
+abbrev pub malformed_line : Checked → Result Checked MalformedLine
+malformed_line c = Err (record { reader = c.reader; number = c.line })
 
 -- a line that ends is malformed, or the next one begins
 unfoldable pub line_ended : Checked → Result Checked MalformedLine
-line_ended c = pick (is_malformed (meaning_of c.reader.line)) (malformed_line c.line) (Ok (checked line_start (one_more c.line)))
+line_ended c = pick (is_malformed (meaning_of c.reader.line)) (malformed_line c) (Ok (checked line_start (one_more c.line)))
 
 unfoldable pub checked_byte : Checked → ℕ → Result Checked MalformedLine
 checked_byte c b = pick (eqb b 10) (line_ended c) (Ok (checked (next c.reader b) c.line))
@@ -46,13 +46,14 @@ on_checked (Ok c) k = k c
 on_checked (Err e) k = Err e
 
 -- the bytes up to the end of the first malformed line, where it is told
-unfoldable pub checked_on : Checked → List ℕ → Result Checked MalformedLine
-checked_on c [] = Ok c
-checked_on c (b ∷ bs) = on_checked (checked_byte c b) (λ (d : Checked). checked_on d bs)
+unfoldable pub checked_on : Result Checked MalformedLine → List ℕ → Result Checked MalformedLine
+checked_on lines [] = lines
+checked_on lines (b ∷ bs) = checked_on (on_checked lines (λ (c : Checked). checked_byte c b)) bs
 
--- at the end of the text: its last line is well formed
-unfoldable pub ends_well : Checked → Bool
-ends_well c = not (is_malformed (meaning_of c.reader.line))
+-- at the end of the text: every line is well formed, the last one too
+unfoldable pub ends_well : Result Checked MalformedLine → Bool
+ends_well (Ok c) = not (is_malformed (meaning_of c.reader.line))
+ends_well (Err e) = false
 
 -- ---- event by event
 

@@ -13,9 +13,10 @@ pub struct Checked {
     pub line: u64,
 }
 
-// The error of a list: the number of its first malformed line.
+// The error of a list: its first malformed line, read to its end, and the number of that line.
 #[derive(Clone, Copy)]
 pub struct MalformedLine {
+    pub reader: Reader,
     pub number: u64,
 }
 
@@ -49,7 +50,10 @@ fn line_ended(c: Checked) -> Result<Checked, MalformedLine>
             reader: firmware_event_lines::line_start(),
             line: c.line.saturating_add(1),
         }),
-        Err(_) => Err(MalformedLine { number: c.line }),
+        Err(_) => Err(MalformedLine {
+            reader: c.reader,
+            number: c.line,
+        }),
     }
 }
 
@@ -66,23 +70,26 @@ fn checked_byte(c: Checked, b: u8) -> Result<Checked, MalformedLine>
     })
 }
 
-// A block more.
-pub fn check(start: Checked, bytes: &[u8]) -> Result<Checked, MalformedLine>
+// A block more, until a line is malformed. Behind that line nothing is read: what a call gave is what the next one takes.
+pub fn check(start: Result<Checked, MalformedLine>, bytes: &[u8]) -> Result<Checked, MalformedLine>
     ensures { result ≡ checked_on start bytes.now }
 {
-    let mut checked = start;
+    let mut checked = start?;
     for &b in bytes {
         checked = checked_byte(checked, b)?;
     }
     Ok(checked)
 }
 
-// Whether the last line is well formed, at the end of the text, which ends it.
+// Whether every line is well formed, at the end of the text, which ends the last one.
 #[tactic(auto, unfolding(crate::specs::Lists::ends_well))]
-pub fn is_well_formed(c: Checked) -> bool
-    ensures { result ≡ ends_well c }
+pub fn is_well_formed(lines: Result<Checked, MalformedLine>) -> bool
+    ensures { result ≡ ends_well lines }
 {
-    firmware_event_lines::meaning_of(c.reader.line).is_ok()
+    match lines {
+        Ok(c) => firmware_event_lines::meaning_of(c.reader.line).is_ok(),
+        Err(_) => false,
+    }
 }
 
 // ---- event by event

@@ -161,7 +161,7 @@ fn check_lines<R: Read>(from: &mut R) -> Result<(), ListError> {
     for _ in 0..u64::MAX {
         let read = input::read_block(from, &mut block);
         let n = read.count;
-        let lines = firmware_event_list::check(checked, &block[..n]);
+        let lines = firmware_event_list::check(Ok(checked), &block[..n]);
         if let Some(e) = read.error {
             return Err(ListError::Read(e));
         }
@@ -175,10 +175,11 @@ fn check_lines<R: Read>(from: &mut R) -> Result<(), ListError> {
 
 // The last line, which the end of the file ends.
 fn end(checked: Checked) -> Result<(), ListError> {
-    if firmware_event_list::is_well_formed(checked) {
+    if firmware_event_list::is_well_formed(Ok(checked)) {
         return Ok(());
     }
     Err(ListError::Line(MalformedLine {
+        reader: checked.reader,
         number: checked.line,
     }))
 }
