@@ -1,7 +1,7 @@
 -- What the case of a report says holds of the chip reported on.
 use mathlib.Core.Path.{◌≡◌, refl, sym, ◌∙◌}
 use mathlib.Core.Bool.{Bool, true, false, true≢false}
-use Rattle.std.proofs.Common.{Result, Ok, Err}
+use Rattle.std.specs.Prelude.{Result, Ok, Err}
 use Rattle.bits.specs.Byte.{pick}
 use Rattle.sync.specs.Sync.{well_sync}
 use Rattle.rates.specs.declared.NoRate.{NoRate}

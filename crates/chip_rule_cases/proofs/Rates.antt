@@ -2,7 +2,7 @@
 use mathlib.Core.Path.{◌≡◌, refl}
 use mathlib.Core.Bool.{true, false}
 use lib.Ieee.{round}
-use Rattle.std.proofs.Common.{Result, Err}
+use Rattle.std.specs.Prelude.{Result, Err}
 use Rattle.sync.specs.Sync.{well_sync}
 use Rattle.rates.specs.Report.{by_periods, by_interval, by_field, field_report, line_report}
 use Rattle.rates.specs.declared.NoRate.{NoRate}

@@ -3,7 +3,7 @@
 use mathlib.Core.Path.{◌≡◌, refl}
 use mathlib.Core.List.{[], ◌∷◌}
 use Rattle.counters6862_orders.specs.declared.Order.TheVariants.{Call, Field, Put}
-use Rattle.std.proofs.Common.{Some, None}
+use Rattle.std.specs.Prelude.{Some, None}
 use Rattle.counters6862_orders.specs.Line.{letter_of, symbol_of, lettered, begun, grown}
 use Rattle.counters6862_orders.specs.Orders.{code_of, with_number, bare, report_order, put_order, order_of}
 use Rattle.counters6862_orders.specs.Words.{words, each, line_read, ordered, alone, one, two}

@@ -61,7 +61,7 @@ use Rattle.sync6862.proofs.Numbers as unit-number
 use Rattle.sync6862_laws.specs.Counting as counting
 use Rattle.sync6862_laws.proofs.Since as since
 use Rattle.rates.specs.Hertz.{Between, field_hz}
-use Rattle.std.proofs.Common.{Ok}
+use Rattle.std.specs.Prelude.{Ok}
 use Rattle.rates.specs.declared.Rate.TheVariants.{FieldRate}
 use Rattle.rates6862.specs.Report.{field_report, lowest}
 use Rattle.rates6862.proofs.Cases as rate

@@ -16,7 +16,7 @@ use Rattle.sync6862.specs.declared.Part.{Part}
 use Rattle.sync6862.specs.declared.Part.TheVariants.{Nt6861, Nt6862}
 use Rattle.sync6862.specs.declared.Counters.{Counters}
 use Rattle.sync6862.specs.Unit.{chip_number, well_formed}
-use Rattle.std.proofs.Common.{Option, Some, None}
+use Rattle.std.specs.Prelude.{Option, Some, None}
 use Rattle.numbers6862.specs.Numbers.{enhsel_number, numbers_of, bits_fit, part_of, state_of, offered_as, read_as, read}
 
 -- ---- what is written is read back

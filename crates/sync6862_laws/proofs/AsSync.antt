@@ -5,7 +5,7 @@ use mathlib.Core.Bool.{Bool, true}
 use mathlib.Core.List.{List, [], ◌∷◌}
 use Rattle.sync.specs.Sync.{clear_lines, clear_periods, step_periods, interval_next, lines_on_period, on_period, clear_overflow, well_sync}
 use Rattle.sync6862.specs.declared.Part.TheVariants.{Nt6861}
-use Rattle.std.proofs.Common.{Ok}
+use Rattle.std.specs.Prelude.{Ok}
 use Rattle.sync6862.specs.declared.Call.{Call}
 use Rattle.sync6862.specs.declared.Call.TheVariants.{Hsynci, Vsynci, Clock, Enhsel, Hsel, ClearH, ClearV}
 use Rattle.sync6862.specs.Unit.{periods_last, interval_last, per_field, restarts, step_periods_to, interval_next_to, lines_on_period_to, on_period_to, well_to, well_formed, clear_lines_of, hsync_moved, vsync_moved, clocked, hsel_set, cleared_h, cleared_v, on_enhsel, answered, answer, fresh_as, fresh, left}
