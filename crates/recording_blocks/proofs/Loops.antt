@@ -1,17 +1,33 @@
 -- What the loops of the reader and the writer have done after some turns.
 -- Assumes nothing.
 use mathlib.Core.Path.{◌≡◌, refl, sym, ap, ap₂, ◌∙◌}
+use mathlib.Core.Bool.{true, false}
 use mathlib.Core.List.{List, [], ◌∷◌, ◌++◌, append_assoc}
 use Prim.Native.Nat.{ℕ, zero, suc, ◌+◌, ◌*◌, ◌-◌, ◌<◌, ◌≤◌, min}
 use Rattle.std.proofs.Common.{⊎_elim}
 use Rattle.std.proofs.lemmas.Bool.{cases_lt}
 use native.Mathlib.Omega.{arith}
 use native.Mathlib.Numerals.{add-one}
+use borrow.Author.Tests.{eq-eqb, ne_eqb}
 use lib.ListN.{length, take, drop, get_or, set, replicate, length-append, length-set, length-replicate, take-append-drop, drop_of_length-le}
-use lib.Seq.{take-suc, take-suc-set, drop-set-lt, drop-drop, take_all}
-use Rattle.recording_blocks.specs.Bytes.{four_bytes, words_bytes}
+use lib.Seq.{drop-cons, take-suc, take-suc-set, drop-set-lt, drop-drop, take_all}
+use Rattle.recording_blocks.specs.Bytes.{four_bytes, words_bytes, all_zero}
 use Rattle.recording_blocks.specs.Block.{padded}
 use Rattle.list_laws.proofs.Place.{put_take, put_drop, put_length, drop_later}
+
+-- ---- words that are zero, from one on
+
+pub zero_more : (ws : List ℕ) (i : ℕ) → i < length ws → get_or ws i 0 ≡ 0 → all_zero (drop (i + 1) ws) ≡ all_zero (drop i ws)
+unfolding all_zero
+zero_more ws i h e = rw (add-one, drop-cons ws i 0 h, eq-eqb (get_or ws i 0) 0 e)
+
+pub zero_ends : (ws : List ℕ) (i : ℕ) → i < length ws → (get_or ws i 0 ≡ 0 → ⊥) → false ≡ all_zero (drop i ws)
+unfolding all_zero
+zero_ends ws i h e = rw (drop-cons ws i 0 h, ne_eqb (get_or ws i 0) 0 e)
+
+pub zero_all : (ws : List ℕ) (i : ℕ) → length ws ≤ i → true ≡ all_zero (drop i ws)
+unfolding all_zero
+zero_all ws i h = rw (drop_of_length-le ws {i = i} h)
 
 -- ---- words taken: of the words ws, i stand at the start of the places, which held old
 

@@ -1,10 +1,9 @@
 // A block of a recording, written and read (document 02, Wish 1).
 #![tactic(auto)]
 
-ghost use Rattle.std.specs.Prelude.{◌≡◌, ◌+◌, ◌*◌, ◌≤◌, ◌<◌, ◌++◌, length, take, drop, get_or, eqb};
-ghost use Rattle.std.specs.List.{list_all};
-ghost use Rattle.recording_blocks.specs.Bytes.{four_bytes, from_two, from_four, words_bytes, words_of, sum as sum_bytes};
-ghost use Rattle.recording_blocks.specs.Block.{padded, front, write_number, write_fault_number, number_written, area_left, fault_number, words_counted, block_read, places_left, BlockCase};
+ghost use Rattle.std.specs.Prelude.{◌≡◌, ◌+◌, ◌*◌, ◌≤◌, ◌<◌, ◌++◌, length, take, drop, get_or};
+ghost use Rattle.recording_blocks.specs.Bytes.{four_bytes, from_two, from_four, words_bytes, words_of, all_zero, sum as sum_bytes};
+ghost use Rattle.recording_blocks.specs.Block.{all_words, padded, front, write_number, write_fault_number, number_written, area_left, fault_number, words_counted, block_read, places_left, BlockCase};
 
 // What is wrong with a block, or with the places for its words.
 #[derive(Clone, Copy, Debug, PartialEq, Eq)]
@@ -151,11 +150,17 @@ pub fn write_block(number: u16, words: &[u32], area: &mut [u8]) -> Result<(), Wr
 
 // ---- the reader
 
-// Whether every byte is zero.
-fn is_zero(bytes: &[u8]) -> bool
-    ensures { result ≡ list_all (λ b. eqb b 0) bytes.now }
+// Whether the words from this one on are all zero. By words and not by bytes, of which there are four times as many.
+fn is_zero_from(bytes: &[u8], from: usize) -> bool
+    requires { (512 ≤ length bytes.now) × (from ≤ 126) }
+    ensures { result ≡ all_zero (drop from (all_words bytes.now)) }
 {
-    bytes.iter().all(|b| *b == 0)
+    for i in from..WORDS {
+        if four_at(bytes, 4 + 4 * i) != 0 {
+            return false;
+        }
+    }
+    true
 }
 
 // How many words a good block has, or its first fault.
@@ -175,7 +180,7 @@ fn word_count(due: u32, bytes: &[u8]) -> Result<usize, BlockFault>
     if count > WORDS {
         return Err(BlockFault::Count);
     }
-    if !is_zero(&bytes[4 + 4 * count..SUMMED]) {
+    if !is_zero_from(bytes, count) {
         return Err(BlockFault::Unused);
     }
     Ok(count)

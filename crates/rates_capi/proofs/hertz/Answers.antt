@@ -1,5 +1,4 @@
 -- `rates_capi::hertz` meets its contract.
-use mathlib.Core.Path.{◌∙◌}
 use Rattle.rates_capi.specs.Latches.{hertz}
 use Rattle.rates_capi.proofs.Zero.{or_zero}
 use Rattle.rates_capi.proofs.hertz.Goals as goal
