@@ -4,7 +4,7 @@
 #![tactic(auto)]
 
 use case_words::{Case, Listed};
-use line_tokens::{BadToken, Scanner};
+use line_tokens::{BadToken, Scanner, Token};
 use std::io::{Print, Read};
 use std::process::ExitCode;
 
@@ -63,6 +63,14 @@ fn line_ended<P: Print, Q: Print>(out: &P, err: &Q, t: Turn) -> Result<Turn, Exi
     })
 }
 
+// The token that a byte ended, if any. Most bytes end none, so a call is made for a token alone.
+fn on_token(c: Case, token: Option<Token>) -> Case {
+    match token {
+        Some(t) => case_words::take_case(c, t),
+        None => c,
+    }
+}
+
 fn byte_taken<P: Print, Q: Print>(out: &P, err: &Q, t: Turn, b: u8) -> Result<Turn, ExitCode> {
     if b == b'\n' {
         return line_ended(out, err, t);
@@ -70,7 +78,7 @@ fn byte_taken<P: Print, Q: Print>(out: &P, err: &Q, t: Turn, b: u8) -> Result<Tu
     let s = line_tokens::scan(t.scanner, b);
     Ok(Turn {
         scanner: s,
-        case: case_words::taken(t.case, s.done),
+        case: on_token(t.case, s.done),
         line: t.line,
     })
 }
