@@ -38,6 +38,8 @@ asked (event.Place k a) = false
 asked event.Other = false
 asked (event.Word w) = is_read w
 asked (event.Bad place) = false
+asked (event.Number n) = false
+asked (event.Numbered n a) = false
 
 -- the sign `=>`, or an answer in eight digits alone, behind which a comment stands
 unfoldable pub begun : Case → Token → Tokens

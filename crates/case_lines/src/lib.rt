@@ -64,6 +64,8 @@ fn asked(e: Event) -> bool
         Event::Place(_, _) => false,
         Event::Other => false,
         Event::Bad(_) => false,
+        Event::Number(_) => false,
+        Event::Numbered(_, _) => false,
     }
 }
 

@@ -6,7 +6,7 @@ use Rattle.event_names.specs.Digits.{unhex}
 use Rattle.line_tokens.specs.declared.Token.{Token}
 use Rattle.line_tokens.specs.declared.BadToken.{BadToken}
 use Rattle.event_text_read.specs.declared.Event.{Event}
-use Rattle.event_text_read.specs.declared.Event.TheVariants.{Start, Kind, Place, Other, Word, Bad}
+use Rattle.event_text_read.specs.declared.Event.TheVariants.{Start, Kind, Place, Other, Word, Bad, Number, Numbered}
 use Rattle.event_text_read.specs.Event.{take, line_end}
 use Rattle.case_words.specs.declared.Case.{Case}
 use Rattle.case_words.specs.declared.Listed.{Listed}
@@ -51,6 +51,8 @@ following (Place k a) c t = more c t
 following Other c t = more c t
 following (Word w) c t = after_word c t
 following (Bad place) c t = more c t
+following (Number n) c t = more c t
+following (Numbered n a) c t = more c t
 
 -- behind a number and `*`, or a `*` that is bad
 unfoldable pub starred : Option ℕ → Case → Token → Case

@@ -137,6 +137,8 @@ fn following(e: Event, c: Case, t: Token) -> Case
         Event::Place(_, _) => more(c, t),
         Event::Other => more(c, t),
         Event::Bad(_) => more(c, t),
+        Event::Number(_) => more(c, t),
+        Event::Numbered(_, _) => more(c, t),
     }
 }
 

@@ -15,12 +15,13 @@ use Rattle.bits.proofs.Level.{pick_by}
 use Rattle.line_tokens.specs.declared.Token.{Token}
 use Rattle.line_tokens.specs.Scan.{tokens, values}
 use Rattle.event_text_read.specs.declared.Event.{Event}
-use Rattle.event_text_read.specs.declared.Event.TheVariants.{Start, Kind as OfKind, Place, Other, Word, Bad}
+use Rattle.event_text_read.specs.declared.Event.TheVariants.{Start, Kind as OfKind, Place, Other, Word, Bad, Number, Numbered}
 use Rattle.std.specs.Prelude.{Option, Some, None, Ok, Err}
 use Rattle.event_names.specs.declared.Kind.{Kind}
+use Rattle.event_names.specs.declared.Kind.TheVariants as kinds
 use Rattle.event_names.specs.declared.Keyword.{Keyword}
 use Rattle.event_names.specs.declared.Keyword.TheVariants as keyword
-use Rattle.event_text_read.specs.Event.{takes_b, digits_b, limit_b, is_line, word_or, bare, on_keyword, at_start, on_field, at_kind, at_place, other_or, at_other, next, take, take_all, line_end, parse}
+use Rattle.event_text_read.specs.Event.{takes_b, digits_b, limit_b, is_line, word_or, bare, on_keyword, at_start, on_field, at_kind, at_place, other_or, at_other, on_register, at_number, at_numbered, next, take, take_all, line_end, parse}
 use Rattle.event_names.specs.Digits.{below, unhex}
 use Rattle.event_names.specs.Names.{kind_of, field_of}
 use Rattle.event_text_laws.specs.Shown.{meaning}
@@ -34,6 +35,8 @@ unplaced (Place k a) = Place k a
 unplaced Other = Other
 unplaced (Word w) = Word w
 unplaced (Bad p) = Bad 0
+unplaced (Number n) = Number n
+unplaced (Numbered n a) = Numbered n a
 
 module _ (at v : ℕ) where
   bare_unplaced : unplaced (bare at v) ≡ bare 0 v
@@ -64,6 +67,14 @@ module _ (at v : ℕ) where
   other_unplaced =
       by (ltb (unhex 8 v) 4294967296) (λ t. rw t (by (is_line (unhex 8 v)) (λ u. rw u refl) (λ u. rw u refl))) (λ t. rw t refl)
 
+  number_unplaced : (n : ℕ) → unplaced (at_number at n v) ≡ at_number 0 n v
+  unfolding at_number on_register unplaced
+  number_unplaced n = by (ltb (field_of kinds.Read v) 256) (λ t. rw t refl) (λ t. rw t refl)
+
+  numbered_unplaced : (n a : ℕ) → unplaced (at_numbered at n a v) ≡ at_numbered 0 n a v
+  unfolding at_numbered unplaced
+  numbered_unplaced n a = by (ltb (unhex 1 v) 2) (λ t. rw t refl) (λ t. rw t refl)
+
   next_unplaced : (e : Event) → unplaced (next at e v) ≡ next 0 (unplaced e) v
   unfolding next unplaced
   next_unplaced Start = start_unplaced
@@ -72,6 +83,8 @@ module _ (at v : ℕ) where
   next_unplaced Other = other_unplaced
   next_unplaced (Word w) = refl
   next_unplaced (Bad p) = refl
+  next_unplaced (Number n) = number_unplaced n
+  next_unplaced (Numbered n a) = numbered_unplaced n a
 
 -- the tokens of a line come to what their numbers come to
 pub all_unplaced : (e : Event) (ts : List Token) → unplaced (take_all e ts) ≡ meaning (unplaced e) (values ts)
@@ -86,6 +99,8 @@ word_placed (OfKind k) w h = h
 word_placed (Place k a) w h = h
 word_placed Other w h = h
 word_placed (Word v) w h = h
+word_placed (Number n) w h = h
+word_placed (Numbered n a) w h = h
 word_placed (Bad p) w h = absurd (let z : ◌≡◌ {A = ℕ} 0 1 = cc in omega arith)
 
 word_unplaced : (e : Event) (w : ℕ) → e ≡ Word w → unplaced e ≡ Word w
@@ -106,6 +121,8 @@ end_word_lem (OfKind k) end w h = absurd (let z : ◌≡◌ {A = ℕ} 0 1 = cc i
 end_word_lem (Place k a) end w h = absurd (let z : ◌≡◌ {A = ℕ} 0 1 = cc in omega arith)
 end_word_lem Other end w h = absurd (let z : ◌≡◌ {A = ℕ} 0 1 = cc in omega arith)
 end_word_lem (Word v) end w h = let e : v ≡ w = cc in ap Word e
+end_word_lem (Number n) end w h = absurd (let z : ◌≡◌ {A = ℕ} 0 1 = cc in omega arith)
+end_word_lem (Numbered n a) end w h = absurd (let z : ◌≡◌ {A = ℕ} 0 1 = cc in omega arith)
 end_word_lem (Bad p) end w h = absurd (let z : ◌≡◌ {A = ℕ} 0 1 = cc in omega arith)
 
 pub read_as : (line : List ℕ) (w : ℕ) → parse line ≡ Ok w → meaning Start (values (tokens line)) ≡ Word w

@@ -15,7 +15,7 @@ use Rattle.line_tokens.specs.declared.Token.{Token}
 use Rattle.line_tokens.specs.declared.BadToken.{BadToken}
 use Rattle.line_tokens.specs.Scan.{bad_at, tokens}
 use Rattle.event_text_read.specs.declared.Event.{Event}
-use Rattle.event_text_read.specs.declared.Event.TheVariants.{Start, Kind as OfKind, Place, Other, Word, Bad}
+use Rattle.event_text_read.specs.declared.Event.TheVariants.{Start, Kind as OfKind, Place, Other, Word, Bad, Number, Numbered}
 
 -- ---- the fields that a kind takes
 
@@ -97,6 +97,18 @@ other_or at (Some n) = pick (is_line n) (Bad at) (Word n)
 unfoldable pub at_other : ℕ → ℕ → Event
 at_other at v = other_or at (below 4294967296 (unhex 8 v))
 
+-- after a number that is no kind's, which no line leads to: the field A, as in a read or a write
+unfoldable pub on_register : ℕ → ℕ → Option ℕ → Event
+on_register at n None = Bad at
+on_register at n (Some a) = Numbered n a
+
+unfoldable pub at_number : ℕ → ℕ → ℕ → Event
+at_number at n v = on_register at n (below 256 (field_of kinds.Read v))
+
+-- after its A: the field B, one digit, 0 or 1
+unfoldable pub at_numbered : ℕ → ℕ → ℕ → ℕ → Event
+at_numbered at n a v = pick (ltb (unhex 1 v) 2) (Word (event_word n a (unhex 1 v))) (Bad at)
+
 unfoldable pub next : ℕ → Event → ℕ → Event
 next at Start v = at_start at v
 next at (OfKind k) v = at_kind at k v
@@ -104,6 +116,8 @@ next at (Place k a) v = at_place at k a v
 next at Other v = at_other at v
 next at (Word w) v = Bad at
 next at (Bad place) v = Bad place
+next at (Number n) v = at_number at n v
+next at (Numbered n a) v = at_numbered at n a v
 
 abbrev pub take : Event → Token → Event
 take e t = next t.at e t.value
@@ -127,6 +141,8 @@ line_end (Place k a) end = Err (bad_at end)
 line_end Other end = Err (bad_at end)
 line_end (Word w) end = Ok w
 line_end (Bad place) end = Err (bad_at place)
+line_end (Number n) end = Err (bad_at end)
+line_end (Numbered n a) end = Err (bad_at end)
 
 -- the word of a line, or the place of its first bad token
 unfoldable pub parse : List ℕ → Result ℕ BadToken

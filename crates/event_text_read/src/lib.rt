@@ -5,13 +5,14 @@
 ghost use Rattle.std.specs.Prelude.{◌≡◌, ◌≤◌};
 ghost use Rattle.events.specs.Word.{event_word};
 ghost use Rattle.event_names.specs.Names.{number_of};
-ghost use Rattle.event_text_read.specs.Event.{takes_b, digits_b, limit_b, bound_b, line_kind, bare as bare_of, at_start, at_kind, at_place, at_other, next as next_of, take as take_of, taken as taken_of, line_end, parse};
+ghost use Rattle.event_text_read.specs.Event.{takes_b, digits_b, limit_b, bound_b, line_kind, bare as bare_of, at_start, at_kind, at_place, at_other, at_number, at_numbered, next as next_of, take as take_of, taken as taken_of, line_end, parse};
 
 use event_names::{Keyword, Kind};
 use line_tokens::{BadToken, Token};
 
 // What the tokens of a line so far are: none; a kind; a kind and a field A; `word`; a whole word; or a bad token, by its place. A bad token
-// is a state and no `Err`, since the tokens behind it are still taken.
+// is a state and no `Err`, since the tokens behind it are still taken. No line leads to the last two: a number that is no kind's, 0 or 6
+// to 255, stands for a kind, whose field A is a register's and whose B is 0 or 1.
 #[derive(Clone, Copy)]
 pub enum Event {
     Start,
@@ -20,6 +21,8 @@ pub enum Event {
     Other,
     Word(u32),
     Bad(u64),
+    Number(u8),
+    Numbered(u8, u8),
 }
 
 // ---- the fields that a kind takes
@@ -59,10 +62,16 @@ pub fn line_kind(word: u32) -> Option<Kind>
 }
 
 // The word with these fields.
+fn word_with(number: u8, a: u8, b: u8) -> u32
+    ensures { result ≡ event_word number a b }
+{
+    u32::from_be_bytes([number, 0, a, b])
+}
+
 fn event_word(kind: Kind, a: u8, b: u8) -> u32
     ensures { result ≡ event_word (number_of kind) a b }
 {
-    u32::from_be_bytes([kind.number(), 0, a, b])
+    word_with(kind.number(), a, b)
 }
 
 // ---- a token at each point of a line, at its place
@@ -123,6 +132,27 @@ fn at_other(at: u64, v: u64) -> Event
     }
 }
 
+#[tactic(auto, unfolding(crate::specs::Event::at_number, crate::specs::Event::on_register))]
+fn at_number(at: u64, n: u8, v: u64) -> Event
+    ensures { result ≡ at_number at n v }
+{
+    match event_names::field_of(Kind::Read, v) {
+        Some(a) => Event::Numbered(n, a),
+        None => Event::Bad(at),
+    }
+}
+
+#[tactic(auto, unfolding(crate::specs::Event::at_numbered))]
+fn at_numbered(at: u64, n: u8, a: u8, v: u64) -> Event
+    ensures { result ≡ at_numbered at n a v }
+{
+    match event_names::unhex(1, v) {
+        Some(b) if b < 2 => Event::Word(word_with(n, a, b as u8)),
+        Some(_) => Event::Bad(at),
+        None => Event::Bad(at),
+    }
+}
+
 #[tactic(auto, unfolding(crate::specs::Event::next))]
 fn next(at: u64, e: Event, v: u64) -> Event
     ensures { result ≡ next_of at e v }
@@ -134,6 +164,8 @@ fn next(at: u64, e: Event, v: u64) -> Event
         Event::Other => at_other(at, v),
         Event::Word(_) => Event::Bad(at),
         Event::Bad(place) => Event::Bad(place),
+        Event::Number(n) => at_number(at, n, v),
+        Event::Numbered(n, a) => at_numbered(at, n, a, v),
     }
 }
 
@@ -156,6 +188,8 @@ pub fn line_end(e: Event, end: u64) -> Result<u32, BadToken>
         Event::Kind(_) => Err(BadToken { at: end }),
         Event::Place(_, _) => Err(BadToken { at: end }),
         Event::Other => Err(BadToken { at: end }),
+        Event::Number(_) => Err(BadToken { at: end }),
+        Event::Numbered(_, _) => Err(BadToken { at: end }),
     }
 }
 
