@@ -10,6 +10,6 @@ look r = find (variables r.text.now r.places.now r.pins.now 0 r.entries)
 
 -- its tables hold what a search would find, and its limit is the greatest time in units that 64 bits hold in ps
 pub record Ready (r : Reader) : Type 0 where
-  pub single : Singles r.text.now r.places.now r.pins.now r.entries r.singles 256
-  pub listed : Lists r.text.now r.places.now r.pins.now r.entries r.lists 32
+  pub single : Singles r.text.now r.places.now r.pins.now r.entries r.singles.now 256
+  pub listed : Lists r.text.now r.places.now r.pins.now r.entries r.lists.now 32
   pub limit : 0 < r.scale → r.limit ≡ 18446744073709551615 / r.scale

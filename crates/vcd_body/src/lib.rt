@@ -106,34 +106,34 @@ fn of_byte(text: &[u8], places: &[usize], pins: &[u8], entries: usize, b: u8) ->
 }
 
 // What each code of one byte stands for.
-fn singles_of(text: &[u8], places: &[usize], pins: &[u8], entries: usize) -> [u64; 256]
-    ensures { Singles text.now places.now pins.now entries result 256 }
+fn fill_singles(
+    text: &[u8],
+    places: &[usize],
+    pins: &[u8],
+    entries: usize,
+    singles: &mut [u64; 256],
+)
+    ensures { Singles text.now places.now pins.now entries singles.new 256 }
 {
-    let mut singles = [0; 256];
     for (b, list) in singles.iter_mut().enumerate() {
         *list = of_byte(text, places, pins, entries, b as u8);
     }
-    singles
 }
 
 // What the code of each entry stands for.
-fn lists_of(text: &[u8], places: &[usize], pins: &[u8], entries: usize) -> [u64; 32]
-    ensures { Lists text.now places.now pins.now entries result 32 }
+fn fill_lists(text: &[u8], places: &[usize], pins: &[u8], entries: usize, lists: &mut [u64; 32])
+    ensures { Lists text.now places.now pins.now entries lists.new 32 }
 {
-    let mut lists = [0; 32];
     for (k, list) in lists.iter_mut().enumerate() {
         *list = vcd_codes::list_at(text, places, pins, entries, k);
     }
-    lists
 }
 
-// An entry by the hash of its code; 32 for none. It is compared with the code where it is used, so that any table is right.
-fn slots_of(text: &[u8], places: &[usize]) -> [usize; 256] {
-    let mut slots = [32; 256];
+// An entry by the hash of its code. It is compared with the code where it is used, so that any table is right.
+fn fill_slots(text: &[u8], places: &[usize], slots: &mut [usize; 256]) {
     for k in 0..32 {
         slots[vcd_codes::hash_at(text, places, k)] = k;
     }
-    slots
 }
 
 // What a body is read with: the file, its variables, tables that hold what a search for a code would find, the unit in ps, and the
@@ -144,9 +144,9 @@ struct Reader<'a> {
     places: &'a [usize],
     pins: &'a [u8],
     entries: usize,
-    singles: [u64; 256],
-    lists: [u64; 32],
-    slots: [usize; 256],
+    singles: &'a [u64; 256],
+    lists: &'a [u64; 32],
+    slots: &'a [usize; 256],
     scale: u64,
     limit: u64,
 }
@@ -595,14 +595,21 @@ pub fn read(
 ) -> Piece
     ensures { answer out.new result ≡ pieces (find (variables text.now places.now pins.now 0 entries)) scale from.state from.done 0 out.old (tokens false from.at (drop from.at text.now)) }
 {
+    let mut singles = [0; 256];
+    fill_singles(text, places, pins, entries, &mut singles);
+    let mut lists = [0; 32];
+    fill_lists(text, places, pins, entries, &mut lists);
+    // 32 for none
+    let mut slots = [32; 256];
+    fill_slots(text, places, &mut slots);
     let reader = Reader {
         text,
         places,
         pins,
         entries,
-        singles: singles_of(text, places, pins, entries),
-        lists: lists_of(text, places, pins, entries),
-        slots: slots_of(text, places),
+        singles: &singles,
+        lists: &lists,
+        slots: &slots,
         scale,
         limit: limit_of(scale),
     };
