@@ -58,10 +58,10 @@ answer_token l t =
 unfoldable pub take_token : Tokens → Token → Tokens
 take_token l t = pick l.case.answer (answer_token l t) (event_token (take_case l.case t) t)
 
--- the token that a byte ended, if any
+-- the token that a byte ended, if any; number 0 is none
 unfoldable pub taken : Tokens → Option Token → Tokens
 taken l None = l
-taken l (Some t) = take_token l t
+taken l (Some t) = pick (eqb t.value 0) l (take_token l t)
 
 -- ---- bytes
 

@@ -119,6 +119,7 @@ fn taken(l: Tokens, token: Option<Token>) -> Tokens
     ensures { result ≡ taken_of l token }
 {
     match token {
+        Some(t) if t.value == 0 => l,
         Some(t) => take_token(l, t),
         None => l,
     }

@@ -95,6 +95,10 @@ unfoldable pub held : Option Token → ℕ
 held None = 0
 held (Some t) = t.value
 
+none_held : (o : Option Token) → o ≡ None → held o ≡ 0
+unfolding held
+none_held o e = rw e refl
+
 -- no token has the number 0
 unfoldable pub Real : Option Token → Type 0
 Real None = ⊤
@@ -109,7 +113,7 @@ no_star_held (Some t) e = e
 pub record Scanned (s : Scanner) (bytes : List ℕ) (v : ℕ) : Type 0 where
   pub state : Scanner
   pub value : held state.pending ≡ v
-  pub real : Real state.pending
+  pub real : Real s.pending → Real state.pending
   pub clear : state.remark ≡ false
   pub rest : (tail : List ℕ) → tokens_from s (bytes ++ tail) ≡ tokens_from state tail
 
@@ -148,17 +152,16 @@ scanned_more s bytes u b p h f t =
     record {
       state = within q b;
       value = within_value q u b p.value h;
-      real = within_real q u b p.value h;
+      real = λ _. within_real q u b p.value h;
       clear = within_open q b;
       rest = λ tail. ap (tokens_from s) (append_assoc bytes (b ∷ []) tail) ∙ p.rest (b ∷ tail) ∙ within_rest q b tail e;
     }
 
-scanned_none : (s : Scanner) → s.remark ≡ false → s.pending ≡ None → Scanned s [] 0
-unfolding held Real
-scanned_none s r e = record { state = s; value = rw e refl; real = rw e tt; clear = r; rest = λ tail. refl }
+scanned_none : (s : Scanner) → s.remark ≡ false → held s.pending ≡ 0 → Scanned s [] 0
+scanned_none s r e = record { state = s; value = e; real = λ p. p; clear = r; rest = λ tail. refl }
 
 -- a token that is written, from a scanner that has none pending
-pub scanned_written : (n v : ℕ) (s : Scanner) → s.remark ≡ false → s.pending ≡ None → T (plain n v) → Scanned s (written n v) (upper n v)
+pub scanned_written : (n v : ℕ) (s : Scanner) → s.remark ≡ false → held s.pending ≡ 0 → T (plain n v) → Scanned s (written n v) (upper n v)
 unfolding written upper
 scanned_written zero v s r e t = scanned_none s r e
 scanned_written (suc n) v s r e t =
@@ -176,18 +179,18 @@ blank_ends : (s : Scanner) → s.remark ≡ false → scan s 32 ≡ ended s fals
 unfolding scan scanned blank
 blank_ends s r = rw r refl
 
-values_before : (t : Option Token) (rest : List Token) → Real t → values (before t rest) ≡ valued (held t) (values rest)
-unfolding before held Real valued values
-values_before None rest r = refl
-values_before (Some t) rest r = rw r refl
+values_before : (t : Option Token) (rest : List Token) → values (before t rest) ≡ valued (held t) (values rest)
+unfolding before held valued values
+values_before None rest = refl
+values_before (Some t) rest = by (eqb t.value 0) (λ z. rw z refl) (λ z. rw z refl)
 
-values_end : (t : Option Token) → Real t → values (before t []) ≡ valued (held t) []
+values_end : (t : Option Token) → values (before t []) ≡ valued (held t) []
 unfolding values
-values_end t r = values_before t [] r
+values_end t = values_before t []
 
-after_blank : (s : Scanner) (tail : List ℕ) → s.remark ≡ false → Real s.pending → values (tokens_from s (32 ∷ tail)) ≡ valued (held s.pending) (values (tokens_from (ended s false) tail))
+after_blank : (s : Scanner) (tail : List ℕ) → s.remark ≡ false → values (tokens_from s (32 ∷ tail)) ≡ valued (held s.pending) (values (tokens_from (ended s false) tail))
 unfolding tokens_from ended moved
-after_blank s tail r p = rw (blank_ends s r) (values_before s.pending (tokens_from (ended s false) tail) p)
+after_blank s tail r = rw (blank_ends s r) (values_before s.pending (tokens_from (ended s false) tail))
 
 ended_open : (s : Scanner) → (ended s false).remark ≡ false
 unfolding ended moved
@@ -202,25 +205,25 @@ read_zero : (v : ℕ) (rest : List ℕ) (s : Scanner) → eqb v 0 ≡ true → v
 unfolding piece upper valued
 read_zero v rest s z e = rw z e
 
-read_some : (v : ℕ) (rest : List ℕ) (s : Scanner) → eqb v 0 ≡ false → s.remark ≡ false → Real s.pending → (q : Scanned (ended s false) (written 8 v) (upper 8 v))
+read_some : (v : ℕ) (rest : List ℕ) (s : Scanner) → eqb v 0 ≡ false → s.remark ≡ false → (q : Scanned (ended s false) (written 8 v) (upper 8 v))
     → values (tokens_from q.state (pieces rest)) ≡ valued (held q.state.pending) (shown rest)
     → values (tokens_from s (piece v ++ pieces rest)) ≡ valued (held s.pending) (valued (upper 8 v) (shown rest))
 unfolding piece
-read_some v rest s z r p q e =
+read_some v rest s z r q e =
     rw z
-    (after_blank s (written 8 v ++ pieces rest) r p
+    (after_blank s (written 8 v ++ pieces rest) r
     ∙ ap (λ (l : List ℕ). valued (held s.pending) l) (ap values (q.rest (pieces rest)) ∙ e ∙ ap (λ (x : ℕ). valued x (shown rest)) q.value))
 
 -- what follows a token that is pending
-pub read_pieces : (l : List ℕ) → Plain l → (s : Scanner) → s.remark ≡ false → Real s.pending → values (tokens_from s (pieces l)) ≡ valued (held s.pending) (shown l)
+pub read_pieces : (l : List ℕ) → Plain l → (s : Scanner) → s.remark ≡ false → values (tokens_from s (pieces l)) ≡ valued (held s.pending) (shown l)
 unfolding pieces shown tokens_from
-read_pieces [] nil s r g = values_end s.pending g
-read_pieces (v ∷ rest) (cons t p) s r g =
+read_pieces [] nil s r = values_end s.pending
+read_pieces (v ∷ rest) (cons t p) s r =
     by (eqb v 0)
-    (λ z. read_zero v rest s z (read_pieces rest p s r g))
+    (λ z. read_zero v rest s z (read_pieces rest p s r))
     (λ z.
-    let q : Scanned (ended s false) (written 8 v) (upper 8 v) = scanned_written 8 v (ended s false) (ended_open s) (ended_none s) t in
-    read_some v rest s z r g q (read_pieces rest p q.state q.clear q.real))
+    let q : Scanned (ended s false) (written 8 v) (upper 8 v) = scanned_written 8 v (ended s false) (ended_open s) (none_held (ended s false).pending (ended_none s)) t in
+    read_some v rest s z r q (read_pieces rest p q.state q.clear))
 
 start_open : start.remark ≡ false
 unfolding start
@@ -234,5 +237,5 @@ start_none = refl
 pub read_line : (v : ℕ) (rest : List ℕ) → Plain (v ∷ rest) → eqb v 0 ≡ false → values (tokens (line_of (v ∷ rest))) ≡ shown (v ∷ rest)
 unfolding pieces piece shown
 read_line v rest (cons t p) z =
-    let q : Scanned start (written 8 v) (upper 8 v) = scanned_written 8 v start start_open start_none t in
-    rw z (ap values (q.rest (pieces rest)) ∙ read_pieces rest p q.state q.clear q.real ∙ ap (λ (x : ℕ). valued x (shown rest)) q.value)
+    let q : Scanned start (written 8 v) (upper 8 v) = scanned_written 8 v start start_open (none_held start.pending start_none) t in
+    rw z (ap values (q.rest (pieces rest)) ∙ read_pieces rest p q.state q.clear ∙ ap (λ (x : ℕ). valued x (shown rest)) q.value)

@@ -122,10 +122,10 @@ next at (Numbered n a) v = at_numbered at n a v
 abbrev pub take : Event → Token → Event
 take e t = next t.at e t.value
 
--- the token that a byte ended, if any
+-- the token that a byte ended, if any; number 0 is none
 unfoldable pub taken : Event → Option Token → Event
 taken e None = e
-taken e (Some t) = take e t
+taken e (Some t) = pick (eqb t.value 0) e (take e t)
 
 -- ---- a line
 

@@ -193,12 +193,13 @@ pub fn line_end(e: Event, end: u64) -> Result<u32, BadToken>
     }
 }
 
-// The token that a byte ended, if any.
+// The token that a byte ended, if any; number 0 is none.
 #[tactic(auto, unfolding(crate::specs::Event::taken))]
 fn taken(e: Event, token: Option<Token>) -> Event
     ensures { result ≡ taken_of e token }
 {
     match token {
+        Some(t) if t.value == 0 => e,
         Some(t) => take(e, t),
         None => e,
     }

@@ -1,5 +1,5 @@
 -- The tokens of a line of text, byte by byte: what stands between white space, up to a comment. A token is one number, its bytes in base
--- 256, the first one highest, letters in upper case.
+-- 256, the first one highest, letters in upper case; 0 is no token, as `None` is.
 use Rattle.std.specs.Prelude.{Option, Some, None, ℕ, ◌+◌, ◌-◌, ◌*◌, Bool, true, false, List, [], ◌∷◌, eqb, ltb}
 use Rattle.bits.specs.Byte.{pick}
 use Rattle.line_tokens.specs.declared.Token.{Token}
@@ -33,10 +33,10 @@ counted (Some n) b =
 
 -- ---- a token in reading
 
--- a token with one byte more; where there is none, it begins here
+-- a token with one byte more; where there is none, it begins here, and one of number 0 goes on from its count
 unfoldable pub longer : Option Token → ℕ → ℕ → Token
 longer None at b = record { value = grown 0 b; count = counted (Some 0) b; at = at }
-longer (Some t) at b = record { value = grown t.value b; count = counted t.count b; at = t.at }
+longer (Some t) at b = record { value = grown t.value b; count = counted t.count b; at = pick (eqb t.value 0) at t.at }
 
 -- a bad or missing token at a place
 abbrev pub bad_at : ℕ → BadToken
@@ -89,7 +89,7 @@ scan s b = pick s.remark (passed s) (scanned s b)
 -- a token before others, if there is one
 unfoldable pub before : Option Token → List Token → List Token
 before None rest = rest
-before (Some t) rest = t ∷ rest
+before (Some t) rest = pick (eqb t.value 0) rest (t ∷ rest)
 
 -- what follows in a line that is read so far
 unfoldable pub tokens_from : Scanner → List ℕ → List Token

@@ -5,7 +5,8 @@
 ghost use Rattle.std.specs.Prelude.{◌≡◌};
 ghost use Rattle.line_tokens.specs.Scan.{one_more, blank as is_blank, fold as fold_of, grown as grown_by, counted as counted_by, longer as longer_by, start as start_of, is_star, moved as moved_of, scan as scan_of};
 
-// A token: its number; what it is as a decimal number, if it is one; and the place where it begins.
+// A token: its number; what it is as a decimal number, if it is one; and the place where it begins. A token of number 0, which has no byte,
+// stands for none; no line leads to one.
 #[derive(Clone, Copy)]
 pub struct Token {
     pub value: u64,
@@ -80,7 +81,7 @@ fn counted(n: Option<u64>, b: u8) -> Option<u64>
     }
 }
 
-// A token with one byte more; where there is none, one that begins here.
+// A token with one byte more; where there is none, one that begins here. One of no bytes begins here too, and goes on from its count.
 #[tactic(auto, unfolding(crate::specs::Scan::longer))]
 fn longer(token: Option<Token>, at: u64, b: u8) -> Token
     ensures { result ≡ longer_by token at b }
@@ -89,7 +90,7 @@ fn longer(token: Option<Token>, at: u64, b: u8) -> Token
         Some(t) => Token {
             value: grown(t.value, b),
             count: counted(t.count, b),
-            at: t.at,
+            at: if t.value == 0 { at } else { t.at },
         },
         None => Token {
             value: grown(0, b),
