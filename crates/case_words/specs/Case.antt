@@ -67,7 +67,7 @@ later c t = pick (eqb t.value 42) (starred c.count c t) (following c.event c t)
 unfoldable pub take_case : Case → Token → Case
 take_case c t = pick c.answer c (pick c.fresh (first c.event t) (later c t))
 
--- the token that a byte ended, if any
+-- the token that a byte ended, if any; number 0, which no line leads to, is taken like another
 unfoldable pub taken : Case → Option Token → Case
 taken c None = c
 taken c (Some t) = take_case c t

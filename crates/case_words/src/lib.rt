@@ -169,7 +169,7 @@ pub fn take_case(c: Case, t: Token) -> Case
     later(c, t)
 }
 
-// The token that a byte ended, if any.
+// The token that a byte ended, if any. One of number 0, which no line leads to, is taken like another.
 #[tactic(auto, unfolding(crate::specs::Case::taken))]
 pub fn taken(c: Case, token: Option<Token>) -> Case
     ensures { result ≡ taken_of c token }

@@ -94,6 +94,13 @@ pub fn answer_block(start: Chip, bytes: &[u8], text: &mut [u8]) -> Answered
     }
 }
 
+// Where the whole words of so many bytes end.
+fn whole_end(length: usize) -> usize
+    ensures { result ≡ 4 * (length / 4) }
+{
+    4 * (length / 4)
+}
+
 // A part of a stream that comes as it comes, behind the bytes carried over from the part before: the text of its whole words to
 // the start of `replay_text`, and the bytes of a cut word to the start of `bytes`. Where the text does not fit nothing is written.
 pub fn answer_part(start: Chip, bytes: &mut [u8], text: &mut [u8]) -> Part
@@ -108,7 +115,7 @@ pub fn answer_part(start: Chip, bytes: &mut [u8], text: &mut [u8]) -> Part
         };
     }
     let c = answer_words(start, bytes, text);
-    bytes.copy_within(4 * whole.., 0);
+    bytes.copy_within(whole_end(bytes.len()).., 0);
     Part {
         chip: c,
         count: LINE * whole,

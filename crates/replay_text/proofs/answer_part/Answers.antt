@@ -10,12 +10,12 @@ use Rattle.replay_text.proofs.Parts.{part_short, part_fits}
 use Rattle.replay_text.proofs.answer_part.Goals as goal
 
 -- the bytes from an index on, copied to the start
-carried : (bytes : List ℕ) (from : ℕ) → take (length bytes - from) (drop from bytes) ++ drop (0 + (length bytes - from)) bytes ≡ drop from bytes ++ drop (length bytes - from) bytes
-carried bytes from = ap₂ (λ (l : List ℕ) (n : ℕ). l ++ drop n bytes) (tail_all bytes from) (omega arith)
+carried : (bytes : List ℕ) (from n : ℕ) → from ≡ n → take (length bytes - from) (drop from bytes) ++ drop (0 + (length bytes - from)) bytes ≡ drop n bytes ++ drop (length bytes - n) bytes
+carried bytes from n e = rw (← e) (ap₂ (λ (l : List ℕ) (n : ℕ). l ++ drop n bytes) (tail_all bytes from) (omega arith))
 
 pub returns-then-text-whole : goal.returns-then-text-whole
 returns-then-text-whole c = part_short _ _ _ c.if-text-whole.true
 
 pub returns : goal.returns
 returns c =
-    part_fits _ _ _ c.if-text-whole.false _ _ _ c.answer_words-c.ensures (c.copy_within.ensures.after ∙ carried c.args.bytes.now (4 * (length c.args.bytes.now / 4)))
+    part_fits _ _ _ c.if-text-whole.false _ _ _ c.answer_words-c.ensures (c.copy_within.ensures.after ∙ carried c.args.bytes.now _ _ c.whole_end.ensures)
